@@ -1,0 +1,19 @@
+use Rattle.std.proofs.Common.{◌≡◌, ◌++◌, drop, map}
+use Rattle.mdb_datum.specs.Doc.{doc_list, field_list}
+use Rattle.mdb_datum.specs.Datum.{doc_of, items_of, members_of}
+use Rattle.mdb_datum.specs.Tokens.{docs_tokens, fields_tokens}
+use Rattle.mdb_datum.proofs.Levels.{field_of}
+use Rattle.mdb_datum.proofs.write.+put.Given as goal
+
+-- with the tokens of the items that are left, it has those of all
+abbrev pub invariant-put_items-loop-item : goal.invariant-put_items-loop-item
+invariant-put_items-loop-item l = record {
+  before : l.out.before ≡ l.initial.out.before;
+  ends : l.out.tokens ++ docs_tokens (doc_list (map doc_of (drop l.item-index l.item-items))) ≡ l.initial.out.tokens ++ docs_tokens (doc_list (items_of l.items));
+}
+
+abbrev pub invariant-put_members-loop-name : goal.invariant-put_members-loop-name
+invariant-put_members-loop-name l = record {
+  before : l.out.before ≡ l.initial.out.before;
+  ends : l.out.tokens ++ fields_tokens (field_list (map field_of (drop l.name-index l.name-items))) ≡ l.initial.out.tokens ++ fields_tokens (field_list (members_of l.members));
+}

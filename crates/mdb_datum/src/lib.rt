@@ -1,0 +1,26 @@
+//! Documents and rows: JSON values whose numbers are whole (RFC 8259), read from texts and written
+//! as texts.
+//!
+//! The layer above may use `read_doc` and `write_doc`, a `Datum` with its lists and objects, and
+//! `Row`, an object that is shared between threads and never changes. What was read is in canonical
+//! form, and the text of a canonical document reads as that document.
+//!
+//! Reading and writing take time and memory in proportion to the text, a look-up by place takes
+//! constant time, a look-up by name walks over the members, and sharing a row takes no memory.
+#![tactic(auto)]
+
+mod datum;
+mod error;
+mod read;
+mod row;
+#[cfg(test)]
+mod tests;
+mod text;
+mod write;
+
+pub use datum::{Datum, Items, Members};
+pub use error::DocError;
+pub use read::read_doc;
+pub use row::Row;
+pub use text::Text;
+pub use write::write_doc;

@@ -1,0 +1,149 @@
+// From a text to a document: `serde_json` reads the value, and what it owns is moved out of it.
+ghost use Rattle.std.specs.Prelude.{◌≡◌, ◌⊎◌, Some, None, option_map, IfSome, IfOk, IfErr, IsErrOf, IsUtf8, nat_lt};
+ghost use Rattle.serde_json.specs.Data.{depth, items_depth, members_depth};
+ghost use Rattle.serde_json.specs.Read.{read};
+ghost use Rattle.serde_json.specs.View.{view, number_view, items_view, members_view};
+ghost use Rattle.mdb_datum.specs.Doc.{whole, object, doc_list, field_list};
+ghost use Rattle.mdb_datum.specs.Canonical.{FitsWord, IsRegular, AreRegular, IsCanonical};
+ghost use Rattle.mdb_datum.specs.Datum.{doc_of, items_of, members_of};
+ghost use Rattle.mdb_datum.specs.Reading.{reading, read_as, no_json, too_deep, not_whole, whole_number, whole_doc, whole_docs, whole_fields};
+
+use crate::{Datum, DocError, Items, Members, Text};
+use serde_json::{Map, Number, Value};
+use std::alloc::Global;
+
+/// Lists and objects nest at most so deep in a document.
+const NESTING_LIMIT: usize = 100;
+
+/// The document that a text is (RFC 8259, as `serde_json` reads it). It takes memory for the
+/// whole document, and time in proportion to the text.
+///
+/// # Errors
+/// `Syntax` where the text is no JSON, else `Deep`, else `NotWhole`; `Memory` may come at any text.
+pub fn read_doc(alloc: Global, bytes: &[u8]) -> Result<Datum, DocError>
+    ensures ok { IfOk result (λ d. reading bytes.now ≡ read_as (doc_of d)) }
+    ensures canonical { IfOk result (λ d. IsCanonical (doc_of d)) }
+    ensures syntax { IsErrOf result DocError.Syntax → reading bytes.now ≡ no_json }
+    ensures deep { IsErrOf result DocError.Deep → reading bytes.now ≡ too_deep }
+    ensures not_whole { IsErrOf result DocError.NotWhole → reading bytes.now ≡ not_whole }
+{
+    let value = json_value(alloc, bytes)?;
+    if is_deeper(&value, NESTING_LIMIT) {
+        return Err(DocError::Deep);
+    }
+    Ok(datum_from(alloc, value)?)
+}
+
+/// The value that a text is.
+fn json_value(alloc: Global, bytes: &[u8]) -> Result<Value, DocError>
+    ensures ok { IfOk result (λ v. IsUtf8 bytes.now × (read bytes.now ≡ Some (view v))) }
+    ensures syntax { IsErrOf result DocError.Syntax → reading bytes.now ≡ no_json }
+    ensures only { IfErr result (λ e. (e ≡ DocError.Memory) ⊎ (e ≡ DocError.Syntax)) }
+{
+    match Value::from_slice(alloc, bytes) {
+        Ok(value) => Ok(value),
+        Err(e) => if e.is_memory() {
+            Err(DocError::Memory)
+        } else {
+            Err(DocError::Syntax)
+        },
+    }
+}
+
+/// Whether arrays and objects nest deeper in it than a limit.
+#[cycle(is_deeper)]
+fn is_deeper(value: &Value, limit: usize) -> bool
+    ensures { result ≡ nat_lt limit (depth (view value.now)) }
+{
+    match value {
+        Value::Array(list) => limit == 0 || any_item_is_deeper(list, limit - 1),
+        Value::Object(map) => limit == 0 || any_member_is_deeper(map, limit - 1),
+        _ => false,
+    }
+}
+
+#[cycle(is_deeper)]
+fn any_item_is_deeper(list: &Vec<Value>, limit: usize) -> bool
+    ensures { result ≡ nat_lt limit (items_depth (items_view list.now.items)) }
+{
+    for item in list {
+        if is_deeper(item, limit) {
+            return true;
+        }
+    }
+    false
+}
+
+#[cycle(is_deeper)]
+fn any_member_is_deeper(map: &Map<String, Value>, limit: usize) -> bool
+    ensures { result ≡ nat_lt limit (members_depth (members_view map.now.entries)) }
+{
+    for member in map.values() {
+        if is_deeper(member, limit) {
+            return true;
+        }
+    }
+    false
+}
+
+/// The number, where it is given as a `u64` or an `i64`.
+fn whole_from(number: &Number) -> Option<i128>
+    ensures value { option_map whole result ≡ whole_number (number_view number.now) }
+    ensures fits { IfSome result FitsWord }
+{
+    if let Some(n) = number.as_u64() {
+        return Some(i128::from(n));
+    }
+    let n = number.as_i64()?;
+    Some(i128::from(n))
+}
+
+/// The document that a value is, whose texts it takes over.
+#[cycle(datum_from)]
+fn datum_from(alloc: Global, value: Value) -> Result<Datum, DocError>
+    ensures ok { IfOk result (λ d. whole_doc (view value) ≡ Some (doc_of d)) }
+    ensures regular { IfOk result (λ d. IsRegular (doc_of d)) }
+    ensures not_whole { IsErrOf result DocError.NotWhole → whole_doc (view value) ≡ None }
+    ensures only { IfErr result (λ e. (e ≡ DocError.Memory) ⊎ (e ≡ DocError.NotWhole)) }
+{
+    match value {
+        Value::Null => Ok(Datum::Nil),
+        Value::Bool(flag) => Ok(Datum::Flag(flag)),
+        Value::Number(number) => Ok(Datum::Whole(whole_from(&number).ok_or(DocError::NotWhole)?)),
+        Value::String(text) => Ok(Datum::Str(Text::from_string(text))),
+        Value::Array(list) => Ok(Datum::Items(items_from(alloc, list)?)),
+        Value::Object(map) => Ok(Datum::Members(members_from(alloc, map)?)),
+    }
+}
+
+#[cycle(datum_from)]
+fn items_from(alloc: Global, list: Vec<Value>) -> Result<Items, DocError>
+    ensures ok { IfOk result
+        (λ l. whole_docs (items_view list.items) ≡ Some (doc_list (items_of l))) }
+    ensures regular { IfOk result (λ l. AreRegular (doc_list (items_of l))) }
+    ensures not_whole { IsErrOf result DocError.NotWhole
+        → whole_docs (items_view list.items) ≡ None }
+    ensures only { IfErr result (λ e. (e ≡ DocError.Memory) ⊎ (e ≡ DocError.NotWhole)) }
+{
+    let mut items = Items::new(alloc);
+    for value in list {
+        items.push(datum_from(alloc, value)?)?;
+    }
+    Ok(items)
+}
+
+#[cycle(datum_from)]
+fn members_from(alloc: Global, map: Map<String, Value>) -> Result<Members, DocError>
+    ensures ok { IfOk result
+        (λ m. whole_fields (members_view map.entries) ≡ Some (field_list (members_of m))) }
+    ensures regular { IfOk result (λ m. IsRegular (object (field_list (members_of m)))) }
+    ensures not_whole { IsErrOf result DocError.NotWhole
+        → whole_fields (members_view map.entries) ≡ None }
+    ensures only { IfErr result (λ e. (e ≡ DocError.Memory) ⊎ (e ≡ DocError.NotWhole)) }
+{
+    let mut members = Members::new(alloc);
+    for (name, value) in map {
+        members.push(Text::from_string(name), datum_from(alloc, value)?)?;
+    }
+    Ok(members)
+}
