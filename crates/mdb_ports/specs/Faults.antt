@@ -1,0 +1,13 @@
+-- What a failure says of a count of faults.
+use Rattle.std.specs.Prelude.{◌≡◌, ◌≤◌, ◌+◌, ◌-◌, ◌^◌, ℕ, min, Result, OnErr, OnOk}
+use Rattle.mdb_ports.specs.declared.failed.Failed.{Failed}
+
+-- A count of faults rose: it is greater than before, or stands at the end of a `u64`.
+abbrev pub Rose : ℕ → ℕ → Type 0
+Rose before now = min (before + 1) (2 ^ 64 - 1) ≤ now
+
+-- A failure comes only where the count of faults rose in the call; after success the count is as before.
+pub record HasCause {T : Type 0} (before now : ℕ) (result : Result T Failed) : Type 0 where
+  pub later : before ≤ now
+  pub failed : OnErr result (Rose before now)
+  pub kept : OnOk result (now ≡ before)

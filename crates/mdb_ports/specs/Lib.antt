@@ -1,0 +1,6 @@
+pub mod Faults
+pub mod Files
+pub mod MemFiles
+pub mod MemSink
+pub mod Script
+pub mod Sink

@@ -1,0 +1,3 @@
+/// A file or a sink failed. Its count of faults rose in the call.
+#[derive(Clone, Copy, Debug, PartialEq, Eq)]
+pub struct Failed;
