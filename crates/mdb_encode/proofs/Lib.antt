@@ -1,0 +1,10 @@
+pub mod BigEndian
+pub mod Blank
+pub mod Exact
+pub mod Forms
+pub mod HexRuns
+pub mod Order
+pub mod Parts
+pub mod Prefixes
+pub mod SameKey
+pub mod Walk

@@ -1,0 +1,16 @@
+pub mod Answers
+pub mod ArgReading
+pub mod Arguments
+pub mod Bytes
+pub mod Indexer
+pub mod Joined
+pub mod Keys
+pub mod Kind
+pub mod Lawful
+pub mod Laws
+pub mod Piece
+pub mod Reading
+pub mod Tally
+pub mod Texts
+pub mod UuidStart
+pub mod Vectors

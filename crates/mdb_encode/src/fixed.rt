@@ -1,0 +1,27 @@
+//! Values whose keys have a small number of bytes.
+ghost use Rattle.std.specs.Prelude.{◌≡◌, ◌≤◌, length};
+
+/// A number that is written in so many bytes.
+#[derive(Clone, Copy)]
+pub(crate) struct Number {
+    pub(crate) number: u64,
+    pub(crate) width: u8,
+    ghost narrow: { width ≤ 8 },
+}
+
+/// The bytes of a UUID.
+#[derive(Clone, Copy)]
+pub(crate) struct Id {
+    pub(crate) bytes: [u8; 16],
+    ghost whole: { length bytes ≡ 16 },
+}
+
+/// The first bytes of a UUID, of which `len` are meant. Room for 18, since 36 digits without
+/// hyphens are read as a start too.
+#[derive(Clone, Copy)]
+pub(crate) struct Start {
+    pub(crate) bytes: [u8; 18],
+    pub(crate) len: usize,
+    ghost whole: { length bytes ≡ 18 },
+    ghost within: { len ≤ 18 },
+}
