@@ -1,0 +1,4 @@
+pub mod Laws
+mod Places
+mod Searched
+mod Spliced

@@ -1,0 +1,5 @@
+pub mod Bytes
+pub mod Entry
+pub mod Pairs
+pub mod Place
+pub mod Tree
