@@ -1,0 +1,5 @@
+-- Byte order and index keys, which the definitions of this crate stand on, given again from `mdb_encode`.
+pub use Rattle.mdb_encode.specs.Bytes.{Bytes, byte_order, is_prefix}
+pub use Rattle.mdb_encode.specs.Indexer.{Indexer, str, str_list, str_map, uint, sint, truth, uuid, is_set, equals, compound, PartList, no_parts, part}
+pub use Rattle.mdb_encode.specs.Keys.{Keyed, keys, ended}
+pub use Rattle.mdb_encode.specs.Arguments.{Argued, arg, pre}

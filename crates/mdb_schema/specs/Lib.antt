@@ -1,0 +1,11 @@
+pub mod Answer
+pub mod Entries
+pub mod FirstForm
+pub mod History
+pub mod Keys
+pub mod Members
+pub mod Names
+pub mod Schema
+pub mod State
+pub mod TableDef
+pub mod Write
