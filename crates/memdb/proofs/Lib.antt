@@ -1,0 +1,11 @@
+pub mod WorkedRows
+pub mod Rows
+pub mod Legality
+pub mod Texts
+pub mod Judged
+pub mod Owing
+pub mod ScriptParts
+pub mod ScriptLines
+pub mod ScriptWhole
+pub mod Pieces
+pub mod Exclusion

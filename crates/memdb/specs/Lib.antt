@@ -1,0 +1,12 @@
+pub mod Legal
+pub mod Outcome
+pub mod Reply
+pub mod Script
+pub mod Session
+pub mod Words
+pub mod Single
+pub mod ReplyOf
+pub mod Owed
+pub mod Loaded
+pub mod Lines
+pub mod ScriptOf

@@ -1,0 +1,12 @@
+-- What a script of the code stands for: the rows that it inserts, and the texts whose rows it asks for.
+use Rattle.std.specs.Prelude.{List, map}
+use Rattle.mdb_datum.specs.Row.{row_of}
+use Rattle.mdb_encode.specs.Bytes.{Bytes}
+use Rattle.mdb_schema.specs.State.{Row}
+use Rattle.memdb.specs.declared.script.Script.{Script}
+
+abbrev pub rows_of : Script → List Row
+rows_of s = map row_of s.rows.items
+
+abbrev pub texts_of : Script → List Bytes
+texts_of s = s.texts.items
