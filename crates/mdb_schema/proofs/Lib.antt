@@ -1,2 +1,7 @@
-pub mod FormLemmas
-pub mod FormMeaning
+pub mod Chains
+pub mod Each
+pub mod LawfulIndexers
+pub mod LawfulSchemas
+pub mod Rising
+pub mod Searched
+pub mod ShapeLemmas

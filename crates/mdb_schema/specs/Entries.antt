@@ -1,5 +1,5 @@
--- The entries of an index: all pairs of a full key and its row, sorted by the key, without repeats. No two rows of a
--- table share a full key in one index.
+-- The entries of an index: all pairs of a full key and its row, sorted by the key, without repeats. In a lawful state no
+-- two rows of a table share a full key in one index.
 use Rattle.std.specs.Prelude.{List, [], ◌∷◌, ◌++◌, map, if◌then◌else◌, Ok, Err}
 use Rattle.std.specs.FinMap as map
 use Rattle.mdb_encode.specs.Bytes.{Bytes, byte_order}

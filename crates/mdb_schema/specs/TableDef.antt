@@ -1,23 +1,8 @@
--- What the types of this crate stand for.
-use Rattle.mdb_encode.specs.Bytes.{Bytes}
-use Rattle.mdb_schema.specs.FirstForm.{first_table}
-use Rattle.mdb_schema.specs.Schema.{TableSchema, DbSchema}
-use Rattle.std.specs.Prelude.{◌∷◌, []}
-use Rattle.mdb_schema.specs.declared.schema.TableDef.{TableDef}
-use Rattle.mdb_schema.specs.declared.schema.Schema.{Schema}
+-- What a table's definition stands for.
+use Rattle.std.specs.Prelude.{map}
+use Rattle.mdb_schema.specs.IndexDef.{index_view}
+use Rattle.mdb_schema.specs.Schema.{TableSchema}
+use Rattle.mdb_schema.specs.declared.table_def.TableDef.{TableDef}
 
-abbrev pub name_of : TableDef → Bytes
-name_of t = t.name
-
--- the member under the index `id`
-abbrev pub field_of : TableDef → Bytes
-field_of t = t.field
-
-abbrev pub table_of : TableDef → TableSchema
-table_of t = first_table (name_of t) (field_of t)
-
-abbrev pub the_table : Schema → TableDef
-the_table s = s.table
-
-abbrev pub db_of : Schema → DbSchema
-db_of s = table_of (the_table s) ∷ []
+abbrev pub table_view : TableDef → TableSchema
+table_view t = record { name = t.name; indexes = map index_view t.indexes.items }

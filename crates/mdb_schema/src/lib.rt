@@ -1,14 +1,29 @@
 //! Schemas and the model of a database: what its tables hold, what a write does, what a question is answered.
 //!
-//! The definitions in `specs/` are what the layers above are stated against. In this form a schema has one
-//! table with one unique index `id` over the text of one member.
+//! `read_schema` gives a `Schema` with its tables and indexes, or the first rule that a file breaks. The layers above
+//! are stated against the definitions in `specs/`: a schema as plain data, a state, a write step, an answer, a history.
+//!
+//! Reading takes time and memory in proportion to the file; a schema never changes, a look-up by place takes constant
+//! time, and one by name time in the logarithm of the number of names.
 #![tactic(auto)]
 
 mod error;
-mod form;
-mod key;
+mod index_def;
+mod indexer;
+mod kind_name;
+mod names;
+mod read;
 mod schema;
+mod schema_rule;
+mod shapes;
+mod table_def;
 
 pub use error::SchemaError;
-pub use key::text_key;
-pub use schema::{Schema, TableDef, read_schema};
+pub use index_def::IndexDef;
+pub use read::read_schema;
+pub use schema::Schema;
+pub use schema_rule::SchemaRule;
+pub use table_def::TableDef;
+
+#[cfg(test)]
+mod tests;

@@ -1,71 +1,52 @@
-ghost use Rattle.std.specs.Prelude.{◌≡◌, IfOk, IsErrOf};
-ghost use Rattle.mdb_schema.specs.FirstForm.{IsFirstSchema, IsNoFirstSchema};
-ghost use Rattle.mdb_schema.specs.TableDef.{name_of, field_of, the_table};
+ghost use Rattle.std.specs.Prelude.{◌≡◌, length, map, option_map, slice_get};
+ghost use Rattle.mdb_schema.specs.InOrder.{AreTablesInOrder, AreTablesInOrder-prop};
+ghost use Rattle.mdb_schema.specs.TableDef.{table_view};
 
-use crate::error::SchemaError;
-use crate::form::first_form;
-use mdb_datum::{DocError, Text, read_doc};
-use std::alloc::{AllocError, Global};
+use crate::table_def::TableDef;
 
-/// A table: its name, and the member whose text is its `id`.
-#[derive(Drop)]
-pub struct TableDef {
-    name: Text,
-    field: Text,
-}
-
-/// A schema, which never changes.
+/// A schema, which never changes: its tables, which stand in byte order of their names.
 #[derive(Drop)]
 pub struct Schema {
-    table: TableDef,
-}
-
-impl TableDef {
-    ghost use Rattle.mdb_schema.specs.TableDef.{name_of, field_of};
-
-    /// The table's name.
-    pub fn name(&self) -> &Text
-        ensures { result.now ≡ name_of self.now }
-    {
-        &self.name
-    }
-
-    /// The member under the index `id`.
-    pub fn field(&self) -> &Text
-        ensures { result.now ≡ field_of self.now }
-    {
-        &self.field
-    }
+    tables: Vec<TableDef>,
+    pub ghost in_order: { AreTablesInOrder (map table_view tables.items) } by { AreTablesInOrder-prop (map table_view tables.items) },
 }
 
 impl Schema {
-    ghost use Rattle.mdb_schema.specs.TableDef.{the_table};
+    ghost use Rattle.mdb_schema.specs.Definition.{schema_view};
+    ghost use Rattle.mdb_schema.specs.Schema.{table_place};
 
-    /// The table.
-    pub fn table(&self) -> &TableDef
-        ensures { result.now ≡ the_table self.now }
+    pub(crate) fn of(tables: Vec<TableDef>) -> Schema
+        requires { AreTablesInOrder (map table_view tables.items) }
+        ensures { schema_view result ≡ map table_view tables.items }
     {
-        &self.table
+        Schema { tables }
     }
-}
 
-/// The schema that the bytes read as.
-pub fn read_schema(alloc: Global, bytes: &[u8]) -> Result<Schema, SchemaError>
-    ensures ok { IfOk result (λ s. IsFirstSchema bytes.now (name_of (the_table s)) (field_of (the_table s))) }
-    ensures unbuilt { IsErrOf result SchemaError.Unbuilt → IsNoFirstSchema bytes.now }
-{
-    let document = match read_doc(alloc, bytes) {
-        Ok(document) => document,
-        Err(DocError::Memory) => return Err(SchemaError::Memory),
-        Err(_) => return Err(SchemaError::Unbuilt),
-    };
-    match first_form(&document) {
-        Some((name, field)) => Ok(Schema {
-            table: TableDef {
-                name: Text::of(alloc, name.as_str())?,
-                field: Text::of(alloc, field.as_str())?,
-            },
-        }),
-        None => Err(SchemaError::Unbuilt),
+    /// How many tables there are.
+    pub fn len(&self) -> usize
+        ensures { result ≡ length (schema_view self.now) }
+    {
+        self.tables.len()
+    }
+
+    /// The table at a place, counted from 0.
+    pub fn table(&self, at: usize) -> Option<&TableDef>
+        ensures { option_map (λ t. table_view t.now) result ≡ slice_get (schema_view self.now) at }
+    {
+        if at < self.tables.len() {
+            Some(&self.tables[at])
+        } else {
+            None
+        }
+    }
+
+    /// The place of the table of a name. It takes time in the logarithm of the number of tables.
+    pub fn find(&self, name: &str) -> Option<usize>
+        ensures { result ≡ table_place name.now (schema_view self.now) }
+    {
+        let name = name.as_bytes();
+        self.tables
+            .binary_search_by(|table| table.name().as_str().as_bytes().cmp(&name))
+            .ok()
     }
 }

@@ -1,0 +1,35 @@
+// Names that a schema may declare.
+ghost use Rattle.std.specs.Prelude.{◌≡◌};
+ghost use Rattle.std.specs.List.{list_all};
+ghost use Rattle.mdb_schema.specs.Names.{is_name_byte, is_word, is_declared_name};
+
+/// Whether a byte may stand in a declared name.
+fn is_name_byte(byte: u8) -> bool
+    ensures { result ≡ is_name_byte byte }
+{
+    matches!(byte, b'a'..=b'z' | b'A'..=b'Z' | b'0'..=b'9' | b'_' | b'-')
+}
+
+fn all_name_bytes(bytes: &[u8]) -> bool
+    ensures { result ≡ list_all is_name_byte bytes.now }
+{
+    bytes.iter().all(|byte| is_name_byte(*byte))
+}
+
+/// Whether bytes are 1 to 64 letters, digits, `_` and `-`.
+fn is_word(bytes: &[u8]) -> bool
+    ensures { result ≡ is_word bytes.now }
+{
+    if bytes.is_empty() || bytes.len() > 64 {
+        return false;
+    }
+    all_name_bytes(bytes)
+}
+
+/// Whether a name may be declared: a word that doesn't end in `_prefix`.
+pub(crate) fn is_declared_name(name: &str) -> bool
+    ensures { result ≡ is_declared_name name.now }
+{
+    let bytes = name.as_bytes();
+    is_word(bytes) && !bytes.ends_with(b"_prefix")
+}

@@ -1,0 +1,290 @@
+// A schema, from its document.
+ghost use Rattle.std.specs.Prelude.{◌≡◌, IfOk, Some, None, option_map, map};
+ghost use Rattle.std.specs.Result.{result_map_both};
+ghost use Rattle.mdb_datum.specs.Canonical.{IsRegular};
+ghost use Rattle.mdb_datum.specs.Datum.{doc_of, members_of};
+ghost use Rattle.mdb_datum.specs.Reading.{reading};
+ghost use Rattle.mdb_encode.specs.Kind.{indexer_of};
+ghost use Rattle.mdb_schema.specs.Broken.{each};
+ghost use Rattle.mdb_schema.specs.Definition.{index_view, table_view, schema_view};
+ghost use Rattle.mdb_schema.specs.InOrder.{SchemaInOrder};
+ghost use Rattle.mdb_schema.specs.IndexerAnswer.{Answers};
+ghost use Rattle.mdb_schema.specs.LawfulSchema.{IsLawfulSchema};
+ghost use Rattle.mdb_schema.specs.Reading.{is_multi, id_in, index_rules, index_in, named_index, is_version_one, index_list, table_in, table_list, schema_in, schema_of};
+ghost use Rattle.mdb_schema.specs.Regular.{EachRegular};
+ghost use Rattle.mdb_schema.specs.SchemaAnswer.{AnswersSchema, IsNamed};
+
+use crate::error::{IndexerError, SchemaError};
+use crate::index_def::IndexDef;
+use crate::indexer::read_indexer;
+use crate::names::is_declared_name;
+use crate::schema::Schema;
+use crate::schema_rule::SchemaRule;
+use crate::shapes::{index_shape, object_in, schema_shape, table_shape};
+use crate::table_def::TableDef;
+use mdb_datum::{Datum, DocError, Members, Text, read_doc};
+use mdb_encode::Kind;
+use std::alloc::{AllocError, Global};
+
+/// The greatest number of tables of a schema.
+const MOST_TABLES: usize = 64;
+
+/// The greatest number of indexes of a table.
+const MOST_INDEXES: usize = 32;
+
+/// Whether a row may have several keys.
+fn is_multi(kind: &Kind) -> bool
+    ensures { result ≡ is_multi (indexer_of kind.now) }
+{
+    match kind {
+        Kind::StrList { .. } | Kind::StrMap { .. } => true,
+        _ => false,
+    }
+}
+
+/// What the index `id` has to be.
+fn id_in(unique: bool, allow_missing: bool, kind: &Kind) -> Result<(), SchemaRule>
+    ensures { result ≡ id_in unique allow_missing (indexer_of kind.now) }
+{
+    if is_multi(kind) {
+        return Err(SchemaRule::IdMulti);
+    }
+    if !unique {
+        return Err(SchemaRule::IdNotUnique);
+    }
+    if allow_missing {
+        return Err(SchemaRule::IdAllowsMissing);
+    }
+    Ok(())
+}
+
+/// What an index has to be, by its name.
+fn index_rules(
+    name: &Text,
+    unique: bool,
+    allow_missing: bool,
+    kind: &Kind,
+) -> Result<(), SchemaRule>
+    ensures { result ≡ index_rules name.now unique allow_missing (indexer_of kind.now) }
+{
+    if name.as_str() == "id" {
+        id_in(unique, allow_missing, kind)
+    } else {
+        Ok(())
+    }
+}
+
+/// The index under a name.
+fn index_in(alloc: Global, name: &Text, document: &Datum) -> Result<IndexDef, IndexerError>
+    ensures { Answers index_view (index_in (name.now, doc_of document.now)) result }
+{
+    if !is_declared_name(name.as_str()) {
+        return Err(IndexerError::Broken(SchemaRule::BadName));
+    }
+    let Some(members) = object_in(document) else {
+        return Err(IndexerError::Broken(SchemaRule::BadShape));
+    };
+    let Some((indexer, (unique, allow_missing))) = index_shape(members) else {
+        return Err(IndexerError::Broken(SchemaRule::BadShape));
+    };
+    let kind = read_indexer(alloc, indexer)?;
+    index_rules(name, unique, allow_missing, &kind)?;
+    let name = Text::of(alloc, name.as_str())?;
+    Ok(IndexDef::of(name, unique, allow_missing, kind))
+}
+
+/// A copy of a name, where there is one.
+fn copied(alloc: Global, name: Option<&Text>) -> Result<Option<Text>, AllocError>
+    ensures { IfOk result (λ copy. copy ≡ option_map (λ own. own.now) name.entry) }
+{
+    match name {
+        Some(name) => Ok(Some(Text::of(alloc, name.as_str())?)),
+        None => Ok(None),
+    }
+}
+
+/// A rule that is broken at these names.
+fn broken(
+    alloc: Global,
+    rule: SchemaRule,
+    table: Option<&Text>,
+    index: Option<&Text>,
+) -> Result<SchemaError, AllocError>
+    ensures { IfOk result (λ e. IsNamed (IndexerError.Broken rule) (option_map (λ own. own.now) table.entry) (option_map (λ own. own.now) index.entry) e) }
+{
+    let table = copied(alloc, table)?;
+    let index = copied(alloc, index)?;
+    Ok(SchemaError::Broken { rule, table, index })
+}
+
+/// An error with the names of a table and an index. It may want memory for the names.
+fn named(
+    alloc: Global,
+    error: IndexerError,
+    table: Option<&Text>,
+    index: Option<&Text>,
+) -> SchemaError
+    ensures { IsNamed error (option_map (λ own. own.now) table.entry) (option_map (λ own. own.now) index.entry) result }
+{
+    match error {
+        IndexerError::Memory => SchemaError::Memory,
+        IndexerError::Broken(rule) => match broken(alloc, rule, table, index) {
+            Ok(error) => error,
+            Err(_) => SchemaError::Memory,
+        },
+    }
+}
+
+/// The index under a name, of a table.
+fn named_index(
+    alloc: Global,
+    table: &Text,
+    name: &Text,
+    document: &Datum,
+) -> Result<IndexDef, SchemaError>
+    ensures { AnswersSchema index_view (named_index table.now (name.now, doc_of document.now)) result }
+{
+    match index_in(alloc, name, document) {
+        Ok(index) => Ok(index),
+        Err(error) => Err(named(alloc, error, Some(table), Some(name))),
+    }
+}
+
+/// The members for the indexes of a table.
+fn index_list<'a>(name: &Text, document: &'a Datum) -> Result<&'a Members, SchemaRule>
+    ensures { result_map_both (λ m. members_of m.now) (λ r. r) result ≡ index_list (name.now, doc_of document.now) }
+{
+    if !is_declared_name(name.as_str()) {
+        return Err(SchemaRule::BadName);
+    }
+    let Some(members) = object_in(document) else {
+        return Err(SchemaRule::BadShape);
+    };
+    let Some(indexes) = table_shape(members) else {
+        return Err(SchemaRule::BadShape);
+    };
+    if indexes.len() == 0 {
+        return Err(SchemaRule::NoIndexes);
+    }
+    if indexes.len() > MOST_INDEXES {
+        return Err(SchemaRule::TooManyIndexes);
+    }
+    if indexes.get("id").is_none() {
+        return Err(SchemaRule::NoId);
+    }
+    Ok(indexes)
+}
+
+/// The indexes of a table, each whole before the next.
+fn indexes_in(alloc: Global, table: &Text, members: &Members) -> Result<Vec<IndexDef>, SchemaError>
+    ensures { AnswersSchema (λ v. map index_view v.items) (each (named_index table.now) (members_of members.now)) result }
+{
+    let mut indexes = Vec::new(alloc);
+    for at in 0..members.len() {
+        let Some((name, document)) = members.pair(at) else {
+            unreachable!();
+        };
+        match named_index(alloc, table, name, document) {
+            Ok(index) => indexes.push(index)?,
+            Err(error) => return Err(error),
+        }
+    }
+    Ok(indexes)
+}
+
+/// The table under a name.
+fn table_in(alloc: Global, name: &Text, document: &Datum) -> Result<TableDef, SchemaError>
+    requires { IsRegular (doc_of document.now) }
+    ensures { AnswersSchema table_view (table_in (name.now, doc_of document.now)) result }
+{
+    let members = match index_list(name, document) {
+        Ok(members) => members,
+        Err(rule) => return Err(named(alloc, IndexerError::Broken(rule), Some(name), None)),
+    };
+    let indexes = indexes_in(alloc, name, members)?;
+    let name = Text::of(alloc, name.as_str())?;
+    Ok(TableDef::of(name, indexes))
+}
+
+fn is_version_one(number: i128) -> bool
+    ensures { result ≡ is_version_one number }
+{
+    matches!(number, 1)
+}
+
+/// The members for the tables of a schema.
+fn table_list(document: &Datum) -> Result<&Members, SchemaRule>
+    ensures { result_map_both (λ m. members_of m.now) (λ r. r) result ≡ table_list (doc_of document.now) }
+{
+    let Some(members) = object_in(document) else {
+        return Err(SchemaRule::BadShape);
+    };
+    let Some((version, tables)) = schema_shape(members) else {
+        return Err(SchemaRule::BadShape);
+    };
+    if !is_version_one(version) {
+        return Err(SchemaRule::BadVersion);
+    }
+    if tables.len() == 0 {
+        return Err(SchemaRule::NoTables);
+    }
+    if tables.len() > MOST_TABLES {
+        return Err(SchemaRule::TooManyTables);
+    }
+    Ok(tables)
+}
+
+/// The tables, each whole before the next.
+fn tables_in(alloc: Global, members: &Members) -> Result<Vec<TableDef>, SchemaError>
+    requires { EachRegular (members_of members.now) }
+    ensures { AnswersSchema (λ v. map table_view v.items) (each table_in (members_of members.now)) result }
+{
+    let mut tables = Vec::new(alloc);
+    for at in 0..members.len() {
+        let Some((name, document)) = members.pair(at) else {
+            unreachable!();
+        };
+        match table_in(alloc, name, document) {
+            Ok(table) => tables.push(table)?,
+            Err(error) => return Err(error),
+        }
+    }
+    Ok(tables)
+}
+
+/// The schema that a document is.
+fn schema_in(alloc: Global, document: &Datum) -> Result<Schema, SchemaError>
+    requires { IsRegular (doc_of document.now) }
+    ensures { AnswersSchema schema_view (schema_in (doc_of document.now)) result }
+{
+    let members = match table_list(document) {
+        Ok(members) => members,
+        Err(rule) => return Err(named(alloc, IndexerError::Broken(rule), None, None)),
+    };
+    let tables = tables_in(alloc, members)?;
+    Ok(Schema::of(tables))
+}
+
+/// The schema that a file's bytes are, or the first rule that they break. It takes memory for the
+/// document and the schema, and time in proportion to the bytes.
+#[tactic(auto, using(crate::proofs::LawfulSchemas::schema_answer_lawful))]
+pub fn read_schema(alloc: Global, bytes: &[u8]) -> Result<Schema, SchemaError>
+    ensures answer { AnswersSchema schema_view (schema_of (reading bytes.now)) result }
+    ensures lawful { IfOk result (λ s. IsLawfulSchema (schema_view s)) }
+    ensures order { IfOk result (λ s. SchemaInOrder (schema_view s)) }
+{
+    schema_from(alloc, bytes)
+}
+
+/// The same, from the document that the bytes are.
+#[tactic(auto, using(crate::proofs::Rising::answer_rises))]
+fn schema_from(alloc: Global, bytes: &[u8]) -> Result<Schema, SchemaError>
+    ensures answer { AnswersSchema schema_view (schema_of (reading bytes.now)) result }
+    ensures order { IfOk result (λ s. SchemaInOrder (schema_view s)) }
+{
+    match read_doc(alloc, bytes) {
+        Ok(document) => schema_in(alloc, &document),
+        Err(DocError::Memory) => Err(SchemaError::Memory),
+        Err(_) => Err(named(alloc, IndexerError::Broken(SchemaRule::Syntax), None, None)),
+    }
+}

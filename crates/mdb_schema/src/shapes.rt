@@ -1,0 +1,214 @@
+// The shapes of the objects in a schema's document: which members they have, and of which form.
+ghost use Rattle.std.specs.Prelude.{◌≡◌, map, option_map, option_and_then, IfSome};
+ghost use Rattle.mdb_encode.specs.Lawful.{IsScalar};
+ghost use Rattle.std.specs.List.{list_any};
+ghost use Rattle.std.specs.Str.{bytes_eq};
+ghost use Rattle.mdb_datum.specs.Doc.{member};
+ghost use Rattle.mdb_datum.specs.Datum.{doc_of, items_of, members_of};
+ghost use Rattle.mdb_schema.specs.Members.{object_fields, text_bytes};
+ghost use Rattle.mdb_schema.specs.Shapes.{has_only, flag_or_false, number_in, list_in, scalar_in, field_in, schema_shape, table_shape, index_shape, folded_shape, width_shape, plain_shape, equals_shape, compound_shape};
+
+use mdb_datum::{Datum, Items, Members, Text};
+
+/// The members of an object.
+#[tactic(auto, using(crate::proofs::ShapeLemmas::object_found))]
+pub(crate) fn object_in(document: &Datum) -> Option<&Members>
+    ensures { option_map (λ m. members_of m.now) result ≡ object_fields (doc_of document.now) }
+{
+    match document {
+        Datum::Members(members) => Some(members),
+        _ => None,
+    }
+}
+
+/// The text that a document is.
+pub(crate) fn text_in(document: &Datum) -> Option<&Text>
+    ensures { option_map (λ s. s.now) result ≡ text_bytes (doc_of document.now) }
+{
+    match document {
+        Datum::Str(text) => Some(text),
+        _ => None,
+    }
+}
+
+fn is_one_of(name: &Text, names: &[&str]) -> bool
+    ensures { result ≡ list_any (λ own. bytes_eq name.now own) (map (λ own. own.now) names.now) }
+{
+    for own in names {
+        if name.as_str() == *own {
+            return true;
+        }
+    }
+    false
+}
+
+/// Whether each member has one of these names.
+fn has_only(members: &Members, names: &[&str]) -> bool
+    ensures { result ≡ has_only (map (λ own. own.now) names.now) (members_of members.now) }
+{
+    for at in 0..members.len() {
+        let Some((name, _)) = members.pair(at) else {
+            unreachable!();
+        };
+        if !is_one_of(name, names) {
+            return false;
+        }
+    }
+    true
+}
+
+/// The whole number that a document is.
+fn number_in(document: &Datum) -> Option<i128>
+    ensures { result ≡ number_in (doc_of document.now) }
+{
+    match document {
+        Datum::Whole(number) => Some(*number),
+        _ => None,
+    }
+}
+
+/// The list that a document is.
+#[tactic(auto, using(crate::proofs::ShapeLemmas::list_found))]
+fn list_in(document: &Datum) -> Option<&Items>
+    ensures { option_map (λ l. items_of l.now) result ≡ list_in (doc_of document.now) }
+{
+    match document {
+        Datum::Items(items) => Some(items),
+        _ => None,
+    }
+}
+
+/// The document, where it is no list and no object.
+fn scalar_in(document: &Datum) -> Option<&Datum>
+    ensures found { option_map (λ d. doc_of d.now) result ≡ scalar_in (doc_of document.now) }
+    ensures scalar { IfSome result (λ d. IsScalar (doc_of d.now)) }
+{
+    match document {
+        Datum::Items(_) | Datum::Members(_) => None,
+        _ => Some(document),
+    }
+}
+
+/// The text under a name.
+pub(crate) fn text_under<'a>(members: &'a Members, name: &str) -> Option<&'a Text>
+    ensures { option_map (λ s. s.now) result ≡ option_and_then text_bytes (member name.now (members_of members.now)) }
+{
+    text_in(members.get(name)?)
+}
+
+/// The truth value under a name, or false where there is no such member.
+fn flag_under(members: &Members, name: &str) -> Option<bool>
+    ensures { result ≡ flag_or_false (member name.now (members_of members.now)) }
+{
+    match members.get(name) {
+        None => Some(false),
+        Some(Datum::Flag(flag)) => Some(*flag),
+        Some(_) => None,
+    }
+}
+
+/// The member that an indexer reads.
+fn field_in(members: &Members) -> Option<&Text>
+    ensures { option_map (λ s. s.now) result ≡ field_in (members_of members.now) }
+{
+    let name = text_under(members, "field")?;
+    if name.as_str().is_empty() {
+        None
+    } else {
+        Some(name)
+    }
+}
+
+/// `memdb` and `tables` of a schema.
+pub(crate) fn schema_shape(members: &Members) -> Option<(i128, &Members)>
+    ensures { option_map (λ p. (p.0, members_of p.1.now)) result ≡ schema_shape (members_of members.now) }
+{
+    if !has_only(members, &["memdb", "tables"]) {
+        return None;
+    }
+    let version = number_in(members.get("memdb")?)?;
+    let tables = object_in(members.get("tables")?)?;
+    Some((version, tables))
+}
+
+/// `indexes` of a table.
+pub(crate) fn table_shape(members: &Members) -> Option<&Members>
+    ensures { option_map (λ m. members_of m.now) result ≡ table_shape (members_of members.now) }
+{
+    if !has_only(members, &["indexes"]) {
+        return None;
+    }
+    object_in(members.get("indexes")?)
+}
+
+/// `indexer`, `unique` and `allow_missing` of an index.
+pub(crate) fn index_shape(members: &Members) -> Option<(&Datum, (bool, bool))>
+    ensures { option_map (λ p. (doc_of p.0.now, p.1)) result ≡ index_shape (members_of members.now) }
+{
+    if !has_only(members, &["indexer", "unique", "allow_missing"]) {
+        return None;
+    }
+    let indexer = members.get("indexer")?;
+    let unique = flag_under(members, "unique")?;
+    let allow_missing = flag_under(members, "allow_missing")?;
+    Some((indexer, (unique, allow_missing)))
+}
+
+/// `field` and `lowercase` of an indexer.
+pub(crate) fn folded_shape(members: &Members) -> Option<(&Text, bool)>
+    ensures { option_map (λ p. (p.0.now, p.1)) result ≡ folded_shape (members_of members.now) }
+{
+    if !has_only(members, &["kind", "field", "lowercase"]) {
+        return None;
+    }
+    let field = field_in(members)?;
+    let lowercase = flag_under(members, "lowercase")?;
+    Some((field, lowercase))
+}
+
+/// `field` and `width` of an indexer.
+pub(crate) fn width_shape(members: &Members) -> Option<(&Text, i128)>
+    ensures { option_map (λ p. (p.0.now, p.1)) result ≡ width_shape (members_of members.now) }
+{
+    if !has_only(members, &["kind", "field", "width"]) {
+        return None;
+    }
+    let field = field_in(members)?;
+    let width = number_in(members.get("width")?)?;
+    Some((field, width))
+}
+
+/// `field` of an indexer that has no more.
+pub(crate) fn plain_shape(members: &Members) -> Option<&Text>
+    ensures { option_map (λ s. s.now) result ≡ plain_shape (members_of members.now) }
+{
+    if !has_only(members, &["kind", "field"]) {
+        return None;
+    }
+    field_in(members)
+}
+
+/// `field` and `equals` of an indexer.
+pub(crate) fn equals_shape(members: &Members) -> Option<(&Text, &Datum)>
+    ensures found { option_map (λ p. (p.0.now, doc_of p.1.now)) result ≡ equals_shape (members_of members.now) }
+    ensures scalar { IfSome result (λ p. IsScalar (doc_of p.1.now)) }
+{
+    if !has_only(members, &["kind", "field", "equals"]) {
+        return None;
+    }
+    let field = field_in(members)?;
+    let scalar = scalar_in(members.get("equals")?)?;
+    Some((field, scalar))
+}
+
+/// `parts` and `allow_missing` of an indexer.
+pub(crate) fn compound_shape(members: &Members) -> Option<(&Items, bool)>
+    ensures { option_map (λ p. (items_of p.0.now, p.1)) result ≡ compound_shape (members_of members.now) }
+{
+    if !has_only(members, &["kind", "parts", "allow_missing"]) {
+        return None;
+    }
+    let parts = list_in(members.get("parts")?)?;
+    let allow_missing = flag_under(members, "allow_missing")?;
+    Some((parts, allow_missing))
+}
