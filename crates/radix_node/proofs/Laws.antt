@@ -1,6 +1,7 @@
 -- What `put` does to `find`, to the length and to the order.
-use Rattle.std.proofs.Common.{◌≡◌, ◌≢◌, ◌+◌, ◌∙◌, ℕ, Bool, true, false, T, List, length, if◌then◌else◌, Some, is_some, refl, ap, is_eq, Ordering, Equal}
-use Rattle.std.proofs.lemmas.Bool.{false≢true, cond-true, cond-false, false_from_ne_true}
+use Rattle.std.proofs.Common.{◌≡◌, ◌≢◌, ◌+◌, ◌∙◌, ℕ, Bool, true, false, T, List, length, if◌then◌else◌, Some, is_some, refl, ap, is_eq, is_lt, ◌∷◌, Ordering, Less, Equal}
+use Rattle.std.proofs.lemmas.Bool.{and_parts, false≢true, cond-true, cond-false, false_from_ne_true}
+use Rattle.std.specs.Ordering.{ordering_reverse}
 use Rattle.std.proofs.lemmas.Cmp.{nat_list_cmp_total, tied_itself}
 use Rattle.std.specs.Cmp.{IsTotalOrder}
 use Rattle.std.specs.FinMap.{nat_cmp-IsAntisymmetric, slice_cmp-IsAntisymmetric}
@@ -54,3 +55,18 @@ IsRising-put key row pairs rising = true_from_T _ (entries.is_sorted-put byte_or
 -- pairs whose keys rise are told by what is found in them
 pub same_pairs : (xs ys : List Pair) → IsRising xs → IsRising ys → ((q : List ℕ) → find q xs ≡ find q ys) → xs ≡ ys
 same_pairs xs ys f g same = entries.same_entries byte_order byte_order_total same_from_byte_order xs ys (T_from_true _ f) (T_from_true _ g) same
+
+-- the first key is below each later one
+pub below_rest : (p : Pair) (ps : List Pair) → IsRising (p ∷ ps) → entries.below_all byte_order p.0 ps ≡ true
+below_rest p ps h = (and_parts _ _ h).0
+
+pub rising_rest : (p : Pair) (ps : List Pair) → IsRising (p ∷ ps) → IsRising ps
+rising_rest p ps h = (and_parts _ _ h).1
+
+-- the comparison the other way round
+pub turned : (x y : List ℕ) (o : Ordering) → byte_order x y ≡ o → byte_order y x ≡ ordering_reverse o
+turned x y o e = byte_order_total.antisymm y x ∙ ap ordering_reverse e
+
+pub less_from_is_lt : (o : Ordering) → is_lt o ≡ true → o ≡ Less
+less_from_is_lt Less e = refl
+less_from_is_lt _ e = absurd (false≢true e)

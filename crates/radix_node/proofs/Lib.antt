@@ -1,4 +1,22 @@
+pub mod Begun
+pub mod Commons
+pub mod Compared
+pub mod Filtered
+pub mod Joined
+pub mod LastLeaf
 pub mod Laws
-mod Places
-mod Searched
-mod Spliced
+pub mod Level
+pub mod Marked
+pub mod Orders
+pub mod Parts
+pub mod Paths
+pub mod Placed
+pub mod Puts
+pub mod Rising
+pub mod Sent
+pub mod Sought
+pub mod Steps
+pub mod Trees
+pub mod Under
+pub mod Unique
+pub mod Walked

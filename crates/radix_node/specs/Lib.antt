@@ -1,5 +1,12 @@
 pub mod Bytes
-pub mod Entry
+pub mod Edge
+pub mod Longest
+pub mod Node
+pub mod Nodes
 pub mod Pairs
-pub mod Place
+pub mod Paths
+pub mod Seek
+pub mod Shape
+pub mod ShapeProp
 pub mod Tree
+pub mod Without

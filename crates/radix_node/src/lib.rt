@@ -1,13 +1,24 @@
-//! A persistent map from keys, which are byte strings, to rows.
+//! A persistent radix tree: a map from keys, which are byte strings, to rows.
 //!
-//! A tree never changes: [`Tree::with`] makes a new one, which has copies of the keys and shares
-//! the rows. It is kept as a vector that is sorted by key, so a look-up takes time in the
-//! logarithm of its length, and a change takes time and memory in its length.
+//! A [`Tree`] is a root and the nodes under it. Nodes and leaves are shared and never change, so a
+//! copy of a tree is a second owner of its root, and a changed tree shares what lies off the path
+//! of the change. The crates above read a node by [`Node`]'s calls, and make new ones by
+//! [`Node::of`]. A look-up takes no memory, and time in the length of the key, each edge on the way
+//! being found by binary search.
 #![tactic(auto)]
 
-mod entry;
+mod edges;
+mod leaf;
+mod longest;
+mod node;
+mod node_ref;
 #[cfg(test)]
 mod tests;
 mod tree;
+pub mod tree_laws;
 
+pub use edges::Edges;
+pub use leaf::Leaf;
+pub use node::Node;
+pub use node_ref::NodeRef;
 pub use tree::Tree;

@@ -1,101 +1,97 @@
-ghost use Rattle.std.specs.Prelude.{◌≡◌, ◌+◌, ◌++◌, ◌∷◌, ◌≤◌, [], length, take, drop, IfOk, IfErr, option_map};
-ghost use Rattle.mdb_datum.specs.Row.{row_of};
-ghost use Rattle.radix_node.specs.Entry.{pairs_in};
-ghost use Rattle.radix_node.specs.Pairs.{IsRising, find, put};
+ghost use Rattle.std.specs.Prelude.{◌≡◌, [], IfOk, length, option_map};
+ghost use Rattle.radix_node.specs.Node.{below, node_of, shared_pair};
+ghost use Rattle.radix_node.specs.Nodes.{pairs_of_plain};
+ghost use Rattle.radix_node.specs.Shape.{HasShape};
+ghost use Rattle.radix_node.specs.ShapeProp.{HasShape-prop};
 
-use crate::entry::{Entry, push_shared};
+use crate::edges::Edges;
+use crate::leaf::Leaf;
+use crate::node::Node;
+use crate::node_ref::NodeRef;
 use mdb_datum::Row;
 use std::alloc::{AllocError, Global};
+use std::sync::Arc;
 
-/// A map from keys to rows, in the byte order of the keys. It never changes.
+/// A map from keys to rows, in the byte order of the keys, as shared nodes. It never changes.
 #[derive(Drop)]
 pub struct Tree {
-    entries: Vec<Entry>,
-    ghost rising: { IsRising (pairs_in entries.items) },
+    root: NodeRef,
+    len: u64,
+    ghost rooted: { let n = node_of root in n.prefix ≡ [] },
+    ghost shape: { HasShape (below (node_of root)) } by { HasShape-prop (below (node_of root)) },
+    ghost counted: { len ≡ length (pairs_of_plain (below (node_of root))) },
 }
 
-#[tactic(auto, unfolding(crate::specs::Tree::pairs_of))]
 impl Tree {
-    ghost use Rattle.radix_node.specs.Place.{IsAt, IsGapFor};
-    ghost use Rattle.radix_node.specs.Tree.{pairs_of};
+    ghost use Rattle.mdb_datum.specs.Row.{row_of};
+    ghost use Rattle.radix_node.specs.Pairs.{IsRising, find};
+    ghost use Rattle.radix_node.specs.Seek.{seek_plain};
+    ghost use Rattle.radix_node.specs.Tree.{plain_of, pairs_of};
 
-    /// A tree with no keys. The trees that are made from it take their memory from `alloc`.
+    /// A tree with no keys. It takes memory for its root.
     pub fn empty(alloc: Global) -> Result<Tree, AllocError>
         ensures { IfOk result (λ t. pairs_of t ≡ []) }
     {
-        Ok(Tree {
-            entries: Vec::new(alloc),
-        })
+        let root = Node::of(alloc, b"", None, Edges::new(alloc))?;
+        Ok(Tree { root, len: 0 })
+    }
+
+    /// The tree under a root, which has as many keys as `len` says.
+    pub fn of_root(root: NodeRef, len: u64) -> Tree
+        requires rooted { let n = node_of root in n.prefix ≡ [] }
+        requires shape { HasShape (below (node_of root)) }
+        requires counted { len ≡ length (pairs_of_plain (below (node_of root))) }
+        ensures { plain_of result ≡ below (node_of root) }
+    {
+        Tree { root, len }
+    }
+
+    /// The root.
+    pub fn root(&self) -> &NodeRef
+        ensures root { below (node_of result.now) ≡ plain_of self.now }
+        ensures rooted { let n = node_of result.now in n.prefix ≡ [] }
+        ensures shape { HasShape (plain_of self.now) }
+    {
+        &self.root
     }
 
     /// How many keys there are.
     pub fn len(&self) -> u64
-        ensures count { result ≡ length (pairs_of self.now) }
-        ensures rising { IsRising (pairs_of self.now) }
+        ensures { result ≡ length (pairs_of self.now) }
     {
-        self.entries.len() as u64
+        self.len
     }
 
-    /// The row under a key. It takes no memory, and time in the logarithm of the length.
+    /// The row under a key. It takes no memory, and time in the length of the key, with a binary
+    /// search among the edges at each node on the way.
     pub fn get(&self, key: &[u8]) -> Option<&Row>
         ensures value { option_map (λ r. row_of r.now) result ≡ find key.now (pairs_of self.now) }
         ensures rising { IsRising (pairs_of self.now) }
     {
-        match self.place(key) {
-            Ok(at) => Some(&self.entries[at].row),
-            Err(_) => None,
+        Some(self.seek(key)?.row())
+    }
+
+    // The leaf of a key.
+    fn seek(&self, key: &[u8]) -> Option<&Arc<Leaf, Global>>
+        ensures { option_map (λ a. shared_pair a.now) result ≡ seek_plain key.now (plain_of self.now) }
+    {
+        let mut node = self.root.node();
+        let mut rest = key;
+        while let Some(first) = rest.first() {
+            node = node.edge_of(*first)?.node();
+            rest = node.left(rest)?;
         }
+        node.leaf()
     }
 
-    /// The tree with `row` under `key`, and the row that stood there before. It takes time and
-    /// memory in the length: the keys are copied, and the rows are shared. It fails only for want
-    /// of memory, or of room to count one more owner of a row.
-    pub fn with(&self, key: &[u8], row: &Row) -> Result<(Tree, Option<Row>), AllocError>
-        ensures changed { IfOk result
-            (λ r. pairs_of r.0 ≡ put key.now (row_of row.now) (pairs_of self.now)) }
-        ensures stood { IfOk result (λ r. option_map row_of r.1 ≡ find key.now (pairs_of self.now)) }
-        ensures rising { IsRising (pairs_of self.now) }
+    /// A second owner of the same nodes. It takes no memory, and may be refused as for want of
+    /// it, which the kit does where the root has 2^63 - 1 owners.
+    pub fn share(&self) -> Result<Tree, AllocError>
+        ensures { IfOk result (λ t. plain_of t ≡ plain_of self.now) }
     {
-        match self.place(key) {
-            Ok(at) => {
-                let stood = self.entries[at].row.share()?;
-                let entries = self.spliced(at, at + 1, key, row)?;
-                Ok((Tree { entries }, Some(stood)))
-            }
-            Err(at) => {
-                let entries = self.spliced(at, at, key, row)?;
-                Ok((Tree { entries }, None))
-            }
-        }
-    }
-
-    // Where the key is, or where it would go.
-    fn place(&self, key: &[u8]) -> Result<usize, usize>
-        ensures found { IfOk result (IsAt (pairs_of self.now) key.now) }
-        ensures absent { IfErr result (IsGapFor (pairs_of self.now) key.now) }
-    {
-        self.entries
-            .binary_search_by(|e| e.key.as_slice().cmp(&key))
-    }
-
-    // The entries with one for `key` and `row` in place of those from `start` to `end`.
-    fn spliced(
-        &self,
-        start: usize,
-        end: usize,
-        key: &[u8],
-        row: &Row,
-    ) -> Result<Vec<Entry>, AllocError>
-        requires ordered { start ≤ end }
-        requires in_range { end ≤ length (pairs_of self.now) }
-        ensures { IfOk result (λ v. let pairs = pairs_of self.now in
-            pairs_in v.items ≡ take start pairs ++ (key.now, row_of row.now) ∷ drop end pairs) }
-    {
-        let alloc = *self.entries.allocator();
-        let mut entries = Vec::with_capacity(alloc, self.entries.len() + 1)?;
-        push_shared(&mut entries, &self.entries[..start])?;
-        entries.push(Entry::of(alloc, key, row)?)?;
-        push_shared(&mut entries, &self.entries[end..])?;
-        Ok(entries)
+        Ok(Tree {
+            root: self.root.share()?,
+            len: self.len,
+        })
     }
 }

@@ -1,0 +1,9 @@
+use Rattle.std.proofs.Common.{arith}
+use Rattle.radix_node.proofs.Placed.{get_there, get_past}
+use Rattle.radix_node.proofs.edges.Edges.get.Goals as goal
+
+pub returns-then-at-len : goal.returns-then-at-len
+returns-then-at-len c = get_there c.args.self.now c.args.at c.index.result.now (omega arith) c.index.ensures
+
+pub returns-else-at-len : goal.returns-else-at-len
+returns-else-at-len c = get_past c.args.self.now c.args.at (omega arith)
