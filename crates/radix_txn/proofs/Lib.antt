@@ -1,0 +1,17 @@
+pub mod AtPlace
+pub mod Child
+pub mod Counted
+pub mod Deleted
+pub mod Inserted
+pub mod Kept
+pub mod Parting
+pub mod Remaining
+pub mod Reshaped
+pub mod Settled
+pub mod Standing
+pub mod TreesCut
+pub mod TreesPut
+pub mod Turns
+pub mod Whole
+pub mod Worked
+pub mod Writes

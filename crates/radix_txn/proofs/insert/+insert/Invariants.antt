@@ -1,0 +1,6 @@
+use Rattle.std.proofs.Common.{length}
+use Rattle.radix_txn.proofs.insert.+insert.Given as goal
+
+-- the walk is no deeper than the key is long
+abbrev pub decreases-insert : goal.decreases-insert
+decreases-insert l = length l.rest.now
