@@ -1,0 +1,4 @@
+pub mod Beside
+pub mod Counted
+pub mod Walk
+pub mod Walks
