@@ -1,13 +1,17 @@
 -- Where a cause is there, nothing else is owed.
-use Rattle.std.proofs.Common.{◌≡◌, sym, ap, ◌∙◌, subst, ℕ, ◌≤◌, arith, List, [], ◌∷◌, length, Option, Some, None, inl, inr}
+use Rattle.std.proofs.Common.{◌≡◌, sym, ap, ◌∙◌, subst, ℕ, ◌≤◌, arith, List, [], ◌∷◌, length, Option, Some, None, Ok, Err, inl, inr}
 use Rattle.std.specs.Prelude.{◌⊎◌, IfSome, IsTrue, Bool, unwrap_or}
 use Rattle.mdb_ports.specs.Faults.{Rose}
 use Rattle.mdb_encode.specs.Bytes.{Bytes}
 use Rattle.mdb_ports.specs.Files.{Contents, IsAbsentIfReliable}
-use Rattle.mdb_schema.specs.FirstForm.{IsFirstSchema}
-use Rattle.memdb.specs.Script.{script_of}
+use Rattle.mdb_datum.specs.Reading.{reading}
+use Rattle.mdb_schema.specs.Broken.{Broken}
+use Rattle.mdb_schema.specs.Reading.{schema_of}
+use Rattle.mdb_schema.specs.Schema.{DbSchema}
+use Rattle.memdb.specs.FirstForm.{IsFirstSchema, first_schema}
+use Rattle.memdb.specs.Script.{Line, script_of}
 use Rattle.memdb.specs.Words.{files_named}
-use Rattle.memdb.specs.Outcome.{file_limit, Whole, IsTooLarge, IsFirstTooLarge, the_schema, the_client, IsBuilt, IsUnbuilt, Answers, CannotRead, IsNext, schema_first, then_client, Reads, Owes, owes_answers, owes_usage, owes_cannot_read, owes_too_large, owes_not_yet, IsOneOf, HasUnbuilt, HasTooLarge, IsLawful}
+use Rattle.memdb.specs.Outcome.{file_limit, Whole, IsTooLarge, IsFirstTooLarge, the_schema, the_client, IsBuilt, IsBroken, IsUnbuilt, Answers, CannotRead, IsNext, schema_first, then_client, Reads, Owes, owes_answers, owes_usage, owes_broken_schema, owes_cannot_read, owes_too_large, owes_not_yet, IsOneOf, HasBroken, HasUnbuilt, HasTooLarge, IsLawful}
 
 same_files : (words : List Bytes) (s c s' c' : Bytes) → files_named words ≡ Some (s, c) → files_named words ≡ Some (s', c') → (s ≡ s') × (c ≡ c')
 same_files words s c s' c' e e' =
@@ -42,6 +46,26 @@ none_built files schema client text u a =
 none_large_built : (files : Contents) (schema client name text : Bytes) → IsFirstTooLarge files schema client name → Answers files schema client text → ⊥
 none_large_built files schema client name text (the_schema is l) a = not_both files schema a.built.schema_bytes a.built.schema_whole l
 none_large_built files schema client name text (the_client bytes w is l) a = not_both files client a.built.client_bytes a.built.client_whole l
+
+-- bytes that break a rule are no schema
+never_both : (bytes : Bytes) (tables : DbSchema) (rule : Broken) → schema_of (reading bytes) ≡ Ok tables → schema_of (reading bytes) ≡ Err rule → ⊥
+never_both bytes tables rule e f = let h : Ok tables ≡ Err rule = sym e ∙ f in cc
+
+-- a schema that breaks a rule is in files that are whole, isn't lawful, and has no answers
+none_large_broken : (files : Contents) (schema client name : Bytes) (rule : Broken) → IsBroken files schema client rule → IsFirstTooLarge files schema client name → ⊥
+none_large_broken files schema client name rule b (the_schema is l) = not_both files schema b.schema_bytes b.schema_whole l
+none_large_broken files schema client name rule b (the_client bytes w is l) = not_both files client b.client_bytes b.client_whole l
+
+lawful_broken : (files : Contents) (schema client bytes : Bytes) (tables : DbSchema) (rule : Broken) → Whole files schema bytes → schema_of (reading bytes) ≡ Ok tables → IsBroken files schema client rule → ⊥
+lawful_broken files schema client bytes tables rule w e b =
+    let same = one_content files schema bytes b.schema_bytes w.there b.schema_whole.there in
+    never_both b.schema_bytes tables rule (subst (λ (x : Bytes). schema_of (reading x) ≡ Ok tables) same e) b.breaks
+
+none_unbuilt_broken : (files : Contents) (schema client : Bytes) (rule : Broken) → IsUnbuilt files schema client → IsBroken files schema client rule → ⊥
+none_unbuilt_broken files schema client rule u b = lawful_broken files schema client u.schema_bytes u.tables rule u.schema_whole u.lawful b
+
+none_built_broken : (files : Contents) (schema client table field : Bytes) (lines : List Line) (rule : Broken) → IsBuilt files schema client table field lines → IsBroken files schema client rule → ⊥
+none_built_broken files schema client table field lines rule u b = lawful_broken files schema client u.schema_bytes (first_schema table field) rule u.schema_whole u.schema_form b
 
 -- a file that is there isn't absent
 not_absent : (files : Contents) (name bytes : Bytes) → files name ≡ Some bytes → files name ≡ None → ⊥
@@ -99,11 +123,28 @@ told_of P words told files s c schema client names names' tells h =
 not_usage : (words : List Bytes) (schema client : Bytes) → files_named words ≡ None → files_named words ≡ Some (schema, client) → ⊥
 not_usage words schema client e f = let h : None ≡ Some (schema, client) = sym e ∙ f in cc
 
+pub broken_comes : (words : List Bytes) (told : Option Contents) (reliable : Bool) (before now status : ℕ) (text : Bytes) →
+    Owes words told reliable before now status text → HasBroken words told reliable before now → IsOneOf (2 ∷ 4 ∷ 6 ∷ []) status
+broken_comes words told reliable before now status text (owes_answers is d) h =
+    let a = told_of (λ fs s c. Answers fs s c text) words told h.files d.schema d.client h.schema h.client d.names h.reads.names h.tells d.answers in
+    absurd (none_built_broken h.files h.schema h.client a.table a.field a.lines h.rule a.built h.broken)
+broken_comes words told reliable before now status text (owes_usage is u) h = absurd (not_usage words h.schema h.client u.no_command h.reads.names)
+broken_comes words told reliable before now status text (owes_broken_schema is b) h = inl is
+broken_comes words told reliable before now status text (owes_cannot_read is r) h =
+    let b = h.broken in
+    absurd (not_unread words told reliable before now h.schema h.client text h.files h.reads h.tells (b.schema_bytes, b.client_bytes, b.schema_whole, b.client_whole) r)
+broken_comes words told reliable before now status text (owes_too_large is l) h =
+    absurd (none_large_broken h.files h.schema h.client l.word h.rule h.broken (told_of (λ fs s c. IsFirstTooLarge fs s c l.word) words told h.files l.schema l.client h.schema h.client l.names h.reads.names h.tells l.first))
+broken_comes words told reliable before now status text (owes_not_yet is n) h =
+    absurd (none_unbuilt_broken h.files h.schema h.client h.rule (told_of (λ fs s c. IsUnbuilt fs s c) words told h.files n.schema n.client h.schema h.client n.names h.reads.names h.tells n.unbuilt) h.broken)
+
 pub unbuilt_comes : (words : List Bytes) (told : Option Contents) (reliable : Bool) (before now status : ℕ) (text : Bytes) →
     Owes words told reliable before now status text → HasUnbuilt words told reliable before now → IsOneOf (8 ∷ 4 ∷ 6 ∷ []) status
 unbuilt_comes words told reliable before now status text (owes_answers is d) h =
     absurd (none_built h.files h.schema h.client text h.unbuilt (told_of (λ fs s c. Answers fs s c text) words told h.files d.schema d.client h.schema h.client d.names h.reads.names h.tells d.answers))
 unbuilt_comes words told reliable before now status text (owes_usage is u) h = absurd (not_usage words h.schema h.client u.no_command h.reads.names)
+unbuilt_comes words told reliable before now status text (owes_broken_schema is b) h =
+    absurd (none_unbuilt_broken h.files h.schema h.client b.rule h.unbuilt (told_of (λ fs s c. IsBroken fs s c b.rule) words told h.files b.schema b.client h.schema h.client b.names h.reads.names h.tells b.broken))
 unbuilt_comes words told reliable before now status text (owes_cannot_read is r) h =
     let u = h.unbuilt in
     absurd (not_unread words told reliable before now h.schema h.client text h.files h.reads h.tells (u.schema_bytes, u.client_bytes, u.schema_whole, u.client_whole) r)
@@ -116,6 +157,8 @@ pub too_large_comes : (words : List Bytes) (told : Option Contents) (reliable : 
 too_large_comes words told reliable before now status text (owes_answers is d) h =
     absurd (none_large_built h.files h.schema h.client h.name text h.first (told_of (λ fs s c. Answers fs s c text) words told h.files d.schema d.client h.schema h.client d.names h.reads.names h.tells d.answers))
 too_large_comes words told reliable before now status text (owes_usage is u) h = absurd (not_usage words h.schema h.client u.no_command h.reads.names)
+too_large_comes words told reliable before now status text (owes_broken_schema is b) h =
+    absurd (none_large_broken h.files h.schema h.client h.name b.rule (told_of (λ fs s c. IsBroken fs s c b.rule) words told h.files b.schema b.client h.schema h.client b.names h.reads.names h.tells b.broken) h.first)
 too_large_comes words told reliable before now status text (owes_cannot_read is r) h =
     absurd (not_unread_large words told reliable before now h.schema h.client h.name text h.files h.reads h.tells h.first r)
 too_large_comes words told reliable before now status text (owes_too_large is l) h = inl is
@@ -126,6 +169,8 @@ pub lawful_owes : (words : List Bytes) (told : Option Contents) (reliable : Bool
     Owes words told reliable before now status text → IsLawful words told reliable before now faults_before faults_now → status ≡ 0
 lawful_owes words told reliable before now fb fn status text (owes_answers is d) h = is
 lawful_owes words told reliable before now fb fn status text (owes_usage is u) h = absurd (not_usage words h.schema h.client u.no_command h.reads.names)
+lawful_owes words told reliable before now fb fn status text (owes_broken_schema is b) h =
+    absurd (none_built_broken h.files h.schema h.client h.table h.field h.lines b.rule h.built (told_of (λ fs s c. IsBroken fs s c b.rule) words told h.files b.schema b.client h.schema h.client b.names h.reads.names h.tells b.broken))
 lawful_owes words told reliable before now fb fn status text (owes_cannot_read is r) h =
     let b = h.built in
     absurd (not_unread words told reliable before now h.schema h.client text h.files h.reads h.tells (b.schema_bytes, b.client_bytes, b.schema_whole, b.client_whole) r)

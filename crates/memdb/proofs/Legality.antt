@@ -11,7 +11,7 @@ use Rattle.mdb_encode.specs.Indexer.{str}
 use Rattle.mdb_encode.specs.Keys.{ended}
 use Rattle.mdb_encode.specs.Arguments.{arg}
 use Rattle.mdb_schema.specs.Schema.{DbSchema}
-use Rattle.mdb_schema.specs.FirstForm.{first_table, first_schema}
+use Rattle.memdb.specs.FirstForm.{first_table, first_schema}
 use Rattle.mdb_schema.specs.State.{Row, State, row_at, with_row}
 use Rattle.mdb_schema.specs.Entries.{Entry}
 use Rattle.mdb_schema.specs.Write.{Write, put, step}

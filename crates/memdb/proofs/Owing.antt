@@ -5,14 +5,14 @@ use Rattle.mdb_encode.specs.Bytes.{Bytes}
 use Rattle.mdb_ports.specs.Faults.{Rose}
 use Rattle.mdb_ports.specs.Files.{Contents, IsAbsentIfReliable}
 use Rattle.memdb.specs.Words.{files_named}
-use Rattle.memdb.specs.Outcome.{Whole, IsTooLarge, IsFirstTooLarge, the_schema, the_client, schema_first, then_client, IsUnbuilt, Answers, Owes, owes_answers, owes_cannot_read, owes_too_large, owes_not_yet}
+use Rattle.memdb.specs.Outcome.{Whole, IsTooLarge, IsFirstTooLarge, the_schema, the_client, schema_first, then_client, IsBroken, IsUnbuilt, Answers, Owes, owes_answers, owes_broken_schema, owes_cannot_read, owes_too_large, owes_not_yet}
 use Rattle.std.specs.Prelude.{Vec}
 use Rattle.std.specs.declared.alloc.Global.{Global}
 use Rattle.memdb.specs.declared.due.Due.{Due}
 use Rattle.memdb.specs.declared.judge.Loaded.{Loaded}
 use Rattle.memdb.specs.declared.judge.Loaded.TheVariants as of
 use Rattle.memdb.specs.Loaded.{MeansLoaded}
-use Rattle.memdb.specs.Owed.{Unread, unreadable, oversized, Judged, lawful, unbuilt}
+use Rattle.memdb.specs.Owed.{Unread, unreadable, oversized, Judged, lawful, broken, unbuilt}
 
 told_so : {A : Type 0} (P Q : A → Type 0) (o : Option A) → ((x : A) → P x → Q x) → IfSome o P → IfSome o Q
 told_so P Q None f h = h
@@ -88,7 +88,19 @@ owes_judged words schema client told told' reliable reliable' before between now
             legal = l.legal;
           }) first second';
     })
-owes_judged words schema client told told' reliable reliable' before between now status text schema_bytes client_bytes names kept kept' same stays first second (unbuilt is none says) =
+owes_judged words schema client told told' reliable reliable' before between now status text schema_bytes client_bytes names kept kept' same stays first second (broken is rule breaks says) =
+    let second' = subst (λ (t : Option Contents). IfSome t (λ fs. Whole fs client client_bytes)) same second in
+    owes_broken_schema is (record {
+      schema = schema;
+      client = client;
+      names = names;
+      no_fault = kept' ∙ kept;
+      rule = rule;
+      broken = told_both (λ fs. Whole fs schema schema_bytes) (λ fs. Whole fs client client_bytes) (λ fs. IsBroken fs schema client rule) told
+          (λ fs w v. record { schema_bytes = schema_bytes; schema_whole = w; client_bytes = client_bytes; client_whole = v; breaks = breaks }) first second';
+      says = says;
+    })
+owes_judged words schema client told told' reliable reliable' before between now status text schema_bytes client_bytes names kept kept' same stays first second (unbuilt is u says) =
     let second' = subst (λ (t : Option Contents). IfSome t (λ fs. Whole fs client client_bytes)) same second in
     owes_not_yet is (record {
       schema = schema;
@@ -96,7 +108,7 @@ owes_judged words schema client told told' reliable reliable' before between now
       names = names;
       no_fault = kept' ∙ kept;
       unbuilt = told_both (λ fs. Whole fs schema schema_bytes) (λ fs. Whole fs client client_bytes) (λ fs. IsUnbuilt fs schema client) told
-          (λ fs w v. record { schema_bytes = schema_bytes; schema_whole = w; client_bytes = client_bytes; client_whole = v; no_form = none }) first second';
+          (λ fs w v. record { schema_bytes = schema_bytes; schema_whole = w; client_bytes = client_bytes; client_whole = v; tables = u.tables; lawful = u.lawful; no_form = u.no_form }) first second';
       says = says;
     })
 

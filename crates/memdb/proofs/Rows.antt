@@ -17,7 +17,7 @@ use Rattle.mdb_encode.specs.Bytes.{Bytes, byte_order}
 use Rattle.mdb_encode.specs.Indexer.{str}
 use Rattle.mdb_encode.specs.Keys.{keys, ended}
 use Rattle.mdb_schema.specs.Schema.{TableSchema}
-use Rattle.mdb_schema.specs.FirstForm.{first_table, id_index}
+use Rattle.memdb.specs.FirstForm.{first_table, id_index}
 use Rattle.mdb_schema.specs.State.{Row, id_keys, id_key, row_at, with_row}
 use Rattle.mdb_schema.specs.Entries.{Entry, entries}
 use Rattle.mdb_schema.specs.Answer.{first_row}

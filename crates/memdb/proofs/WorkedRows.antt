@@ -5,9 +5,7 @@ use Rattle.std.specs.List.{enumerate_from}
 use Rattle.std.specs.Str.{bytes_eq}
 use Rattle.std.proofs.lemmas.List.FromFn.{length-enumerate_from}
 use Rattle.mdb_datum.specs.Doc.{whole, text, Field}
-use Rattle.mdb_datum.specs.Reading.{read_as}
-use Rattle.mdb_datum.specs.Reading as documents
-use Rattle.mdb_schema.specs.FirstForm.{schema_doc, first_schema}
+use Rattle.memdb.specs.FirstForm.{IsFirstSchema, first_schema}
 use Rattle.std.proofs.lemmas.Fmt.{decimal_digit}
 use Rattle.std.proofs.lemmas.List.Sorted.{IsPermutation-refl, length_permutation}
 use Rattle.mdb_schema.specs.Schema.{DbSchema}
@@ -24,7 +22,7 @@ use Rattle.memdb.specs.Script.{script_of, Line, read, write, commit, insert, que
 schema_text : List ℕ
 schema_text = codes "{\"memdb\":1,\"tables\":{\"t\":{\"indexes\":{\"id\":{\"unique\":true,\"indexer\":{\"kind\":\"text\",\"field\":\"name\"}}}}}}\n"
 
-schema_reads : documents.reading schema_text ≡ read_as (schema_doc (codes "t") (codes "name"))
+schema_reads : IsFirstSchema schema_text (codes "t") (codes "name")
 unfolding reading_on_literals schema_text
 schema_reads = refl
 

@@ -1,10 +1,10 @@
 -- The lines of a script as they stand in its bytes, and the documents in them: for the clauses of private functions.
-use Rattle.std.specs.Prelude.{◌==◌, ◌+◌, List, ◌++◌, length, take, drop, nat_le, if◌then◌else◌, Option, Some, None, option_map, option_and_then, position}
+use Rattle.std.specs.Prelude.{◌==◌, ◌+◌, List, ◌++◌, take, drop, if◌then◌else◌, Option, Some, None, option_map, option_and_then, position}
 use Rattle.std.specs.Str.{bytes_eq}
-use Rattle.mdb_datum.specs.Doc.{Doc, text, list, no_docs, doc}
+use Rattle.mdb_datum.specs.Doc.{Doc}
 use Rattle.mdb_datum.specs.Reading.{Reading, read_as}
 use Rattle.mdb_encode.specs.Bytes.{Bytes}
-use Rattle.memdb.specs.Script.{Command, lines_of, text_limit}
+use Rattle.memdb.specs.Script.{Command, lines_of}
 
 -- the first line without its line feed, and what follows it
 abbrev pub first_line : Bytes → Option (Bytes × Bytes)
@@ -26,13 +26,3 @@ put_before cs rest = option_map (λ ds. cs ++ ds) rest
 abbrev pub document_in : Reading → Option Doc
 document_in (read_as d) = Some d
 document_in r = None
-
--- the item of a list of one item
-abbrev pub only_item : Doc → Option Doc
-only_item (list (doc d no_docs)) = Some d
-only_item d = None
-
--- a text that is no longer than a key may be
-abbrev pub short_text : Doc → Option Bytes
-short_text (text s) = if nat_le (length s) text_limit then Some s else None
-short_text d = None

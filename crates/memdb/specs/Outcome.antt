@@ -1,10 +1,17 @@
 -- What a run may answer, and what it then writes: a text for each status, with its cause.
-use Rattle.std.specs.Prelude.{◌≡◌, ◌⊎◌, ◌<◌, ◌≤◌, ℕ, Bool, IsTrue, List, [], ◌∷◌, ◌++◌, length, take, Option, Some, None, IfSome, codes}
+use Rattle.std.specs.Prelude.{◌≡◌, ◌⊎◌, ◌<◌, ◌≤◌, ℕ, Bool, IsTrue, List, [], ◌∷◌, ◌++◌, length, take, Option, Some, None, Ok, Err, IfSome, codes}
 use Rattle.mdb_encode.specs.Bytes.{Bytes}
 use Rattle.mdb_ports.specs.Faults.{Rose}
 use Rattle.mdb_ports.specs.Files.{Contents, IsAbsentIfReliable}
 use Rattle.mdb_ports.specs.Sink.{Grows}
-use Rattle.mdb_schema.specs.FirstForm.{IsFirstSchema, first_schema}
+use Rattle.mdb_datum.specs.Doc.{text}
+use Rattle.mdb_datum.specs.Reading.{reading}
+use Rattle.mdb_datum.specs.Written.{compact}
+use Rattle.mdb_schema.specs.Broken.{Broken}
+use Rattle.mdb_schema.specs.Reading.{schema_of}
+use Rattle.mdb_schema.specs.RuleWord.{rule_word}
+use Rattle.mdb_schema.specs.Schema.{DbSchema}
+use Rattle.memdb.specs.FirstForm.{IsFirstSchema, first_schema}
 use Rattle.memdb.specs.Script.{Line, script_of}
 use Rattle.memdb.specs.Legal.{Legal}
 use Rattle.memdb.specs.Words.{files_named, usage_text}
@@ -38,16 +45,35 @@ pub record IsBuilt (files : Contents) (schema client table field : Bytes) (lines
   pub schema_form : IsFirstSchema schema_bytes table field
   pub script_form : script_of table field client_bytes ≡ Some lines
 
--- both files were read whole, and one of them isn't of that form
+-- both files were read whole, and the schema breaks a rule, the first that it does
+pub record IsBroken (files : Contents) (schema client : Bytes) (rule : Broken) : Type 0 where
+  pub schema_bytes : Bytes
+  pub schema_whole : Whole files schema schema_bytes
+  pub client_bytes : Bytes
+  pub client_whole : Whole files client client_bytes
+  pub breaks : schema_of (reading schema_bytes) ≡ Err rule
+
+-- both files were read whole, the schema is lawful, and it or the script isn't of the form that is built
 pub record IsUnbuilt (files : Contents) (schema client : Bytes) : Type 0 where
   pub schema_bytes : Bytes
   pub schema_whole : Whole files schema schema_bytes
   pub client_bytes : Bytes
   pub client_whole : Whole files client client_bytes
+  pub tables : DbSchema
+  pub lawful : schema_of (reading schema_bytes) ≡ Ok tables
   pub no_form : (table field : Bytes) (lines : List Line) → IsFirstSchema schema_bytes table field → script_of table field client_bytes ≡ Some lines → ⊥
 
 abbrev pub word_line : Bytes → Bytes → Bytes
 word_line what word = what ++ (word ++ 10 ∷ [])
+
+-- a name as a JSON text after a blank, where there is one
+abbrev pub name_part : Option Bytes → Bytes
+name_part None = []
+name_part (Some name) = 32 ∷ compact (text name)
+
+-- schema RULE, and the names of the table and the index where the rule has them
+abbrev pub broken_text : Broken → Bytes
+broken_text b = codes "schema " ++ (rule_word b.rule ++ (name_part b.table ++ (name_part b.index ++ 10 ∷ [])))
 
 abbrev pub not_yet_text : Bytes
 not_yet_text = codes "not yet" ++ 10 ∷ []
@@ -56,6 +82,16 @@ not_yet_text = codes "not yet" ++ 10 ∷ []
 pub record Usage (words : List Bytes) (text : Bytes) : Type 0 where
   pub no_command : files_named words ≡ None
   pub says : text ≡ usage_text
+
+-- status 2: both files were read whole, and the schema breaks the rule that is told
+pub record BrokenSchema (words : List Bytes) (told : Option Contents) (before now : ℕ) (text : Bytes) : Type 0 where
+  pub schema : Bytes
+  pub client : Bytes
+  pub names : files_named words ≡ Some (schema, client)
+  pub no_fault : now ≡ before
+  pub rule : Broken
+  pub broken : IfSome told (λ files. IsBroken files schema client rule)
+  pub says : text ≡ broken_text rule
 
 -- a file that is read next: the schema's first, and the client's once the schema was whole
 pub data IsNext (told : Option Contents) (schema client name : Bytes) : Type 0 where
@@ -84,7 +120,7 @@ pub record TooLarge (words : List Bytes) (told : Option Contents) (before now : 
   pub first : IfSome told (λ files. IsFirstTooLarge files schema client word)
   pub says : text ≡ word_line (codes "too large ") word
 
--- status 8: both files were read whole, and the schema or the script isn't of the form that is built
+-- status 8: both files were read whole, the schema is lawful, and it or the script isn't of the form that is built
 pub record NotYet (words : List Bytes) (told : Option Contents) (before now : ℕ) (text : Bytes) : Type 0 where
   pub schema : Bytes
   pub client : Bytes
@@ -113,6 +149,7 @@ pub record Done (words : List Bytes) (told : Option Contents) (before now : ℕ)
 pub data Owes (words : List Bytes) (told : Option Contents) (reliable : Bool) (before now status : ℕ) (text : Bytes) : Type 0 where
   owes_answers : status ≡ 0 → Done words told before now text → Owes words told reliable before now status text
   owes_usage : status ≡ 1 → Usage words text → Owes words told reliable before now status text
+  owes_broken_schema : status ≡ 2 → BrokenSchema words told before now text → Owes words told reliable before now status text
   owes_cannot_read : status ≡ 5 → CannotRead words told reliable before now text → Owes words told reliable before now status text
   owes_too_large : status ≡ 7 → TooLarge words told before now text → Owes words told reliable before now status text
   owes_not_yet : status ≡ 8 → NotYet words told before now text → Owes words told reliable before now status text
@@ -152,7 +189,17 @@ pub record HasTooLarge (words : List Bytes) (told : Option Contents) (reliable :
   pub name : Bytes
   pub first : IsFirstTooLarge files schema client name
 
--- the words are a command, and the files that it names are whole and not of the form that is built
+-- the words are a command, the files that it names are whole, and the schema breaks a rule
+pub record HasBroken (words : List Bytes) (told : Option Contents) (reliable : Bool) (before now : ℕ) : Type 0 where
+  pub schema : Bytes
+  pub client : Bytes
+  pub reads : Reads words schema client reliable before now
+  pub files : Contents
+  pub tells : told ≡ Some files
+  pub rule : Broken
+  pub broken : IsBroken files schema client rule
+
+-- the words are a command, the files that it names are whole, and the schema is lawful, but they aren't of the form that is built
 pub record HasUnbuilt (words : List Bytes) (told : Option Contents) (reliable : Bool) (before now : ℕ) : Type 0 where
   pub schema : Bytes
   pub client : Bytes

@@ -3,10 +3,11 @@ use Rattle.std.specs.Prelude.{List, map}
 use Rattle.mdb_datum.specs.Row.{row_of}
 use Rattle.mdb_encode.specs.Bytes.{Bytes}
 use Rattle.mdb_schema.specs.State.{Row}
+use Rattle.memdb.specs.QuestionOf.{asked_text}
 use Rattle.memdb.specs.declared.script.Script.{Script}
 
 abbrev pub rows_of : Script → List Row
 rows_of s = map row_of s.rows.items
 
 abbrev pub texts_of : Script → List Bytes
-texts_of s = s.texts.items
+texts_of s = map asked_text s.questions.items

@@ -1,9 +1,10 @@
 // What a run has to write, and the status under which it does.
-ghost use Rattle.std.specs.Prelude.{◌≡◌, ◌++◌, ◌∷◌, [], IfOk, codes};
-ghost use Rattle.memdb.specs.Outcome.{word_line, not_yet_text};
+ghost use Rattle.std.specs.Prelude.{◌≡◌, ◌++◌, ◌∷◌, [], IfOk, OnOk, codes};
+ghost use Rattle.memdb.specs.Outcome.{word_line, name_part, broken_text, not_yet_text};
 ghost use Rattle.memdb.specs.Words.{usage_text};
 
-use mdb_datum::Text;
+use mdb_datum::{Datum, Text, write_doc};
+use mdb_schema::SchemaRule;
 use std::alloc::{AllocError, Global};
 
 /// A status and the text that is written under it.
@@ -23,6 +24,35 @@ pub fn usage(alloc: Global) -> Result<Due, AllocError>
         status: 1,
         text: Vec::from_slice(alloc, USAGE)?,
     })
+}
+
+/// The schema breaks a rule, perhaps in a table and an index of these names.
+pub fn broken_schema(
+    alloc: Global,
+    rule: SchemaRule,
+    table: Option<Text>,
+    index: Option<Text>,
+) -> Result<Due, AllocError>
+    ensures { IfOk result (λ due. (due.status ≡ 2) × (due.text.items ≡ broken_text (record { rule = rule; table = table; index = index }))) }
+{
+    let mut text = Vec::from_slice(alloc, b"schema ")?;
+    text.extend_from_slice(rule.word().as_bytes())?;
+    write_name(alloc, table, &mut text)?;
+    write_name(alloc, index, &mut text)?;
+    text.push(b'\n')?;
+    Ok(Due { status: 2, text })
+}
+
+/// Adds a blank and a name as a JSON text, where there is one.
+fn write_name(alloc: Global, name: Option<Text>, text: &mut Vec<u8>) -> Result<(), AllocError>
+    ensures { OnOk result (text.new.items ≡ text.old.items ++ name_part name) }
+{
+    let Some(name) = name else {
+        return Ok(());
+    };
+    let quoted = write_doc(alloc, &Datum::Str(name))?;
+    text.push(b' ')?;
+    text.extend_from_slice(&quoted)
 }
 
 /// A file can't be read.

@@ -8,10 +8,12 @@
 
 mod answers;
 mod due;
+mod form;
 mod judge;
 mod lines;
 mod load;
 mod output;
+mod question;
 mod reply;
 mod run;
 mod script;

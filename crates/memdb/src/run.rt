@@ -1,6 +1,6 @@
 ghost use Rattle.std.specs.Prelude.{◌≡◌, ◌≤◌, ◌∷◌, [], None};
 ghost use Rattle.memdb.specs.Words.{files_named};
-ghost use Rattle.memdb.specs.Outcome.{Wrote, Usage, CannotRead, TooLarge, NotYet, Done, CutShort, IsOneOf, HasTooLarge, HasUnbuilt, IsLawful};
+ghost use Rattle.memdb.specs.Outcome.{Wrote, Usage, BrokenSchema, CannotRead, TooLarge, NotYet, Done, CutShort, IsOneOf, HasTooLarge, HasBroken, HasUnbuilt, IsLawful};
 
 use crate::judge::decide;
 use crate::output::write_all;
@@ -14,11 +14,13 @@ use std::thread::Threads;
 ///
 /// - 0: the answers were written, which are answers in one history;
 /// - 1: the words are no command, and the usage was written;
+/// - 2: the schema breaks a rule, and `schema RULE` was written, with the names of the table and the index where the
+///   rule has them;
 /// - 4: there was not enough memory, and nothing was written;
 /// - 5: a file can't be read, and `cannot read WORD` was written;
 /// - 6: the sink failed, and the beginning of a text was written;
 /// - 7: a file has more than 1,048,576 bytes, and `too large WORD` was written;
-/// - 8: the schema or the script isn't of the form that is built, and `not yet` was written.
+/// - 8: the schema is lawful, but it or the script isn't of the form that is built, and `not yet` was written.
 ///
 /// In this form one client is run, which waits for nobody: the runtime and the gate are not used.
 pub fn run<R: Threads + Wait + Sync, F: Files, S: Sink, G: Gate + Sync>(
@@ -33,6 +35,8 @@ pub fn run<R: Threads + Wait + Sync, F: Files, S: Sink, G: Gate + Sync>(
     ensures answered { result ≡ 0 → Wrote (S.told out.old) (S.told out.new)
         (Done words.now (F.told files.old) (F.faults files.old) (F.faults files.new)) }
     ensures usage { result ≡ 1 → Wrote (S.told out.old) (S.told out.new) (Usage words.now) }
+    ensures broken_schema { result ≡ 2 → Wrote (S.told out.old) (S.told out.new)
+        (BrokenSchema words.now (F.told files.old) (F.faults files.old) (F.faults files.new)) }
     ensures out_of_memory { result ≡ 4 → S.told out.new ≡ S.told out.old }
     ensures cannot_read { result ≡ 5 → Wrote (S.told out.old) (S.told out.new)
         (CannotRead words.now (F.told files.old) (F.reliable files.old) (F.faults files.old) (F.faults files.new)) }
@@ -42,12 +46,14 @@ pub fn run<R: Threads + Wait + Sync, F: Files, S: Sink, G: Gate + Sync>(
         (TooLarge words.now (F.told files.old) (F.faults files.old) (F.faults files.new)) }
     ensures not_yet { result ≡ 8 → Wrote (S.told out.old) (S.told out.new)
         (NotYet words.now (F.told files.old) (F.faults files.old) (F.faults files.new)) }
-    ensures no_other { IsOneOf (0 ∷ 1 ∷ 4 ∷ 5 ∷ 6 ∷ 7 ∷ 8 ∷ []) result }
+    ensures no_other { IsOneOf (0 ∷ 1 ∷ 2 ∷ 4 ∷ 5 ∷ 6 ∷ 7 ∷ 8 ∷ []) result }
 
     // Where a cause is there, its answer comes, but for want of memory and a sink that fails.
     ensures usage_comes { files_named words.now ≡ None → IsOneOf (1 ∷ 4 ∷ 6 ∷ []) result }
     ensures too_large_comes { HasTooLarge words.now (F.told files.old) (F.reliable files.old)
         (F.faults files.old) (F.faults files.new) → IsOneOf (7 ∷ 4 ∷ 6 ∷ []) result }
+    ensures broken_schema_comes { HasBroken words.now (F.told files.old) (F.reliable files.old)
+        (F.faults files.old) (F.faults files.new) → IsOneOf (2 ∷ 4 ∷ 6 ∷ []) result }
     ensures not_yet_comes { HasUnbuilt words.now (F.told files.old) (F.reliable files.old)
         (F.faults files.old) (F.faults files.new) → IsOneOf (8 ∷ 4 ∷ 6 ∷ []) result }
     ensures lawful_is_answered { IsLawful words.now (F.told files.old) (F.reliable files.old)
@@ -55,6 +61,7 @@ pub fn run<R: Threads + Wait + Sync, F: Files, S: Sink, G: Gate + Sync>(
 
     // What stays: the files, and no count falls.
     ensures same_files { F.told files.new ≡ F.told files.old }
+    ensures same_reliance { F.reliable files.new ≡ F.reliable files.old }
     ensures files_later { F.faults files.old ≤ F.faults files.new }
     ensures out_later { S.faults out.old ≤ S.faults out.new }
 {

@@ -3,21 +3,20 @@ ghost use Rattle.mdb_datum.specs.Datum.{doc_of};
 ghost use Rattle.mdb_datum.specs.Doc.{member};
 ghost use Rattle.mdb_datum.specs.Reading.{reading, read_as};
 ghost use Rattle.mdb_datum.specs.Row.{row_of};
-ghost use Rattle.memdb.specs.Lines.{part_of, put_before, document_in, only_item, short_text};
+ghost use Rattle.memdb.specs.Lines.{part_of, put_before, document_in};
+ghost use Rattle.memdb.specs.QuestionOf.{asked_text};
 ghost use Rattle.memdb.specs.Script.{after, commit, insert, question, first_by_id, has_id, row_in, text_in, text_limit, insert_in, question_in, inserts_in, questions_in, read_in, next_command, numbered, line_limit, script_of};
 ghost use Rattle.memdb.specs.ScriptOf.{rows_of, texts_of};
 ghost use Rattle.memdb.specs.Single.{IsKeyed, inserts, questions, commands};
 ghost use Rattle.memdb.specs.declared.script.ScriptError.TheVariants.{Memory};
 
 use crate::lines::{after, after_word, first_line, has_few_lines};
-use mdb_datum::{Datum, DocError, Row, Text, read_doc};
+use crate::question::{Question, TEXT_LIMIT};
+use mdb_datum::{Datum, DocError, Row, read_doc};
 use std::alloc::{AllocError, AllocFailed, Global};
 
 #[cfg(test)]
 mod tests;
-
-/// The longest text, in bytes, whose key is no longer than a key may be.
-const TEXT_LIMIT: usize = 1023;
 
 /// Why bytes are no script.
 #[derive(Clone, Copy, Debug, PartialEq, Eq)]
@@ -45,11 +44,11 @@ impl<T: Drop> From<AllocFailed<T>> for ScriptError {
 }
 
 /// A script of the form that is built: `write`, the rows that it inserts, `commit`, `read`, and
-/// the texts whose rows it asks for.
+/// its questions.
 #[derive(Drop)]
 pub struct Script {
     rows: Vec<Row>,
-    texts: Vec<Text>,
+    questions: Vec<Question>,
 }
 
 impl Script {
@@ -62,11 +61,11 @@ impl Script {
         &self.rows
     }
 
-    /// The texts whose rows it asks for, in order.
-    pub fn texts(&self) -> &[Text]
-        ensures { result.now ≡ texts_of self.now }
+    /// Its questions, in order.
+    pub fn questions(&self) -> &[Question]
+        ensures { map asked_text result.now ≡ texts_of self.now }
     {
-        &self.texts
+        &self.questions
     }
 }
 
@@ -78,7 +77,7 @@ struct Inserts<'a> {
 }
 
 /// The script that the bytes of a client's file read as, over a table and the member under its
-/// index `id`. It takes memory for the rows and the texts, and time in proportion to the bytes.
+/// index `id`. It takes memory for the rows and the questions, and time in proportion to the bytes.
 ///
 /// # Errors
 /// `Unbuilt` where the bytes are no script of the form that is built; `Memory` may come at any bytes.
@@ -103,10 +102,10 @@ pub fn read_script(
     let Some(last) = after_word(inserts.rest, b"read") else {
         return Err(ScriptError::Unbuilt);
     };
-    let texts = read_questions(alloc, table, last)?;
+    let questions = read_questions(alloc, table, last)?;
     Ok(Script {
         rows: inserts.rows,
-        texts,
+        questions,
     })
 }
 
@@ -135,21 +134,21 @@ fn read_inserts<'a>(
     Err(ScriptError::Unbuilt)
 }
 
-/// The texts of questions up to the end.
+/// The questions up to the end.
 #[tactic(auto, using(crate::proofs::ScriptLines::rest_is_shorter))]
-fn read_questions(alloc: Global, table: &str, bytes: &[u8]) -> Result<Vec<Text>, ScriptError>
-    ensures ok { IfOk result (λ texts. part_of (questions_in table.now) bytes.now ≡ Some (questions table.now texts.items)) }
-    ensures short { IfOk result (λ texts. All (λ s. length s ≤ text_limit) texts.items) }
+fn read_questions(alloc: Global, table: &str, bytes: &[u8]) -> Result<Vec<Question>, ScriptError>
+    ensures ok { IfOk result (λ qs. part_of (questions_in table.now) bytes.now ≡ Some (questions table.now (map asked_text qs.items))) }
+    ensures short { IfOk result (λ qs. All (λ s. length s ≤ text_limit) (map asked_text qs.items)) }
     ensures unbuilt { IsErrOf result ScriptError.Unbuilt → part_of (questions_in table.now) bytes.now ≡ None }
 {
-    let mut texts = Vec::new(alloc);
+    let mut questions = Vec::new(alloc);
     let mut rest = bytes;
     while let Some((line, next)) = first_line(rest) {
-        texts.push(read_question(alloc, table, line)?)?;
+        questions.push(read_question(alloc, table, line)?)?;
         rest = next;
     }
     if rest.is_empty() {
-        Ok(texts)
+        Ok(questions)
     } else {
         Err(ScriptError::Unbuilt)
     }
@@ -168,20 +167,21 @@ fn read_insert(alloc: Global, table: &str, field: &str, line: &[u8]) -> Result<R
     Ok(row_in(alloc, field, document)?)
 }
 
-/// The text of `first TABLE id [TEXT]`.
-fn read_question(alloc: Global, table: &str, line: &[u8]) -> Result<Text, ScriptError>
-    ensures ok { IfOk result (λ text. question_in table.now line.now ≡ Some (question (first_by_id table.now text))) }
-    ensures short { IfOk result (λ text. length text ≤ text_limit) }
+/// The question of `first TABLE id [TEXT]`.
+#[tactic(auto, using(crate::proofs::Questions::short_text_fits))]
+fn read_question(alloc: Global, table: &str, line: &[u8]) -> Result<Question, ScriptError>
+    ensures ok { IfOk result (λ q. question_in table.now line.now ≡ Some (question (first_by_id table.now (asked_text q)))) }
+    ensures short { IfOk result (λ q. length (asked_text q) ≤ text_limit) }
     ensures unbuilt { IsErrOf result ScriptError.Unbuilt → question_in table.now line.now ≡ None }
 {
     let Some(bytes) = after_table(line, b"first ", table, b" id ") else {
         return Err(ScriptError::Unbuilt);
     };
     let document = read_document(alloc, bytes)?;
-    let Some(text) = text_in(&document) else {
-        return Err(ScriptError::Unbuilt);
-    };
-    Ok(Text::of(alloc, text.as_str())?)
+    match Question::of(document) {
+        Some(question) => Ok(question),
+        None => Err(ScriptError::Unbuilt),
+    }
 }
 
 /// What follows a word, the table and another word.
@@ -229,33 +229,5 @@ fn has_id(value: Option<&Datum>) -> bool
     match value {
         Some(Datum::Str(text)) => !text.as_str().is_empty() && text.as_str().len() <= TEXT_LIMIT,
         _ => false,
-    }
-}
-
-/// The text in a list of one text that is no longer than a key may be.
-#[tactic(auto, using(crate::proofs::ScriptParts::text_in_steps))]
-fn text_in(document: &Datum) -> Option<&Text>
-    ensures { option_map (λ t. t.now) result ≡ text_in (read_as (doc_of document.now)) }
-{
-    short_text(only_item(document)?)
-}
-
-/// The item of a list of one item.
-fn only_item(document: &Datum) -> Option<&Datum>
-    ensures { option_map (λ d. doc_of d.now) result ≡ only_item (doc_of document.now) }
-{
-    let Datum::Items(items) = document else {
-        return None;
-    };
-    if items.len() == 1 { items.get(0) } else { None }
-}
-
-/// A text that is no longer than a key may be.
-fn short_text(document: &Datum) -> Option<&Text>
-    ensures { option_map (λ t. t.now) result ≡ short_text (doc_of document.now) }
-{
-    match document {
-        Datum::Str(text) if text.as_str().len() <= TEXT_LIMIT => Some(text),
-        _ => None,
     }
 }

@@ -156,12 +156,119 @@ fn every_other_answer_has_its_cause(rt: HostRuntime) -> Result<(), Fail> {
             words: "run S c1",
             schema: Some("{}\n"),
             client: Some("write\ncommit\nread\n"),
-            status: 8,
-            out: "not yet\n",
+            status: 2,
+            out: "schema bad-shape\n",
         },
     ];
     for case in &cases {
         check(&rt, rt.alloc(), case, None, None)?;
+    }
+    Ok(())
+}
+
+/// The run of a schema and a script.
+fn schema_run(schema: &'static str, client: &'static str, status: u8, out: &'static str) -> Case {
+    Case {
+        words: "run S c1",
+        schema: Some(schema),
+        client: Some(client),
+        status,
+        out,
+    }
+}
+
+#[test]
+fn a_schema_that_breaks_a_rule_is_told(rt: HostRuntime) -> Result<(), Fail> {
+    let cases = [
+        (
+            r#"{"memdb":1,"tables":{"t":{"indexes":{"x":{"indexer":{"kind":"text","field":"a"}}}}}}"#,
+            "schema no-id \"t\"\n",
+        ),
+        (
+            r#"{"memdb":1,"tables":{"t":{"indexes":{"id":{"indexer":{"kind":"text","field":"a"}}}}}}"#,
+            "schema id-not-unique \"t\" \"id\"\n",
+        ),
+        (
+            r#"{"memdb":1,"tables":{"t":{"indexes":{"id":{"unique":true,"indexer":{"kind":"text","field":"a"}},"x_prefix":{"indexer":{"kind":"text","field":"a"}}}}}}"#,
+            "schema bad-name \"t\" \"x_prefix\"\n",
+        ),
+        ("", "schema syntax\n"),
+        (r#"{"memdb":2,"tables":{}}"#, "schema bad-version\n"),
+        (r#"{"memdb":1,"tables":{}}"#, "schema no-tables\n"),
+        (r#"{"memdb":1,"tables":{"":1}}"#, "schema bad-name \"\"\n"),
+        (
+            r#"{"memdb":1,"tables":{"t":{"indexes":{"id":{"unique":true,"indexer":{"kind":"text","field":"a"}},"a\"b\u0001\n":1}}}}"#,
+            "schema bad-name \"t\" \"a\\\"b\\u0001\\n\"\n",
+        ),
+        (
+            r#"{"memdb":1,"tables":{"a\\b/\u00e4":1}}"#,
+            "schema bad-name \"a\\\\b/\u{e4}\"\n",
+        ),
+    ];
+    // It comes before what a script breaks.
+    for (schema, out) in cases {
+        for client in ["write\ncommit\nread\n", "commit\n", ""] {
+            let case = schema_run(schema, client, 2, out);
+            check(&rt, rt.alloc(), &case, None, None)?;
+        }
+    }
+    Ok(())
+}
+
+const FOUR_TABLES: &str = r#"{"memdb":1,"tables":{
+"keys":{"indexes":{"id":{"unique":true,"indexer":{"kind":"uuid","field":"key"}}}},
+"notes":{"indexes":{"id":{"unique":true,"indexer":{"kind":"text","field":"name"}}}},
+"rules":{"indexes":{"id":{"unique":true,"indexer":{"kind":"text","field":"name"}},
+"path":{"unique":true,"indexer":{"kind":"compound","allow_missing":true,"parts":[{"kind":"text","field":"dc"},{"kind":"text","field":"svc"}]}}}},
+"users":{"indexes":{"age":{"indexer":{"kind":"uint","field":"age","width":2}},
+"id":{"unique":true,"indexer":{"kind":"text","field":"name"}},
+"mail":{"unique":true,"allow_missing":true,"indexer":{"kind":"text","field":"mail"}},
+"tags":{"allow_missing":true,"indexer":{"kind":"text_list","field":"tags"}}}}}}"#;
+
+const TWO_TABLES: &str = r#"{"memdb":1,"tables":{
+"nodes":{"indexes":{"id":{"unique":true,"indexer":{"kind":"text","field":"node","lowercase":true}},
+"meta":{"allow_missing":true,"indexer":{"kind":"text_map","field":"meta"}},
+"uuid":{"unique":true,"allow_missing":true,"indexer":{"kind":"uuid","field":"uuid"}}}},
+"services":{"indexes":{"id":{"unique":true,"indexer":{"kind":"compound","parts":[{"kind":"text","field":"node","lowercase":true},{"kind":"text","field":"sid","lowercase":true}]}},
+"service":{"allow_missing":true,"indexer":{"kind":"text","field":"name","lowercase":true}},
+"up":{"indexer":{"kind":"conditional","field":"status","equals":"passing"}}}}}}"#;
+
+#[test]
+fn a_lawful_schema_of_another_form_is_not_built(rt: HostRuntime) -> Result<(), Fail> {
+    let schemas = [
+        FOUR_TABLES,
+        TWO_TABLES,
+        r#"{"memdb":1,"tables":{"t":{"indexes":{"id":{"unique":true,"indexer":{"kind":"uuid","field":"name"}}}}}}"#,
+        r#"{"memdb":1,"tables":{"t":{"indexes":{"id":{"unique":true,"indexer":{"kind":"text","field":"name","lowercase":true}}}}}}"#,
+        r#"{"memdb":1,"tables":{"t":{"indexes":{"id":{"unique":true,"indexer":{"kind":"text","field":"name"}},"x":{"indexer":{"kind":"text","field":"name"}}}}}}"#,
+        r#"{"memdb":1,"tables":{"t":{"indexes":{"id":{"unique":true,"indexer":{"kind":"text","field":"name"}}}},"u":{"indexes":{"id":{"unique":true,"indexer":{"kind":"text","field":"name"}}}}}}"#,
+    ];
+    for schema in schemas {
+        for client in [
+            "write\ncommit\nread\n",
+            "write\ninsert t {\"name\":\"ann\"}\ncommit\nread\n",
+        ] {
+            let case = schema_run(schema, client, 8, "not yet\n");
+            check(&rt, rt.alloc(), &case, None, None)?;
+        }
+    }
+    Ok(())
+}
+
+#[test]
+fn defaults_may_be_written_out(rt: HostRuntime) -> Result<(), Fail> {
+    let schemas = [
+        r#"{"memdb":1,"tables":{"t":{"indexes":{"id":{"unique":true,"allow_missing":false,"indexer":{"kind":"text","field":"name"}}}}}}"#,
+        r#"{"memdb":1,"tables":{"t":{"indexes":{"id":{"indexer":{"lowercase":false,"kind":"text","field":"name"},"unique":true}}}}}"#,
+    ];
+    for schema in schemas {
+        check(
+            &rt,
+            rt.alloc(),
+            &schema_run(schema, ANN, 0, ANN_OUT),
+            None,
+            None,
+        )?;
     }
     Ok(())
 }
@@ -206,12 +313,12 @@ fn a_call_of_the_sink_that_fails_leaves_a_prefix(rt: HostRuntime) -> Result<(), 
     check(&rt, rt.alloc(), &ann(0, ANN_OUT), None, Some(15))
 }
 
-/// A client's file of this many bytes, which is no script.
-fn long_client(alloc: Global, bytes: usize) -> Result<MemFiles, AllocError> {
+/// A schema, and a client's file of this many bytes, which is no script.
+fn long_client(alloc: Global, schema: &str, bytes: usize) -> Result<MemFiles, AllocError> {
     let mut files = FileList::new(alloc);
     files.push((
         Text::of(alloc, "S")?,
-        Vec::from_slice(alloc, SCHEMA.as_bytes())?,
+        Vec::from_slice(alloc, schema.as_bytes())?,
     ))?;
     files.push((Text::of(alloc, "c1")?, vec![in alloc; b'#'; bytes]?))?;
     Ok(MemFiles::of(files, CallList::new(alloc)))
@@ -220,11 +327,14 @@ fn long_client(alloc: Global, bytes: usize) -> Result<MemFiles, AllocError> {
 #[test]
 fn a_file_past_the_limit_is_told(rt: HostRuntime) -> Result<(), Fail> {
     let alloc = rt.alloc();
-    for (bytes, status, text) in [
-        (1_048_576, 8, "not yet\n"),
-        (1_048_577, 7, "too large c1\n"),
+    // The files come first, then the schema, and the script last.
+    for (schema, bytes, status, text) in [
+        (SCHEMA, 1_048_576, 8, "not yet\n"),
+        (SCHEMA, 1_048_577, 7, "too large c1\n"),
+        ("{", 1_048_576, 2, "schema syntax\n"),
+        ("{", 1_048_577, 7, "too large c1\n"),
     ] {
-        let mut files = long_client(alloc, bytes)?;
+        let mut files = long_client(alloc, schema, bytes)?;
         let mut out = MemSink::of(alloc, 64, 64, CallList::new(alloc))?;
         let words = words_of(alloc, "run S c1")?;
         assert_eq!(rt;

@@ -1,5 +1,6 @@
 // Scripts over a table `t` whose `id` is the member `name`; what each is was worked out by hand.
 use super::{ScriptError, read_script};
+use mdb_datum::Datum;
 use std::alloc::Global;
 use std::process::Abort;
 use std::test::Fail;
@@ -162,15 +163,19 @@ fn assert_rows(rt: &impl Abort, rows: &[mdb_datum::Row], want: &[&str]) -> Resul
 }
 
 #[test]
-fn rows_and_texts_stand_in_order(rt: HostRuntime) -> Result<(), Fail> {
+fn rows_and_questions_stand_in_order(rt: HostRuntime) -> Result<(), Fail> {
     let text =
         "write\ninsert t {\"name\":\"b\",\"age\":-3}\ninsert t {\"age\":4,\"name\":\"a\"}\ncommit\nread\nfirst t id [\"c\"]\nfirst t id [\"\\u0061\\n\"]\n";
     let script = read_script(rt.alloc(), "t", "name", text.as_bytes())?;
     let rows = ["{\"age\":-3,\"name\":\"b\"}", "{\"age\":4,\"name\":\"a\"}"];
     assert_rows(&rt, script.rows(), &rows)?;
-    let texts = script.texts();
-    assert_eq!(rt; texts.len(), 2);
-    assert_eq!(rt; texts[0].as_str(), "c");
-    assert_eq!(rt; texts[1].as_str(), "a\n");
+    let questions = script.questions();
+    assert_eq!(rt; questions.len(), 2);
+    for (question, text) in questions.iter().zip(["c", "a\n"]) {
+        let Some(Datum::Str(found)) = question.args().get(0) else {
+            return Err(Fail::from("no text"));
+        };
+        assert_eq!(rt; found.as_str(), text);
+    }
     Ok(())
 }

@@ -1,5 +1,6 @@
-use Rattle.std.proofs.Common.{◌≡◌, ◌≤◌, length, All}
+use Rattle.std.proofs.Common.{◌≡◌, ◌≤◌, length, map, All}
 use Rattle.memdb.specs.Lines.{part_of, put_before}
+use Rattle.memdb.specs.QuestionOf.{asked_text}
 use Rattle.memdb.specs.Script.{questions_in, text_limit}
 use Rattle.memdb.specs.Single.{questions}
 use Rattle.memdb.proofs.script.read_questions.Given as goal
@@ -7,8 +8,8 @@ use Rattle.memdb.proofs.script.read_questions.Given as goal
 -- the questions so far, and then what the rest reads as, are what all reads as
 abbrev pub invariant-loop-line : goal.invariant-loop-line
 invariant-loop-line l = record {
-  so_far : part_of (questions_in l.table) l.bytes ≡ put_before (questions l.table l.texts.items) (part_of (questions_in l.table) l.rest);
-  short : All (λ s. length s ≤ text_limit) l.texts.items;
+  so_far : part_of (questions_in l.table) l.bytes ≡ put_before (questions l.table (map asked_text l.questions.items)) (part_of (questions_in l.table) l.rest);
+  short : All (λ s. length s ≤ text_limit) (map asked_text l.questions.items);
 }
 
 abbrev pub decreases-loop-line : goal.decreases-loop-line

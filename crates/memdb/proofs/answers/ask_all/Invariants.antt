@@ -1,0 +1,12 @@
+use Rattle.std.proofs.Common.{◌≡◌, ◌+◌, ◌++◌, map, drop}
+use Rattle.radix_node.specs.Tree.{pairs_of}
+use Rattle.memdb.specs.QuestionOf.{asked_text}
+use Rattle.memdb.specs.Single.{question_replies, replies_text}
+use Rattle.memdb.proofs.answers.ask_all.Given as goal
+
+abbrev pub invariant-loop-question : goal.invariant-loop-question
+invariant-loop-question l = record {
+  counted : l.number ≡ l.first + l.question-index;
+  said : l.out.items ++ replies_text l.number (question_replies (pairs_of l.tree) (map asked_text (drop l.question-index l.questions)))
+      ≡ l.initial.out.items ++ replies_text l.first (question_replies (pairs_of l.tree) (map asked_text l.questions));
+}
