@@ -20,3 +20,7 @@ Fetches told name at buffer result =
 -- where the object fails for absent files alone, and tells its files, there is none of this name
 abbrev pub IsAbsentIfReliable : Bool → Option Contents → List ℕ → Type 0
 IsAbsentIfReliable reliable told name = IsTrue reliable → IfSome told (λ files. files name ≡ None)
+
+-- what an object tells that doesn't tell its files
+abbrev pub untold : Option Contents
+untold = None

@@ -4,3 +4,4 @@ pub mod MemFiles
 pub mod MemSink
 pub mod Script
 pub mod Sink
+pub mod Streams

@@ -1,59 +1,79 @@
-ghost use Rattle.std.specs.Prelude.{◌≡◌, ◌≤◌, length, None, IfOk, false};
+ghost use Rattle.std.specs.Prelude.{◌≡◌, ◌<◌, ◌≤◌, ◌+◌, ◌-◌, ◌^◌, min, length, false, None, IfOk, IfSome, IsSomeAnd, OnErr};
+ghost use Rattle.std.specs.Io.KnownBytes.{ReadConsumes};
+ghost use Rattle.mdb_ports.specs.Faults.{HasCause};
+ghost use Rattle.mdb_ports.specs.Files.{Fetches, IsAbsentIfReliable, untold};
 
+use crate::fault::counted;
+use crate::named_file::{NamedFile, read_piece};
 use crate::{Failed, Files};
-use std::io::{Read, Seek, SeekFrom};
 use std::marker::Model;
 use std::rt::Files as HostFiles;
-use std::{fs, io};
 
 /// The files of the host, by the names that it knows them by: a relative name is one of the folder that the program
-/// runs in. It is seen as its count of faults, and tells nothing of what the files hold.
+/// runs in. It tells nothing of what the files hold.
+///
+/// It keeps the file that it read last open, until a call names another one or fails. So a file that is read in
+/// order is one version of it, whatever happens to its name meanwhile, and needs no seek: a pipe serves too. It takes
+/// no memory. A name of more than 4,096 bytes is no file's.
 #[derive(Drop)]
 pub struct DirFiles<'a, R: HostFiles> {
     rt: &'a R,
     faults: u64,
+    opened: Option<NamedFile<R::File>>,
 }
 
 impl<'a, R: HostFiles> Model for DirFiles<'a, R> {
-    ghost use Rattle.std.specs.Prelude.{ℕ};
+    ghost use Rattle.std.specs.Prelude.{option_map};
+    ghost use Rattle.mdb_ports.specs.Streams.{DirState};
 
-    ghost Value = { ℕ };
+    ghost Value = { DirState };
 
-    ghost view = { λ d. d.faults };
+    ghost view = { λ d. record {
+      opened = option_map (λ f. record { name = f.name.bytes; place = f.place; left = R.File.remaining f.file }) d.opened;
+      faults = d.faults;
+    } };
 }
 
 impl<'a, R: HostFiles> DirFiles<'a, R> {
-    /// The files of this runtime, with no fault yet.
+    /// The files of this runtime, with none open and no fault yet.
     pub fn new(rt: &'a R) -> DirFiles<'a, R>
-        ensures { result ≡ 0 }
+        ensures { result ≡ record { opened = None; faults = 0 } }
     {
-        DirFiles { rt, faults: 0 }
-    }
-}
-
-impl<'a, R: HostFiles> Files for DirFiles<'a, R> {
-    ghost told = { λ _. None };
-
-    ghost faults = { λ d. d };
-
-    ghost reliable = { λ _. false };
-
-    fn fetch(&mut self, name: &str, at: u64, into: &mut [u8]) -> Result<usize, Failed> {
-        match read_from(self.rt, name, at, into) {
-            Ok(n) => Ok(n),
-            Err(_) => {
-                self.faults = self.faults.saturating_add(1);
-                Err(Failed)
-            }
+        DirFiles {
+            rt,
+            faults: 0,
+            opened: None,
         }
     }
 }
 
-// Opens the file for this one read: what a later call finds under the name may be another file.
-fn read_from<R: HostFiles>(rt: &R, name: &str, at: u64, into: &mut [u8]) -> io::Result<usize>
-    ensures { IfOk result (λ n. n ≤ length into.old) }
-{
-    let mut file = fs::open(rt, name)?;
-    file.seek(SeekFrom::Start(at))?;
-    file.read(into)
+impl<'a, R: HostFiles> Files for DirFiles<'a, R> {
+    ghost told = { λ _. untold };
+
+    ghost faults = { λ d. d.faults };
+
+    ghost reliable = { λ _. false };
+
+    /// Reads the file of this name once, again where a signal interrupted that. The file stays open, standing behind
+    /// what was read, and none is open after a failure.
+    fn fetch(&mut self, name: &str, at: u64, into: &mut [u8]) -> Result<usize, Failed>
+        requires { 0 < length into.old }
+        ensures same_files { untold ≡ untold }
+        ensures bound { IfOk result (λ n. n ≤ length into.old) }
+        ensures bytes { Fetches untold name.now at into.new result }
+        ensures cause { HasCause self.old.faults self.new.faults result }
+        ensures stays { false ≡ false }
+        ensures absent { OnErr result (IsAbsentIfReliable false untold name.now) }
+
+        ensures kept { IfOk result (λ n. IsSomeAnd self.new.opened
+            (λ f. (f.name ≡ name.now) × (f.place ≡ min (at + n) (2 ^ 64 - 1)))) }
+        ensures closed { OnErr result (self.new.opened ≡ None) }
+
+        // The bytes are the next ones of the file that is open, where it has the name and stands there.
+        ensures in_order { IfSome self.old.opened (λ f. f.name ≡ name.now → f.place ≡ at → IfSome self.new.opened
+            (λ g. ReadConsumes f.left g.left result into.new)) }
+    {
+        let outcome = read_piece(self.rt, &mut self.opened, name, at, into);
+        counted(outcome, &mut self.faults)
+    }
 }

@@ -10,12 +10,15 @@
 mod call_list;
 mod dir_files;
 mod failed;
+mod fault;
 mod file_list;
 mod files;
 mod gate;
 mod mem_files;
 mod mem_sink;
+mod named_file;
 mod out_sink;
+mod retry;
 mod sink;
 
 pub use call_list::CallList;

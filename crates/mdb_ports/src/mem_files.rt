@@ -1,4 +1,4 @@
-ghost use Rattle.std.specs.Prelude.{◌≡◌, ◌<◌, ◌≤◌, ◌-◌, ◌↔◌, ◌⊎◌, min, length, IsErr, IfOk, IfSome, OnErr, None, Some};
+ghost use Rattle.std.specs.Prelude.{◌≡◌, ◌<◌, ◌≤◌, ◌-◌, ◌↔◌, ◌⊎◌, drop, min, length, IsErr, IfOk, IfSome, OnErr, None, Some};
 ghost use Rattle.mdb_ports.specs.Files.{Fetches, Fetched, IsAbsentIfReliable};
 ghost use Rattle.mdb_ports.specs.Faults.{HasCause};
 ghost use Rattle.mdb_ports.specs.Script.{IsFailingCall, is_empty};
@@ -64,6 +64,7 @@ impl Files for MemFiles {
         ensures stays { is_empty self.new.fails ≡ is_empty self.old.fails }
         ensures absent { OnErr result
             (IsAbsentIfReliable (is_empty self.old.fails) (Some (listed self.old.files)) name.now) }
+        ensures rest { IfOk result (λ n. drop n into.new ≡ drop n into.old) }
         ensures into_kept { OnErr result (into.new ≡ into.old) }
     {
         self.calls = self.calls.saturating_add(1);
@@ -82,6 +83,7 @@ fn copy_from(bytes: &[u8], at: u64, into: &mut [u8]) -> usize
     requires { 0 < length into.old }
     ensures fetched { Fetched bytes.now at into.new result }
     ensures amount { result ≡ min (length into.old) (length bytes.now - at) }
+    ensures rest { drop result into.new ≡ drop result into.old }
 {
     let start = bytes.len().min(at as usize);
     let n = into.len().min(bytes.len() - start);
