@@ -6,7 +6,8 @@ use Rattle.mdb_ports.specs.declared.failed.Failed.{Failed}
 abbrev pub Rose : ℕ → ℕ → Type 0
 Rose before now = min (before + 1) (2 ^ 64 - 1) ≤ now
 
--- A failure raises the count by one, up to the end of a `u64`, so that the count rose; after success it is as before.
+-- A failure raises the count by one, up to the end of a `u64`, so that the count rose; after
+-- success it is as before.
 pub record HasCause {T : Type 0} (before now : ℕ) (result : Result T Failed) : Type 0 where
   pub later : before ≤ now
   pub failed : OnErr result (now ≡ min (before + 1) (2 ^ 64 - 1))

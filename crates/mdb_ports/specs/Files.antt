@@ -6,7 +6,8 @@ use Rattle.mdb_ports.specs.declared.failed.Failed.{Failed}
 abbrev pub Contents : Type 0
 Contents = List ℕ → Option (List ℕ)
 
--- n bytes of a file from an offset on lie at the front of a buffer; none exactly where the offset is at or past the end
+-- n bytes of a file from an offset on lie at the front of a buffer; none exactly where the offset
+-- is at or past the end
 pub record Fetched (bytes : List ℕ) (at : ℕ) (buffer : List ℕ) (n : ℕ) : Type 0 where
   pub held : take n buffer ≡ take n (drop at bytes)
   pub there : n ≤ length (drop at bytes)
@@ -15,7 +16,8 @@ pub record Fetched (bytes : List ℕ) (at : ℕ) (buffer : List ℕ) (n : ℕ) :
 -- what a fetch gives where the object tells its files: an absent file gives nothing
 abbrev pub Fetches : Option Contents → List ℕ → ℕ → List ℕ → Result ℕ Failed → Type 0
 Fetches told name at buffer result =
-    IfSome told (λ files. IfOk result (λ n. (bytes : List ℕ) × (files name ≡ Some bytes) × Fetched bytes at buffer n))
+    IfSome told (λ files. IfOk result
+    (λ n. (bytes : List ℕ) × (files name ≡ Some bytes) × Fetched bytes at buffer n))
 
 -- where the object fails for absent files alone, and tells its files, there is none of this name
 abbrev pub IsAbsentIfReliable : Bool → Option Contents → List ℕ → Type 0

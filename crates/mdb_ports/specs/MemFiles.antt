@@ -13,7 +13,8 @@ abbrev pub listed : List NamedBytes → List ℕ → Option (List ℕ)
 listed [] name = None
 listed (f ∷ fs) name = if bytes_eq f.0 name then Some f.1 else listed fs name
 
--- what `MemFiles` holds: its files, the numbers of the calls that fail, and how many calls and faults there were
+-- what `MemFiles` holds: its files, the numbers of the calls that fail, and how many calls and
+-- faults there were
 pub record FileScript : Type 0 where
   pub files : List NamedBytes
   pub fails : List ℕ

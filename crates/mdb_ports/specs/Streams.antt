@@ -6,7 +6,8 @@ pub record OutState : Type 0 where
   pub written : Option (List ℕ)
   pub faults : ℕ
 
--- a file that is open: its name, the offset where a read begins, and the bytes from there on where it tells them
+-- a file that is open: its name, the offset where a read begins, and the bytes from there on where
+-- it tells them
 pub record OpenFile : Type 0 where
   pub name : List ℕ
   pub place : ℕ

@@ -9,12 +9,12 @@ use crate::{Failed, Files};
 use std::marker::Model;
 use std::rt::Files as HostFiles;
 
-/// The files of the host, by the names that it knows them by: a relative name is one of the folder that the program
-/// runs in. It tells nothing of what the files hold.
+/// The files of the host, by the names that it knows them by: a relative name is one of the folder
+/// that the program runs in. It tells nothing of what the files hold.
 ///
-/// It keeps the file that it read last open, until a call names another one or fails. So a file that is read in
-/// order is one version of it, whatever happens to its name meanwhile, and needs no seek: a pipe serves too. It takes
-/// no memory. A name of more than 4,096 bytes is no file's.
+/// It keeps the file that it read last open, until a call names another one or fails. So a file
+/// that is read in order is one version of it, whatever happens to its name meanwhile, and needs no
+/// seek: a pipe serves too. It takes no memory. A name of more than 4,096 bytes is no file's.
 #[derive(Drop)]
 pub struct DirFiles<'a, R: HostFiles> {
     rt: &'a R,
@@ -29,7 +29,11 @@ impl<'a, R: HostFiles> Model for DirFiles<'a, R> {
     ghost Value = { DirState };
 
     ghost view = { λ d. record {
-      opened = option_map (λ f. record { name = f.name.bytes; place = f.place; left = R.File.remaining f.file }) d.opened;
+      opened = option_map (λ f. record {
+        name = f.name.bytes;
+        place = f.place;
+        left = R.File.remaining f.file;
+      }) d.opened;
       faults = d.faults;
     } };
 }
@@ -54,8 +58,8 @@ impl<'a, R: HostFiles> Files for DirFiles<'a, R> {
 
     ghost reliable = { λ _. false };
 
-    /// Reads the file of this name once, again where a signal interrupted that. The file stays open, standing behind
-    /// what was read, and none is open after a failure.
+    /// Reads the file of this name once, again where a signal interrupted that. The file stays
+    /// open, standing behind what was read, and none is open after a failure.
     fn fetch(&mut self, name: &str, at: u64, into: &mut [u8]) -> Result<usize, Failed>
         requires { 0 < length into.old }
         ensures same_files { untold ≡ untold }
@@ -69,9 +73,10 @@ impl<'a, R: HostFiles> Files for DirFiles<'a, R> {
             (λ f. (f.name ≡ name.now) × (f.place ≡ min (at + n) (2 ^ 64 - 1)))) }
         ensures closed { OnErr result (self.new.opened ≡ None) }
 
-        // The bytes are the next ones of the file that is open, where it has the name and stands there.
-        ensures in_order { IfSome self.old.opened (λ f. f.name ≡ name.now → f.place ≡ at → IfSome self.new.opened
-            (λ g. ReadConsumes f.left g.left result into.new)) }
+        // The bytes are the next ones of the file that is open, where it has the name and stands
+        // there.
+        ensures in_order { IfSome self.old.opened (λ f. f.name ≡ name.now → f.place ≡ at
+            → IfSome self.new.opened (λ g. ReadConsumes f.left g.left result into.new)) }
     {
         let outcome = read_piece(self.rt, &mut self.opened, name, at, into);
         counted(outcome, &mut self.faults)

@@ -5,7 +5,8 @@ use mdb_datum::Text;
 use std::alloc::{AllocError, Global};
 use std::marker::Model;
 
-/// Files by their names, in the order in which they were listed. It is seen as a list of names and bytes.
+/// Files by their names, in the order in which they were listed. It is seen as a list of names and
+/// bytes.
 #[derive(Drop)]
 pub struct FileList {
     files: Vec<(Text, Vec<u8>)>,
@@ -32,13 +33,15 @@ impl FileList {
 
     /// Adds a file at the end: its name and its bytes. After `AllocError` the list is unchanged.
     pub fn push(&mut self, item: (Text, Vec<u8>)) -> Result<(), AllocError>
-        ensures { self.new ≡ (if is_ok result then self.old ++ (item.0, item.1.items) ∷ [] else self.old) }
+        ensures { self.new
+            ≡ (if is_ok result then self.old ++ (item.0, item.1.items) ∷ [] else self.old) }
     {
         self.files.push(item)?;
         Ok(())
     }
 
-    /// The bytes of the first file of this name, or `None` where there is none. It looks at each file.
+    /// The bytes of the first file of this name, or `None` where there is none. It looks at each
+    /// file.
     pub(crate) fn find(&self, name: &str) -> Option<&[u8]>
         ensures { option_map (λ bytes. bytes.now) result ≡ listed self.now name.now }
     {

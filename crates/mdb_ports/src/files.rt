@@ -15,8 +15,9 @@ pub trait Files {
     /// Whether only a file that isn't there fails.
     ghost reliable: { Self → Bool };
 
-    /// Reads bytes of the file of this name from the offset `at` on, in bytes, into the front of `into`, and gives
-    /// how many. `Ok(0)` means that `at` is at or past the file's end. A file that isn't there is `Failed`.
+    /// Reads bytes of the file of this name from the offset `at` on, in bytes, into the front of
+    /// `into`, and gives how many. `Ok(0)` means that `at` is at or past the file's end. A file
+    /// that isn't there is `Failed`.
     fn fetch(&mut self, name: &str, at: u64, into: &mut [u8]) -> Result<usize, Failed>
         requires { 0 < length into.old }
         ensures same_files { told self.new ≡ told self.old }
@@ -24,5 +25,6 @@ pub trait Files {
         ensures bytes { Fetches (told self.old) name.now at into.new result }
         ensures cause { HasCause (faults self.old) (faults self.new) result }
         ensures stays { reliable self.new ≡ reliable self.old }
-        ensures absent { OnErr result (IsAbsentIfReliable (reliable self.old) (told self.old) name.now) };
+        ensures absent { OnErr result
+            (IsAbsentIfReliable (reliable self.old) (told self.old) name.now) };
 }

@@ -1,10 +1,11 @@
-//! The outside as traits: files that are read, a sink that is written, and a gate at each line of a script.
-//! Each trait counts its faults, in contracts alone. Where an object tells its files or its bytes, a call's clauses
-//! say what it read or wrote; a real file or stream tells nothing, and its clauses bound the counts and name the
-//! cause of a failure. The layers above see the three traits, and a program chooses the real ones.
+//! The outside as traits: files that are read, a sink that is written, and a gate at each line of a
+//! script. Each trait counts its faults, in contracts alone. Where an object tells its files or its
+//! bytes, a call's clauses say what it read or wrote; a real file or stream tells nothing, and its
+//! clauses bound the counts and name the cause of a failure. The layers above see the three traits,
+//! and a program chooses the real ones.
 //!
-//! `MemFiles` and `MemSink` stand in memory and fail at the calls that they are told. `DirFiles` and `OutSink` are
-//! the thin real ends.
+//! `MemFiles` and `MemSink` stand in memory and fail at the calls that they are told. `DirFiles`
+//! and `OutSink` are the thin real ends.
 #![tactic(auto)]
 
 mod call_list;

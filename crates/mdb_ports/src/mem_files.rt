@@ -7,9 +7,11 @@ ghost use Rattle.mdb_ports.specs.MemFiles.{listed, after_fetch};
 use crate::{CallList, Failed, FileList, Files};
 use std::marker::Model;
 
-/// Files in memory, of which chosen calls fail. It tells its files; of two files of one name the first is meant.
+/// Files in memory, of which chosen calls fail. It tells its files; of two files of one name the
+/// first is meant.
 ///
-/// It counts its calls from 1, up to the end of a `u64`, where the number of every further call stands.
+/// It counts its calls from 1, up to the end of a `u64`, where the number of every further call
+/// stands.
 #[derive(Drop)]
 pub struct MemFiles {
     files: FileList,
@@ -23,7 +25,12 @@ impl Model for MemFiles {
 
     ghost Value = { FileScript };
 
-    ghost view = { λ m. record { files = m.files; fails = m.fails; calls = m.calls; faults = m.faults } };
+    ghost view = { λ m. record {
+      files = m.files;
+      fails = m.fails;
+      calls = m.calls;
+      faults = m.faults;
+    } };
 }
 
 impl MemFiles {
@@ -47,8 +54,8 @@ impl Files for MemFiles {
 
     ghost reliable = { λ m. is_empty m.fails };
 
-    /// Fetches as many bytes as the buffer and what is left of the file allow. It fails exactly where its number is
-    /// among the calls that fail, or the file is absent.
+    /// Fetches as many bytes as the buffer and what is left of the file allow. It fails exactly
+    /// where its number is among the calls that fail, or the file is absent.
     fn fetch(&mut self, name: &str, at: u64, into: &mut [u8]) -> Result<usize, Failed>
         requires { 0 < length into.old }
         ensures same_files { Some (listed self.new.files) ≡ Some (listed self.old.files) }

@@ -10,8 +10,8 @@ use std::marker::Model;
 
 /// Bytes gathered in memory, up to a room, of which chosen calls fail. It tells its bytes.
 ///
-/// It takes its memory when it is made, so `put` takes none. It counts its calls from 1, up to the end of a `u64`,
-/// where the number of every further call stands.
+/// It takes its memory when it is made, so `put` takes none. It counts its calls from 1, up to the
+/// end of a `u64`, where the number of every further call stands.
 #[derive(Drop)]
 pub struct MemSink {
     bytes: Vec<u8>,
@@ -28,14 +28,22 @@ impl Model for MemSink {
 
     ghost Value = { SinkScript };
 
-    ghost view = { λ s. record { bytes = s.bytes.items; room = s.room; most = s.most; fails = s.fails; calls = s.calls; faults = s.faults } };
+    ghost view = { λ s. record {
+      bytes = s.bytes.items;
+      room = s.room;
+      most = s.most;
+      fails = s.fails;
+      calls = s.calls;
+      faults = s.faults;
+    } };
 
-    ghost invariant = { λ s. (1 ≤ s.most) × (vec_len s.bytes ≤ s.room) × (s.room ≤ vec_capacity s.bytes) };
+    ghost invariant = { λ s.
+        (1 ≤ s.most) × (vec_len s.bytes ≤ s.room) × (s.room ≤ vec_capacity s.bytes) };
 }
 
 impl MemSink {
-    /// An empty sink with room for `room` bytes, that takes at most `most` bytes a call. The calls so numbered fail.
-    /// It takes the memory for the room.
+    /// An empty sink with room for `room` bytes, that takes at most `most` bytes a call. The calls
+    /// so numbered fail. It takes the memory for the room.
     pub fn of(
         alloc: Global,
         room: usize,
@@ -75,8 +83,8 @@ impl Sink for MemSink {
 
     ghost faults = { λ s. s.faults };
 
-    /// Takes as many bytes as `most`, the piece and the room left allow. It fails exactly where its number is among
-    /// the calls that fail, or the sink holds `room` bytes.
+    /// Takes as many bytes as `most`, the piece and the room left allow. It fails exactly where its
+    /// number is among the calls that fail, or the sink holds `room` bytes.
     fn put(&mut self, piece: &[u8]) -> Result<usize, Failed>
         requires { 0 < length piece.now }
         ensures bound { IfOk result (λ n. (1 ≤ n) × (n ≤ length piece.now)) }

@@ -11,7 +11,8 @@ use std::rt::Files as HostFiles;
 // The room for a name, in bytes. The host opens no file by a longer one.
 const NAME_ROOM: usize = 4096;
 
-/// An open file with the name that it was opened by, and the offset of the byte that a read gives next.
+/// An open file with the name that it was opened by, and the offset of the byte that a read gives
+/// next.
 ///
 /// The name has room of its own, so that keeping it takes no memory.
 #[derive(Drop)]
@@ -34,8 +35,8 @@ impl<F> NamedFile<F> {
     }
 }
 
-/// Reads bytes of the file of this name from an offset on into the front of a buffer, and gives how many. The file
-/// that it read stays open, and none does after a failure.
+/// Reads bytes of the file of this name from an offset on into the front of a buffer, and gives how
+/// many. The file that it read stays open, and none does after a failure.
 pub(crate) fn read_piece<R: HostFiles>(
     rt: &R,
     opened: &mut Option<NamedFile<R::File>>,
@@ -47,8 +48,9 @@ pub(crate) fn read_piece<R: HostFiles>(
     ensures kept { IfOk result (λ n. IsSomeAnd opened.new
         (λ f. (f.name.bytes ≡ name.now) × (f.place ≡ min (at + n) (2 ^ 64 - 1)))) }
     ensures closed { OnErr result (opened.new ≡ None) }
-    ensures in_order { IfSome opened.old (λ f. f.name.bytes ≡ name.now → f.place ≡ at → IfSome opened.new
-        (λ g. ReadConsumes (R.File.remaining f.file) (R.File.remaining g.file) result into.new)) }
+    ensures in_order { IfSome opened.old (λ f. f.name.bytes ≡ name.now → f.place ≡ at
+        → IfSome opened.new (λ g.
+        ReadConsumes (R.File.remaining f.file) (R.File.remaining g.file) result into.new)) }
 {
     let mut file = file_named(rt, opened.take(), name)?;
     let n = file.read_from(at, into)?;
@@ -56,8 +58,8 @@ pub(crate) fn read_piece<R: HostFiles>(
     Ok(n)
 }
 
-// The file of this name: the one that is open, as it stands, where it has the name, or else one that is opened now,
-// at its front. A file that was open under another name is closed.
+// The file of this name: the one that is open, as it stands, where it has the name, or else one
+// that is opened now, at its front. A file that was open under another name is closed.
 fn file_named<R: HostFiles>(
     rt: &R,
     opened: Option<NamedFile<R::File>>,
@@ -85,8 +87,8 @@ fn open_named<R: HostFiles>(rt: &R, name: &str) -> io::Result<NamedFile<R::File>
 }
 
 impl<F: Read + Seek> NamedFile<F> {
-    /// Reads bytes from an offset on into the front of a buffer, and gives how many. Where the file stands there it
-    /// is only read, so a file that can't seek serves too, in order.
+    /// Reads bytes from an offset on into the front of a buffer, and gives how many. Where the file
+    /// stands there it is only read, so a file that can't seek serves too, in order.
     pub(crate) fn read_from(&mut self, at: u64, into: &mut [u8]) -> io::Result<usize>
         ensures bound { IfOk result (λ n. n ≤ length into.old) }
         ensures place { IfOk result (λ n. self.new.place ≡ min (at + n) (2 ^ 64 - 1)) }
@@ -106,7 +108,8 @@ impl<F: Read + Seek> NamedFile<F> {
         ensures name { self.new.name ≡ self.old.name }
         ensures there { self.old.place ≡ at → (IsOk result × (self.new ≡ self.old)) }
         ensures moves { self.old.place ≢ at
-            → MovesTo (F.stream_position self.old.file) (F.stream_position self.new.file) at result }
+            → MovesTo (F.stream_position self.old.file) (F.stream_position self.new.file) at
+            result }
     {
         if self.place != at {
             self.file.seek(SeekFrom::Start(at))?;

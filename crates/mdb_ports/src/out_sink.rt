@@ -9,8 +9,8 @@ use crate::{Failed, Sink};
 use std::io::{self, Printer, Write};
 use std::marker::Model;
 
-/// A stream that is written to, as standard output. As a sink it tells nothing of what was written; its own clauses
-/// say what a stream that tells its bytes has then.
+/// A stream that is written to, as standard output. As a sink it tells nothing of what was written;
+/// its own clauses say what a stream that tells its bytes has then.
 ///
 /// Nothing is kept back: what a call took has been given to the stream.
 #[derive(Drop)]
@@ -44,8 +44,8 @@ impl<W: Write> Sink for OutSink<W> {
 
     ghost faults = { λ s. s.faults };
 
-    /// Writes the front of `piece` in one call of the stream, made again where a signal interrupted it. A stream that
-    /// takes no byte has failed.
+    /// Writes the front of `piece` in one call of the stream, made again where a signal interrupted
+    /// it. A stream that takes no byte has failed.
     fn put(&mut self, piece: &[u8]) -> Result<usize, Failed>
         requires { 0 < length piece.now }
         ensures bound { IfOk result (λ n. (1 ≤ n) × (n ≤ length piece.now)) }
@@ -53,7 +53,8 @@ impl<W: Write> Sink for OutSink<W> {
         ensures kept { OnErr result (untold ≡ untold) }
         ensures cause { HasCause self.old.faults self.new.faults result }
 
-        ensures written { IfOk result (λ n. Appends self.old.written self.new.written (take n piece.now)) }
+        ensures written { IfOk result
+            (λ n. Appends self.old.written self.new.written (take n piece.now)) }
         ensures unwritten { OnErr result (Keeps self.old.written self.new.written) }
     {
         let outcome = write_retrying(&mut self.to, piece);

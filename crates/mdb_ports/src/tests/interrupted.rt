@@ -14,7 +14,8 @@ fn interrupts(left: &Cell<u32>) -> bool {
     count > 0
 }
 
-// An output of which the first calls are interrupted, and the others take at most so many bytes, or fail.
+// An output of which the first calls are interrupted, and the others take at most so many bytes, or
+// fail.
 #[derive(Drop)]
 struct FakeOutput {
     interruptions: Cell<u32>,
@@ -45,7 +46,8 @@ impl Print for FakeOutput {
     }
 }
 
-// Each row: how many calls are interrupted, how many bytes a call takes, and what a put of three bytes answers.
+// Each row: how many calls are interrupted, how many bytes a call takes, and what a put of three
+// bytes answers.
 const OUTPUTS: [(u32, Option<usize>, Result<usize, Failed>); 6] = [
     (0, Some(9), Ok(3)),
     (0, Some(2), Ok(2)),
@@ -73,7 +75,8 @@ fn a_short_or_interrupted_write_is_told_as_it_was(rt: HostRuntime) {
     }
 }
 
-// A pipe: its bytes come once, two at most a read, and it can't seek. The first reads are interrupted.
+// A pipe: its bytes come once, two at most a read, and it can't seek. The first reads are
+// interrupted.
 #[derive(Drop)]
 struct Pipe {
     interruptions: Cell<u32>,

@@ -17,7 +17,8 @@ const FETCHES: [(&str, u64, Result<usize, Failed>, &[u8; 3]); 8] = [
     ("c", 0, Err(Failed), b"..."),
 ];
 
-// Each row: the call that fails, and what five puts of ten bytes answer, seven at most a call and 20 in all.
+// Each row: the call that fails, and what five puts of ten bytes answer, seven at most a call and
+// 20 in all.
 const PUTS: [(u64, [Result<usize, Failed>; 5]); 4] = [
     (1, [Err(Failed), Ok(7), Ok(7), Ok(6), Err(Failed)]),
     (2, [Ok(7), Err(Failed), Ok(7), Ok(6), Err(Failed)]),
