@@ -3,16 +3,12 @@ use Rattle.std.proofs.Common.{◌≡◌, ℕ, ◌<◌, ◌≤◌, List, length, 
 use Rattle.std.specs.List.{slice_get}
 use Rattle.std.proofs.lemmas.Option.{slice_get-map, slice_get_read, slice_get_past}
 use Rattle.mdb_datum.specs.Doc.{Doc, text, Field}
-use Rattle.mdb_datum.specs.Datum.{doc_of, items_of, members_of, datum_step, items_step, members_step}
+use Rattle.mdb_datum.specs.Datum.{doc_of, field_of, items_of, members_of, datum_step, items_step, members_step}
 use Rattle.mdb_datum.specs.declared.datum.Datum.{Datum, the_lemmas}
 use Rattle.mdb_datum.specs.declared.datum.Datum.TheVariants.{Str}
 use Rattle.mdb_datum.specs.declared.datum.Items.{Items, out-Items, fold_out-Items}
 use Rattle.mdb_datum.specs.declared.datum.Members.{Members, out-Members, fold_out-Members}
 use Rattle.mdb_datum.specs.declared.text.Text.{Text}
-
--- what a pair stands for
-abbrev pub field_of : Text × Datum → Field
-field_of p = (p.0, doc_of p.1)
 
 pub text_level : (s : List ℕ) → doc_of (Str s) ≡ text s
 text_level s = search (rules, the_lemmas)

@@ -1,3 +1,4 @@
+mod Found
 pub mod Levels
 pub mod Numbers
 pub mod OnLiterals

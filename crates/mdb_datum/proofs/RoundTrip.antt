@@ -26,7 +26,7 @@ use Rattle.mdb_datum.specs.Canonical.{FitsWord, names_in, IsRegular, AreRegular,
 use Rattle.mdb_datum.specs.Doc as doc
 use Rattle.mdb_datum.specs.Doc.{Doc, DocList, FieldList}
 use Rattle.mdb_datum.specs.Reading.{reading, read_as, or_not_whole, whole_doc, whole_docs, whole_fields}
-use Rattle.mdb_datum.specs.Tokens.{json_of, json_items, json_members, doc_tokens}
+use Rattle.mdb_datum.specs.inner.Tokens.{json_of, json_items, json_members, doc_tokens}
 use Rattle.mdb_datum.specs.Written.{comma, compact, docs_text, fields_text}
 use Rattle.mdb_datum.proofs.Numbers.{IsNumber-signed_decimal}
 use Rattle.mdb_datum.proofs.Reading.{reading-shallow}

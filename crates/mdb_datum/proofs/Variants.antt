@@ -1,6 +1,6 @@
 -- The document of each variant, and the lists of the plain data there and back.
-use Rattle.std.proofs.Common.{rules, ◌≡◌, refl, ap, ℕ, List, [], ◌∷◌}
-use Rattle.mdb_datum.specs.Doc.{Doc, nil, flag, whole, text, list, object, Field, doc_list, docs_in, field_list, fields_in}
+use Rattle.std.proofs.Common.{rules, ◌≡◌, refl, ap, List, [], ◌∷◌}
+use Rattle.mdb_datum.specs.Doc.{Doc, text, list, object, Field, doc_list, docs_in, field_list, fields_in}
 use Rattle.mdb_datum.specs.Datum.{doc_of, items_of, members_of}
 use Rattle.mdb_datum.specs.declared.datum.Datum as datum
 use Rattle.mdb_datum.specs.declared.datum.Datum.{the_lemmas}

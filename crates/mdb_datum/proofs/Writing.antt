@@ -3,7 +3,7 @@ use Rattle.std.proofs.Common.{◌≡◌, ℕ, List, [], ◌∷◌, ◌++◌, Boo
 use Rattle.json.specs.Token.{Token}
 use Rattle.json.specs.Print.{print, print_from, quoted}
 use Rattle.mdb_datum.specs.Doc.{Doc, nil, flag, whole, text, list, object, DocList, no_docs, doc, FieldList, no_fields, field}
-use Rattle.mdb_datum.specs.Tokens.{doc_tokens, docs_tokens, fields_tokens}
+use Rattle.mdb_datum.specs.inner.Tokens.{doc_tokens, docs_tokens, fields_tokens}
 use Rattle.mdb_datum.specs.Written.{comma, compact, docs_text, fields_text}
 
 regroup : (q a b c : List ℕ) → (q ++ 58 ∷ []) ++ (a ++ (b ++ c)) ≡ (q ++ 58 ∷ (a ++ b)) ++ c

@@ -1,9 +1,8 @@
 -- The form of a document that was read from a text. The text of a document in this form reads as that document.
 use Rattle.std.specs.Prelude.{ℕ, suc, ◌^◌, ◌<◌, ◌≤◌, max, ℤ, pos, negsuc, List, [], ◌∷◌, ⊤}
-use Rattle.std.specs.Cmp.Lexicographic.{slice_cmp}
 use Rattle.std.specs.List.Sorted.{IsStrictlySortedBy}
-use Rattle.std.specs.Ordering.{nat_cmp}
 use Rattle.std.specs.Str.{IsUtf8}
+use Rattle.mdb_datum.specs.Bytes.{byte_order}
 use Rattle.mdb_datum.specs.Doc.{Doc, nil, flag, whole, text, list, object, DocList, no_docs, doc, FieldList, no_fields, field}
 use Rattle.mdb_datum.specs.Reading.{nesting_limit}
 
@@ -17,6 +16,10 @@ abbrev pub names_in : FieldList → List (List ℕ)
 names_in no_fields = []
 names_in (field name d fs) = name ∷ names_in fs
 
+-- the names of an object rise by their bytes, so that none comes twice
+abbrev pub NamesRise : FieldList → Type 0
+NamesRise fs = IsStrictlySortedBy byte_order (names_in fs)
+
 -- at every level, numbers fit 64 bits, texts and names are UTF-8, and the names of an object rise by their bytes
 abbrev mutual
   pub IsRegular : Doc → Type 0
@@ -25,7 +28,7 @@ abbrev mutual
   IsRegular (whole z) = FitsWord z
   IsRegular (text s) = IsUtf8 s
   IsRegular (list ds) = AreRegular ds
-  IsRegular (object fs) = IsStrictlySortedBy (slice_cmp nat_cmp) (names_in fs) × HaveRegularMembers fs
+  IsRegular (object fs) = NamesRise fs × HaveRegularMembers fs
 
   pub AreRegular : DocList → Type 0
   AreRegular no_docs = ⊤

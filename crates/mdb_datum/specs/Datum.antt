@@ -4,6 +4,7 @@ use Rattle.mdb_datum.specs.Doc.{Doc, nil, flag, whole, text, list, object, Field
 use Rattle.mdb_datum.specs.declared.datum.Datum.{Datum, Datum-F, fold-Datum}
 use Rattle.mdb_datum.specs.declared.datum.Items.{Items, Items-F, fold-Items}
 use Rattle.mdb_datum.specs.declared.datum.Members.{Members, Members-F, fold-Members}
+use Rattle.mdb_datum.specs.declared.text.Text.{Text}
 
 -- one level: what stands below is a document, the documents of a list or the members of an object
 abbrev pub datum_step : Datum-F Doc (List Doc) (List Field) → Doc
@@ -31,3 +32,7 @@ items_of = fold-Items Doc (List Doc) (List Field) datum_step items_step members_
 -- the members of an object
 abbrev pub members_of : Members → List Field
 members_of = fold-Members Doc (List Doc) (List Field) datum_step items_step members_step
+
+-- a name with its value, as a member of an object
+abbrev pub field_of : Text × Datum → Field
+field_of p = (p.0, doc_of p.1)

@@ -1,7 +1,9 @@
+pub mod Bytes
 pub mod Canonical
 pub mod Datum
 pub mod Doc
+pub mod Pairs
 pub mod Reading
 pub mod Row
-pub mod Tokens
 pub mod Written
+pub mod inner

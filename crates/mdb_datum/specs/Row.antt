@@ -1,9 +1,17 @@
--- What a shared row stands for: the members of its object.
+-- A row: an object in canonical form, seen as its members.
 use Rattle.std.specs.Prelude.{List}
-use Rattle.std.specs.Arc.{arc_value}
-use Rattle.mdb_datum.specs.Doc.{Field}
-use Rattle.mdb_datum.specs.Datum.{members_of}
-use Rattle.mdb_datum.specs.declared.row.Row.{Row}
+use Rattle.mdb_datum.specs.Bytes.{Bytes}
+use Rattle.mdb_datum.specs.Canonical.{IsCanonical}
+use Rattle.mdb_datum.specs.Doc.{Field, object, field_list}
 
-abbrev pub row_of : Row → List Field
-row_of r = members_of (arc_value r.members)
+-- the members of a row's object, in order
+abbrev pub Fields : Type 0
+Fields = List Field
+
+-- a key, and the row under it
+abbrev pub Pair : Type 0
+Pair = Bytes × Fields
+
+-- the object of these members is in canonical form: their names rise, and so it is at every level below
+abbrev pub IsCanonicalRow : Fields → Type 0
+IsCanonicalRow fields = IsCanonical (object (field_list fields))

@@ -1,9 +1,12 @@
-ghost use Rattle.std.specs.Prelude.{◌≡◌, ◌++◌, ◌∷◌, [], length, is_ok, if◌then◌else◌, slice_get, option_map};
-ghost use Rattle.mdb_datum.specs.Datum.{doc_of, items_of, members_of};
-ghost use Rattle.mdb_datum.specs.Doc.{member};
+ghost use Rattle.std.specs.Prelude.{◌≡◌, ◌++◌, ◌∷◌, [], length, is_ok, if◌then◌else◌, slice_get, option_map, map};
+ghost use Rattle.std.specs.Slice.Iter.{iter_rest};
+ghost use Rattle.mdb_datum.specs.Canonical.{NamesRise};
+ghost use Rattle.mdb_datum.specs.Datum.{doc_of, field_of, items_of, members_of};
+ghost use Rattle.mdb_datum.specs.Doc.{field_list, member};
 
 use crate::Text;
 use std::alloc::{AllocError, Global};
+use std::slice;
 
 /// A JSON value whose numbers are whole.
 #[cycle(datum)]
@@ -74,6 +77,14 @@ impl Items {
             None
         }
     }
+
+    /// The items, in order.
+    #[tactic(auto, using(crate::proofs::Levels::items_level))]
+    pub fn iter(&self) -> slice::Iter<'_, Datum>
+        ensures { map doc_of (iter_rest result) ≡ items_of self.now }
+    {
+        self.items.iter()
+    }
 }
 
 impl Members {
@@ -115,6 +126,22 @@ impl Members {
         None
     }
 
+    /// The value under a name, where the names rise. It takes time in the logarithm of the number
+    /// of members.
+    pub(crate) fn find(&self, name: &str) -> Option<&Datum>
+        requires { NamesRise (field_list (members_of self.now)) }
+        ensures { option_map (λ d. doc_of d.now) result ≡ member name.now (members_of self.now) }
+    {
+        let name = name.as_bytes();
+        match self
+            .pairs
+            .binary_search_by(|pair| pair.0.as_str().as_bytes().cmp(&name))
+        {
+            Ok(at) => Some(&self.pairs[at].1),
+            Err(_) => None,
+        }
+    }
+
     /// The member at a place, counted from 0.
     #[tactic(auto, using(crate::proofs::Levels::pair_there, crate::proofs::Levels::pair_past))]
     pub fn pair(&self, at: usize) -> Option<(&Text, &Datum)>
@@ -127,5 +154,13 @@ impl Members {
         } else {
             None
         }
+    }
+
+    /// The members, in order: each a name and its value.
+    #[tactic(auto, using(crate::proofs::Levels::members_level))]
+    pub fn iter(&self) -> slice::Iter<'_, (Text, Datum)>
+        ensures { map field_of (iter_rest result) ≡ members_of self.now }
+    {
+        self.pairs.iter()
     }
 }

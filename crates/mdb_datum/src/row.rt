@@ -1,14 +1,14 @@
-ghost use Rattle.std.specs.Prelude.{◌≡◌, IfOk};
-ghost use Rattle.mdb_datum.specs.Datum.{members_of};
-ghost use Rattle.mdb_datum.specs.Canonical.{IsCanonical};
-ghost use Rattle.mdb_datum.specs.Doc.{object, field_list};
+ghost use Rattle.std.specs.Prelude.{◌≡◌, ◌++◌, IfOk, OnErr, OnOk, option_map};
+ghost use Rattle.mdb_datum.specs.Datum.{doc_of, members_of};
+ghost use Rattle.mdb_datum.specs.Doc.{object, field_list, member};
 ghost use Rattle.mdb_datum.specs.Reading.{reading, read_as};
-ghost use Rattle.mdb_datum.specs.Row.{row_of};
+ghost use Rattle.mdb_datum.specs.Row.{IsCanonicalRow};
 ghost use Rattle.mdb_datum.specs.Written.{row_text};
 
-use crate::Members;
-use crate::write::write_members;
+use crate::write::{append_members, write_members};
+use crate::{Datum, Members};
 use std::alloc::{AllocError, Global};
+use std::marker::Model;
 use std::sync::Arc;
 
 /// An object that is shared and never changes, seen as its members.
@@ -17,10 +17,26 @@ pub struct Row {
     members: Arc<Members, Global>,
 }
 
+impl Model for Row {
+    ghost use Rattle.mdb_datum.specs.Row.{Fields, IsCanonicalRow};
+    ghost use Rattle.mdb_datum.specs.inner.Stored.{fields_code};
+
+    ghost Value = { Fields };
+
+    ghost coded = { fields_code };
+
+    ghost use Rattle.mdb_datum.specs.inner.RowView.{row_members};
+
+    ghost view = { row_members };
+
+    ghost invariant = { λ r. IsCanonicalRow (row_members r) };
+}
+
 impl Row {
     /// A row with these members.
     pub fn of(alloc: Global, members: Members) -> Result<Row, AllocError>
-        ensures { IfOk result (λ r. row_of r ≡ members_of members) }
+        requires { IsCanonicalRow (members_of members) }
+        ensures { IfOk result (λ r. r ≡ members_of members) }
     {
         Ok(Row {
             members: Arc::new(alloc, members)?,
@@ -29,7 +45,8 @@ impl Row {
 
     /// The members.
     pub fn members(&self) -> &Members
-        ensures { members_of result.now ≡ row_of self.now }
+        ensures members { members_of result.now ≡ self.now }
+        ensures canonical { IsCanonicalRow self.now }
     {
         &self.members
     }
@@ -37,7 +54,7 @@ impl Row {
     /// A second owner of the same row. It takes no memory, and is refused only where the row has
     /// as many owners as can be counted, 2^63 - 1.
     pub fn share(&self) -> Result<Row, AllocError>
-        ensures { IfOk result (λ r. row_of r ≡ row_of self.now) }
+        ensures { IfOk result (λ r. r ≡ self.now) }
     {
         Ok(Row {
             members: Arc::try_clone(&self.members)?,
@@ -46,10 +63,25 @@ impl Row {
 
     /// The compact text of the row's object. It takes memory for the text.
     pub fn doc(&self) -> Result<Vec<u8>, AllocError>
-        ensures text { IfOk result (λ v. v.items ≡ row_text (row_of self.now)) }
-        ensures reads_back { let row = object (field_list (row_of self.now)) in
-            IfOk result (λ v. IsCanonical row → reading v.items ≡ read_as row) }
+        ensures text { IfOk result (λ v. v.items ≡ row_text self.now) }
+        ensures reads_back { IfOk result (λ v. reading v.items ≡ read_as (object (field_list self.now))) }
     {
         write_members(&self.members)
+    }
+
+    /// Adds the compact text of the row's object at the end of `out`. It takes memory where `out`
+    /// has no room for the text. After `AllocError` the bytes are as before.
+    pub fn append_doc(&self, out: &mut Vec<u8>) -> Result<(), AllocError>
+        ensures ok { OnOk result (out.new.items ≡ out.old.items ++ row_text self.now) }
+        ensures err { OnErr result (out.new.items ≡ out.old.items) }
+    {
+        append_members(&self.members, out)
+    }
+
+    /// The value under a name. It takes time in the logarithm of the number of members.
+    pub fn get(&self, name: &str) -> Option<&Datum>
+        ensures { option_map (λ d. doc_of d.now) result ≡ member name.now self.now }
+    {
+        self.members.find(name)
     }
 }

@@ -1,10 +1,10 @@
 // From a document to its text: one walk, which writes each token once into one buffer.
-ghost use Rattle.std.specs.Prelude.{◌≡◌, ◌++◌, ◌∷◌, [], IfOk, OnOk};
+ghost use Rattle.std.specs.Prelude.{◌≡◌, ◌++◌, ◌∷◌, [], IfOk, OnOk, OnErr};
 ghost use Rattle.std.specs.Fmt.{signed_decimal};
 ghost use Rattle.json.specs.Token.{number};
 ghost use Rattle.mdb_datum.specs.Doc.{list, object, doc_list, field_list};
 ghost use Rattle.mdb_datum.specs.Datum.{doc_of, items_of, members_of};
-ghost use Rattle.mdb_datum.specs.Tokens.{doc_tokens};
+ghost use Rattle.mdb_datum.specs.inner.Tokens.{doc_tokens};
 ghost use Rattle.mdb_datum.specs.Canonical.{IsCanonical};
 ghost use Rattle.mdb_datum.specs.Reading.{reading, read_as};
 ghost use Rattle.mdb_datum.specs.Written.{compact, row_text};
@@ -12,6 +12,7 @@ ghost use Rattle.mdb_datum.specs.Written.{compact, row_text};
 use crate::{Datum, Items, Members};
 use json::Writer;
 use std::alloc::{AllocError, Global};
+use std::mem;
 
 /// The compact text of a document: no blanks, members in their order, and the short escapes of
 /// RFC 8259. It takes memory for the text, and time in proportion to it.
@@ -33,9 +34,27 @@ pub(crate) fn write_members(members: &Members) -> Result<Vec<u8>, AllocError>
     ensures reads_back { let row = object (field_list (members_of members.now)) in
         IfOk result (λ v. IsCanonical row → reading v.items ≡ read_as row) }
 {
-    let mut out = Writer::new(Vec::new(*members.pairs.allocator()));
-    put_members(members, &mut out)?;
-    Ok(out.into_inner())
+    let mut out = Vec::new(*members.pairs.allocator());
+    append_members(members, &mut out)?;
+    Ok(out)
+}
+
+/// Adds the compact text of the object with these members at the end of `out`. After `AllocError`
+/// the bytes are as before.
+pub(crate) fn append_members(members: &Members, out: &mut Vec<u8>) -> Result<(), AllocError>
+    ensures ok { OnOk result
+        (out.new.items ≡ out.old.items ++ row_text (members_of members.now)) }
+    ensures err { OnErr result (out.new.items ≡ out.old.items) }
+{
+    let len = out.len();
+    let empty = Vec::new(*out.allocator());
+    let mut writer = Writer::new(mem::replace(out, empty));
+    let written = put_members(members, &mut writer);
+    *out = writer.into_inner();
+    if written.is_err() {
+        out.truncate(len);
+    }
+    written
 }
 
 #[cycle(put)]

@@ -6,10 +6,10 @@ use Rattle.mdb_datum.specs.Doc.{Doc}
 use Rattle.mdb_encode.specs.Bytes.{Bytes}
 use Rattle.mdb_encode.specs.Indexer.{Indexer, str, str_list, str_map, uint, sint, truth, uuid, is_set, equals, compound, PartList, no_parts, part}
 use Rattle.mdb_encode.specs.Arguments.{Argued, one, raw_arg, raw_pre, joined_arg, joined_pre, then_with, part_count}
-use Rattle.mdb_encode.specs.ArgReading.{joined_form}
+use Rattle.mdb_encode.specs.inner.ArgReading.{joined_form}
 use Rattle.mdb_encode.specs.Kind.{part_list}
 use Rattle.mdb_encode.specs.Lawful.{TakesOne, HasPrefix}
-use Rattle.mdb_encode.specs.declared.error.ArgError.TheVariants.{ArgCount}
+use Rattle.mdb_encode.specs.ArgRefusal.{arg_count}
 use Rattle.mdb_encode.proofs.Walk.{drop_at}
 
 joined_arg_end : (so_far : Bytes) (ps : PartList) → joined_arg so_far ps [] ≡ Ok so_far
@@ -20,7 +20,8 @@ joined_pre_end : (so_far : Bytes) (ps : PartList) → joined_pre so_far ps [] �
 joined_pre_end so_far no_parts = refl
 joined_pre_end so_far (part i is) = refl
 
-form_end : (is_prefix : Bool) (so_far : Bytes) (ps : PartList) → joined_form is_prefix so_far ps [] ≡ Ok so_far
+form_end : (is_prefix : Bool) (so_far : Bytes) (ps : PartList)
+    → joined_form is_prefix so_far ps [] ≡ Ok so_far
 form_end true so_far ps = joined_pre_end so_far ps
 form_end false so_far ps = joined_arg_end so_far ps
 
@@ -31,16 +32,23 @@ drop_all (x ∷ xs) zero h = absurd (omega arith)
 drop_all (x ∷ xs) (suc n) h = drop_all xs n (omega arith)
 
 -- behind the last argument nothing is added
-pub joined_form_end : (is_prefix : Bool) (so_far : Bytes) (ps : PartList) (args : List Doc) (n : ℕ) → n ≡ length args → joined_form is_prefix so_far ps (drop n args) ≡ Ok so_far
+pub joined_form_end : (is_prefix : Bool) (so_far : Bytes) (ps : PartList) (args : List Doc) (n : ℕ)
+    → n ≡ length args → joined_form is_prefix so_far ps (drop n args) ≡ Ok so_far
 joined_form_end is_prefix so_far ps args n e =
-    ap (joined_form is_prefix so_far ps) (drop_all args n (omega arith)) ∙ form_end is_prefix so_far ps
+    ap (joined_form is_prefix so_far ps) (drop_all args n (omega arith))
+    ∙ form_end is_prefix so_far ps
 
-no_more : (so_far : Bytes) (ps : PartList) (a : Argued) → then_with a (λ k. Ok (so_far ++ k)) ≡ then_with a (λ k. joined_pre (so_far ++ k) ps [])
+no_more : (so_far : Bytes) (ps : PartList) (a : Argued)
+    → then_with a (λ k. Ok (so_far ++ k)) ≡ then_with a (λ k. joined_pre (so_far ++ k) ps [])
 no_more so_far ps (Err e) = refl
 no_more so_far ps (Ok k) = sym (joined_pre_end (so_far ++ k) ps)
 
 -- one argument, where `rest` is what comes behind it
-form_step : (is_prefix last : Bool) (so_far : Bytes) (i : Indexer) (ps : PartList) (d : Doc) (rest : List Doc) → last ≡ (is_prefix && (length (d ∷ rest) == 1)) → joined_form is_prefix so_far (part i ps) (d ∷ rest) ≡ then_with (if last then raw_pre i (d ∷ []) else raw_arg i (d ∷ [])) (λ k. joined_form is_prefix (so_far ++ k) ps rest)
+form_step : (is_prefix last : Bool) (so_far : Bytes) (i : Indexer) (ps : PartList) (d : Doc) (rest : List Doc)
+    → last ≡ (is_prefix && (length (d ∷ rest) == 1))
+    → joined_form is_prefix so_far (part i ps) (d ∷ rest)
+    ≡ then_with (if last then raw_pre i (d ∷ []) else raw_arg i (d ∷ []))
+    (λ k. joined_form is_prefix (so_far ++ k) ps rest)
 form_step false last so_far i ps d rest e = rw e refl
 form_step true last so_far i ps d [] e = rw e (no_more so_far ps (raw_pre i (d ∷ [])))
 form_step true last so_far i ps d (x ∷ rest) e =
@@ -49,7 +57,13 @@ form_step true last so_far i ps d (x ∷ rest) e =
     rw middle refl
 
 -- one argument of a compound index
-pub joined_form_at : (is_prefix last : Bool) (so_far : Bytes) (is : List Indexer) (args : List Doc) (at : ℕ) (i : Indexer) (d : Doc) (a : Argued) → slice_get is at ≡ Some i → slice_get args at ≡ Some d → last ≡ (is_prefix && (length (drop at args) == 1)) → a ≡ (if last then raw_pre i (d ∷ []) else raw_arg i (d ∷ [])) → joined_form is_prefix so_far (part_list (drop at is)) (drop at args) ≡ then_with a (λ k. joined_form is_prefix (so_far ++ k) (part_list (drop (at + 1) is)) (drop (at + 1) args))
+pub joined_form_at : (is_prefix last : Bool) (so_far : Bytes) (is : List Indexer) (args : List Doc) (at : ℕ) (i : Indexer) (d : Doc) (a : Argued)
+    → slice_get is at ≡ Some i → slice_get args at ≡ Some d
+    → last ≡ (is_prefix && (length (drop at args) == 1))
+    → a ≡ (if last then raw_pre i (d ∷ []) else raw_arg i (d ∷ []))
+    → joined_form is_prefix so_far (part_list (drop at is)) (drop at args)
+    ≡ then_with a (λ k.
+    joined_form is_prefix (so_far ++ k) (part_list (drop (at + 1) is)) (drop (at + 1) args))
 joined_form_at is_prefix last so_far is args at i d a part_there arg_there is_last read =
     let left = drop_at args at d arg_there in
     ap (λ l. joined_form is_prefix so_far (part_list l) (drop at args)) (drop_at is at i part_there)
@@ -58,22 +72,26 @@ joined_form_at is_prefix last so_far is args at i d a part_there arg_there is_la
     ∙ ap (λ b. then_with b (λ k. joined_form is_prefix (so_far ++ k) (part_list (drop (at + 1) is)) (drop (at + 1) args))) (sym read)
 
 -- the last place
-pub last_place : (args : List Doc) (at : ℕ) → at < length args → (at + 1 == length args) ≡ (length (drop at args) == 1)
+pub last_place : (args : List Doc) (at : ℕ) → at < length args
+    → (at + 1 == length args) ≡ (length (drop at args) == 1)
 last_place args at there = grind (arith, nat_tests, length-drop)
 
 -- the only argument
-pub only_arg : (args : List Doc) (d : Doc) → length args ≡ 1 → slice_get args 0 ≡ Some d → args ≡ d ∷ []
+pub only_arg : (args : List Doc) (d : Doc) → length args ≡ 1 → slice_get args 0 ≡ Some d
+    → args ≡ d ∷ []
 only_arg [] d one there = cc
 only_arg (x ∷ []) d one there = cc
 only_arg (x ∷ y ∷ rest) d one there = absurd (omega arith)
 
-one_other : (of_doc : Doc → Argued) (args : List Doc) → length args ≢ 1 → one of_doc args ≡ Err ArgCount
+one_other : (of_doc : Doc → Argued) (args : List Doc) → length args ≢ 1
+    → one of_doc args ≡ Err arg_count
 one_other of_doc [] other = refl
 one_other of_doc (d ∷ []) other = absurd (other refl)
 one_other of_doc (d ∷ e ∷ rest) other = refl
 
 -- another number of arguments
-pub other_count : (i : Indexer) (args : List Doc) → TakesOne i → length args ≢ 1 → raw_arg i args ≡ Err ArgCount
+pub other_count : (i : Indexer) (args : List Doc) → TakesOne i → length args ≢ 1
+    → raw_arg i args ≡ Err arg_count
 other_count (str name fold) args takes other = one_other _ args other
 other_count (str_list name fold) args takes other = one_other _ args other
 other_count (str_map name fold) args takes other = absurd takes
@@ -85,7 +103,8 @@ other_count (is_set name) args takes other = one_other _ args other
 other_count (equals name scalar) args takes other = one_other _ args other
 other_count (compound parts allow_missing) args takes other = absurd takes
 
-pub other_prefix_count : (i : Indexer) (args : List Doc) → HasPrefix i → length args ≢ 1 → raw_pre i args ≡ Err ArgCount
+pub other_prefix_count : (i : Indexer) (args : List Doc) → HasPrefix i → length args ≢ 1
+    → raw_pre i args ≡ Err arg_count
 other_prefix_count (str name fold) args has other = one_other _ args other
 other_prefix_count (str_list name fold) args has other = one_other _ args other
 other_prefix_count (str_map name fold) args has other = absurd has

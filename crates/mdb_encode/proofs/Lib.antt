@@ -1,3 +1,4 @@
+pub mod Answered
 pub mod BigEndian
 pub mod Blank
 pub mod Exact

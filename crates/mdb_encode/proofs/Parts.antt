@@ -11,11 +11,13 @@ use Rattle.mdb_encode.specs.declared.kind.Kinds.{Kinds, out-Kinds, fold_out-Kind
 pub parts_level : (l : Kinds) → indexers_of l ≡ map indexer_of (out-Kinds l).kinds.items
 parts_level l = fold_out-Kinds Indexer (List Indexer) kind_step kinds_step l
 
-pub part_there : (l : Kinds) (at : ℕ) (k : Kind) → at < length (out-Kinds l).kinds.items → k ≡ get_or (out-Kinds l).kinds.items at k → Some (indexer_of k) ≡ slice_get (indexers_of l) at
+pub part_there : (l : Kinds) (at : ℕ) (k : Kind) → at < length (out-Kinds l).kinds.items
+    → k ≡ get_or (out-Kinds l).kinds.items at k → Some (indexer_of k) ≡ slice_get (indexers_of l) at
 part_there l at k within read =
     sym (ap (λ is. slice_get is at) (parts_level l) ∙ slice_get-map indexer_of _ at ∙ ap (option_map indexer_of) (slice_get_read _ _ at k refl within read))
 
-pub part_past : (l : Kinds) (at : ℕ) → length (out-Kinds l).kinds.items ≤ at → None ≡ slice_get (indexers_of l) at
+pub part_past : (l : Kinds) (at : ℕ) → length (out-Kinds l).kinds.items ≤ at
+    → None ≡ slice_get (indexers_of l) at
 part_past l at past =
     sym (ap (λ is. slice_get is at) (parts_level l) ∙ slice_get-map indexer_of _ at ∙ ap (option_map indexer_of) (slice_get_past _ at past))
 

@@ -8,35 +8,41 @@ use Rattle.mdb_encode.specs.Indexer.{Indexer}
 use Rattle.mdb_encode.specs.Keys.{Keyed, item_keys, pair_keys, raw_keys, joined_keys, after_part}
 use Rattle.mdb_encode.specs.Kind.{part_list}
 use Rattle.mdb_encode.specs.Lawful.{IsPart, AreParts}
-use Rattle.mdb_encode.specs.Texts.{followed}
+use Rattle.mdb_encode.specs.inner.Texts.{followed}
 
 -- what is left from a place on begins with what stands there
-pub drop_at : {X : Type 0} (xs : List X) (at : ℕ) (x : X) → slice_get xs at ≡ Some x → drop at xs ≡ x ∷ drop (at + 1) xs
+pub drop_at : {X : Type 0} (xs : List X) (at : ℕ) (x : X) → slice_get xs at ≡ Some x
+    → drop at xs ≡ x ∷ drop (at + 1) xs
 drop_at xs at x there =
     let within : at < length xs = slice_get_within xs at x there in
     let read : get_or xs at x ≡ x = get_or_from_slice_get xs at x x there in
     rw add-one (drop-cons xs at x within ∙ ap (λ y. y ∷ drop (suc at) xs) read)
 
-pub item_keys_at : (fold : Bool) (ds : List Doc) (at : ℕ) (d : Doc) (k : Keyed) → slice_get ds at ≡ Some d → ((rest : DocList) → item_keys fold (doc d rest) ≡ followed k (item_keys fold rest)) → item_keys fold (doc_list (drop at ds)) ≡ followed k (item_keys fold (doc_list (drop (at + 1) ds)))
+pub item_keys_at : (fold : Bool) (ds : List Doc) (at : ℕ) (d : Doc) (k : Keyed)
+    → slice_get ds at ≡ Some d
+    → ((rest : DocList) → item_keys fold (doc d rest) ≡ followed k (item_keys fold rest))
+    → item_keys fold (doc_list (drop at ds)) ≡ followed k (item_keys fold (doc_list (drop (at + 1) ds)))
 item_keys_at fold ds at d k there step =
-    ap (λ l. item_keys fold (doc_list l)) (drop_at ds at d there) ∙ step (doc_list (drop (at + 1) ds))
+    ap (λ l. item_keys fold (doc_list l)) (drop_at ds at d there)
+    ∙ step (doc_list (drop (at + 1) ds))
 
-pub pair_keys_at : (fold : Bool) (fs : List Field) (at : ℕ) (f : Field) (k : Keyed) → slice_get fs at ≡ Some f → ((rest : FieldList) → pair_keys fold (field f.0 f.1 rest) ≡ followed k (pair_keys fold rest)) → pair_keys fold (field_list (drop at fs)) ≡ followed k (pair_keys fold (field_list (drop (at + 1) fs)))
+pub pair_keys_at : (fold : Bool) (fs : List Field) (at : ℕ) (f : Field) (k : Keyed)
+    → slice_get fs at ≡ Some f
+    → ((rest : FieldList) → pair_keys fold (field f.0 f.1 rest) ≡ followed k (pair_keys fold rest))
+    → pair_keys fold (field_list (drop at fs)) ≡ followed k (pair_keys fold (field_list (drop (at + 1) fs)))
 pair_keys_at fold fs at f k there step =
-    ap (λ l. pair_keys fold (field_list l)) (drop_at fs at f there) ∙ step (field_list (drop (at + 1) fs))
+    ap (λ l. pair_keys fold (field_list l)) (drop_at fs at f there)
+    ∙ step (field_list (drop (at + 1) fs))
 
-pub joined_keys_at : (allow_missing : Bool) (so_far : Bytes) (is : List Indexer) (at : ℕ) (row : List Field) (i : Indexer) (k : Keyed) → slice_get is at ≡ Some i → k ≡ raw_keys i row → joined_keys allow_missing so_far (part_list (drop at is)) row ≡ after_part allow_missing so_far k (λ key. joined_keys allow_missing key (part_list (drop (at + 1) is)) row)
-joined_keys_at allow_missing so_far is at row i k there read =
-    ap (λ l. joined_keys allow_missing so_far (part_list l) row) (drop_at is at i there)
-    ∙ ap (λ v. after_part allow_missing so_far v (λ key. joined_keys allow_missing key (part_list (drop (at + 1) is)) row)) (sym read)
-
-parts_from : (is : List Indexer) (at : ℕ) → AreParts (part_list is) → AreParts (part_list (drop at is))
+parts_from : (is : List Indexer) (at : ℕ) → AreParts (part_list is)
+    → AreParts (part_list (drop at is))
 parts_from is zero parts = parts
 parts_from [] (suc at) parts = parts
 parts_from (i ∷ is) (suc at) parts = parts_from is at parts.1
 
 -- each part of a list of parts is one
-pub part_is_part : (is : List Indexer) (at : ℕ) (i : Indexer) → AreParts (part_list is) → slice_get is at ≡ Some i → IsPart i
+pub part_is_part : (is : List Indexer) (at : ℕ) (i : Indexer) → AreParts (part_list is)
+    → slice_get is at ≡ Some i → IsPart i
 part_is_part is at i parts there =
     let P : List Indexer → Type 0 = λ l. AreParts (part_list l) in
     (subst P (drop_at is at i there) (parts_from is at parts)).0

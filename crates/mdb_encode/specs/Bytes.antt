@@ -1,17 +1,2 @@
--- Byte strings and their order.
-use Rattle.std.specs.Prelude.{ℕ, List, Bool, nat_eq}
-use Rattle.std.specs.List.{starts_with}
-use Rattle.std.specs.Cmp.Lexicographic.{slice_cmp}
-use Rattle.std.specs.Ordering.{nat_cmp}
-use Rattle.std.specs.declared.cmp.Ordering.{Ordering}
-
-abbrev pub Bytes : Type 0
-Bytes = List ℕ
-
--- byte by byte, and a proper prefix comes first
-abbrev pub byte_order : Bytes → Bytes → Ordering
-byte_order = slice_cmp nat_cmp
-
--- the second is the first followed by something, perhaps nothing
-abbrev pub is_prefix : Bytes → Bytes → Bool
-is_prefix a b = starts_with nat_eq b a
+-- Byte strings, their order, and which of them begin which: those of `mdb_datum`, given again.
+pub use Rattle.mdb_datum.specs.Bytes.{Bytes, byte_order, is_prefix}

@@ -18,6 +18,7 @@ mutual
     -- the parts, and whether a missing part ends the key
     compound : PartList → Bool → Indexer
 
+  -- the parts of a compound indexer, in order
   pub data PartList : Type 0 where
     no_parts : PartList
     part : Indexer → PartList → PartList

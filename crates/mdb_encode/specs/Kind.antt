@@ -5,6 +5,7 @@ use Rattle.mdb_encode.specs.Indexer.{Indexer, str, str_list, str_map, uint, sint
 use Rattle.mdb_encode.specs.declared.kind.Kind.{Kind, Kind-F, fold-Kind}
 use Rattle.mdb_encode.specs.declared.kind.Kinds.{Kinds, Kinds-F, fold-Kinds}
 
+-- indexers as the parts of a compound one
 abbrev pub part_list : List Indexer → PartList
 part_list [] = no_parts
 part_list (i ∷ is) = part i (part_list is)
@@ -22,6 +23,7 @@ kind_step (Kind-F.IsSet name) = is_set name
 kind_step (Kind-F.Equals name scalar) = equals name (doc_of scalar)
 kind_step (Kind-F.Compound is allow_missing) = compound (part_list is) allow_missing
 
+-- one level of a list
 abbrev pub kinds_step : Kinds-F Indexer (List Indexer) → List Indexer
 kinds_step l = l.kinds.items
 

@@ -14,6 +14,7 @@ IsScalar (list ds) = ⊥
 IsScalar (object fs) = ⊥
 IsScalar d = ⊤
 
+-- a member's name that an index may read is not empty
 abbrev pub IsFieldName : Bytes → Type 0
 IsFieldName name = 0 < length name
 
@@ -30,6 +31,7 @@ IsPart (is_set name) = IsFieldName name
 IsPart (equals name scalar) = IsFieldName name × IsScalar scalar
 IsPart (compound parts allow_missing) = ⊥
 
+-- each of them is an indexer of one member
 abbrev pub AreParts : PartList → Type 0
 AreParts no_parts = ⊤
 AreParts (part i is) = IsPart i × AreParts is
@@ -39,6 +41,7 @@ abbrev pub IsPartList : PartList → Type 0
 IsPartList no_parts = ⊥
 IsPartList (part i is) = IsPart i × AreParts is
 
+-- an indexer that a schema may name
 abbrev pub IsLawful : Indexer → Type 0
 IsLawful (str_list name fold) = IsFieldName name
 IsLawful (str_map name fold) = IsFieldName name

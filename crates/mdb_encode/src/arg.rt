@@ -1,140 +1,117 @@
-//! What one argument puts into a key, read and tested before any memory is taken.
-ghost use Rattle.std.specs.Prelude.{◌≡◌, ◌∷◌, [], if◌then◌else◌};
-ghost use Rattle.mdb_datum.specs.Datum.{doc_of};
-ghost use Rattle.mdb_encode.specs.ArgReading.{arg_read};
-ghost use Rattle.mdb_encode.specs.Arguments.{text_arg, text_pre, uint_arg, sint_arg, truth_arg, uuid_arg, uuid_pre, raw_arg, raw_pre};
+//! The keys of a question's arguments.
+ghost use Rattle.std.specs.Prelude.{◌≡◌, ◌≢◌, Err};
+ghost use Rattle.mdb_datum.specs.Datum.{items_of};
+ghost use Rattle.mdb_encode.specs.Answers.{AnswersKey};
+ghost use Rattle.mdb_encode.specs.Arguments.{arg, pre, raw_arg, raw_pre, map_arg, limited_arg};
 ghost use Rattle.mdb_encode.specs.Kind.{indexer_of};
-ghost use Rattle.mdb_encode.specs.Lawful.{IsWidth, IsLawful, IsPart, TakesOne};
+ghost use Rattle.mdb_encode.specs.Lawful.{IsLawful, TakesOne, HasPrefix};
+ghost use Rattle.mdb_encode.specs.inner.ArgReading.{arg_read};
 
-use crate::fixed::{Id, Number};
-use crate::identifier::{parse_start, parse_uuid};
-use crate::number::{signed_number, unsigned_number};
+mod compound;
+mod read;
+
+use self::compound::{compound_exact, compound_prefix};
+use self::read::{read_arg, read_prefix};
+use crate::item::item_at;
+use crate::limit::LONGEST_KEY;
 use crate::piece::Piece;
-use crate::{ArgError, Kind};
-use mdb_datum::Datum;
+use crate::refusal::ArgRefusal;
+use crate::{ArgError, Key, Kind};
+use mdb_datum::{Datum, Items};
+use std::alloc::Global;
 
-/// An argument for the value of one member.
-pub(crate) fn read_arg<'a>(kind: &Kind, value: &'a Datum) -> Result<Piece<'a>, ArgError>
-    requires lawful { IsLawful (indexer_of kind.now) }
-    requires one { TakesOne (indexer_of kind.now) }
-    ensures { arg_read result ≡ raw_arg (indexer_of kind.now) (doc_of value.now ∷ []) }
+/// The key of an exact question: the arguments stand for the values of an index's members.
+///
+/// Refused: `ArgCount`, then for each argument from the left `ArgKind`, `OutOfRange` or `BadUuid`,
+/// then `TooLong`. It takes memory for the key alone, and only where nothing is refused.
+#[tactic(auto, using(crate::proofs::Exact::answer_exact))]
+pub fn arg_key(alloc: Global, kind: &Kind, args: &Items) -> Result<Key, ArgError>
+    requires { IsLawful (indexer_of kind.now) }
+    ensures key { AnswersKey (arg (indexer_of kind.now) (items_of args.now)) result }
+    ensures exact { result ≢ Err ArgError.NoPrefixForm }
 {
     match kind {
-        Kind::Str { lowercase, .. } => arg_text(value, *lowercase),
-        Kind::StrList { lowercase, .. } => arg_text(value, *lowercase),
-        Kind::Uint { width, .. } => arg_uint(value, *width),
-        Kind::Sint { width, .. } => arg_sint(value, *width),
-        Kind::Flag { .. } | Kind::IsSet { .. } | Kind::Equals { .. } => arg_flag(value),
-        Kind::Uuid { .. } => arg_uuid(value),
-        Kind::StrMap { .. } | Kind::Compound { .. } => unreachable!(),
+        Kind::StrMap { lowercase, .. } => piece_answer(alloc, read_map_arg(args, *lowercase)),
+        Kind::Compound { parts, .. } => compound_exact(alloc, parts, args),
+        _ => piece_answer(alloc, read_only_arg(kind, args)),
     }
 }
 
-/// An argument in the prefix form.
-pub(crate) fn read_prefix<'a>(kind: &Kind, value: &'a Datum) -> Result<Piece<'a>, ArgError>
-    requires { TakesOne (indexer_of kind.now) }
-    ensures { arg_read result ≡ raw_pre (indexer_of kind.now) (doc_of value.now ∷ []) }
+/// The prefix form: the key of a question for all keys that begin with it.
+///
+/// Refused as by `arg_key`, and `NoPrefixForm` for an index that has none, first; of a compound
+/// index at its last argument.
+pub fn prefix_key(alloc: Global, kind: &Kind, args: &Items) -> Result<Key, ArgError>
+    requires { IsLawful (indexer_of kind.now) }
+    ensures { AnswersKey (pre (indexer_of kind.now) (items_of args.now)) result }
 {
     match kind {
-        Kind::Str { lowercase, .. } => prefix_text(value, *lowercase),
-        Kind::StrList { lowercase, .. } => prefix_text(value, *lowercase),
-        Kind::Uuid { .. } => prefix_uuid(value),
+        Kind::Str { .. } | Kind::StrList { .. } | Kind::Uuid { .. } => piece_answer(
+            alloc,
+            read_only_prefix(kind, args),
+        ),
+        Kind::Compound { parts, .. } => compound_prefix(alloc, parts, args),
         _ => Err(ArgError::NoPrefixForm),
     }
 }
 
-/// An argument for a part, exact or in the prefix form.
-#[tactic(auto, using(crate::proofs::Parts::part_is_lawful, crate::proofs::Parts::part_takes_one))]
-pub(crate) fn read_form<'a>(
-    part: &Kind,
-    value: &'a Datum,
-    is_prefix: bool,
-) -> Result<Piece<'a>, ArgError>
-    requires { IsPart (indexer_of part.now) }
-    ensures { arg_read result ≡ (if is_prefix
-        then raw_pre (indexer_of part.now) (doc_of value.now ∷ [])
-        else raw_arg (indexer_of part.now) (doc_of value.now ∷ [])) }
+/// The only argument of an index that takes one.
+#[tactic(auto, using(crate::proofs::Forms::only_arg, crate::proofs::Forms::other_count))]
+fn read_only_arg<'a>(kind: &Kind, args: &'a Items) -> Result<Piece<'a>, ArgRefusal>
+    requires lawful { IsLawful (indexer_of kind.now) }
+    requires one { TakesOne (indexer_of kind.now) }
+    ensures { arg_read result ≡ raw_arg (indexer_of kind.now) (items_of args.now) }
 {
-    if is_prefix {
-        read_prefix(part, value)
+    if args.len() == 1 {
+        read_arg(kind, item_at(args, 0))
     } else {
-        read_arg(part, value)
+        Err(ArgRefusal::ArgCount)
     }
 }
 
-fn arg_text(value: &Datum, lowercase: bool) -> Result<Piece<'_>, ArgError>
-    ensures { arg_read result ≡ text_arg lowercase (doc_of value.now) }
+/// The only argument of an index with a prefix form of its own.
+#[tactic(auto, using(crate::proofs::Forms::only_arg, crate::proofs::Forms::other_prefix_count, crate::proofs::Forms::prefix_takes_one))]
+fn read_only_prefix<'a>(kind: &Kind, args: &'a Items) -> Result<Piece<'a>, ArgRefusal>
+    requires { HasPrefix (indexer_of kind.now) }
+    ensures { arg_read result ≡ raw_pre (indexer_of kind.now) (items_of args.now) }
 {
-    match value {
-        Datum::Str(text) => Ok(Piece::Text(text.as_str(), lowercase)),
-        _ => Err(ArgError::ArgKind),
+    if args.len() == 1 {
+        read_prefix(kind, item_at(args, 0))
+    } else {
+        Err(ArgRefusal::ArgCount)
     }
 }
 
-fn arg_uint(value: &Datum, width: u8) -> Result<Piece<'_>, ArgError>
-    requires { IsWidth width }
-    ensures { arg_read result ≡ uint_arg width (doc_of value.now) }
+/// A name, or a name and a value.
+fn read_map_arg(args: &Items, lowercase: bool) -> Result<Piece<'_>, ArgRefusal>
+    ensures { arg_read result ≡ map_arg lowercase (items_of args.now) }
 {
-    match value {
-        Datum::Whole(number) => match unsigned_number(*number, width) {
-            Some(number) => Ok(Piece::Number(Number { number, width })),
-            None => Err(ArgError::OutOfRange),
-        },
-        _ => Err(ArgError::ArgKind),
+    if args.len() == 1 {
+        return match item_at(args, 0) {
+            Datum::Str(name) => Ok(Piece::Text(name.as_str(), lowercase)),
+            _ => Err(ArgRefusal::ArgKind),
+        };
     }
+    if args.len() == 2 {
+        return match (item_at(args, 0), item_at(args, 1)) {
+            (Datum::Str(name), Datum::Str(value)) => Ok(Piece::Pair(
+                name.as_str(),
+                value.as_str(),
+                lowercase,
+            )),
+            _ => Err(ArgRefusal::ArgKind),
+        };
+    }
+    Err(ArgRefusal::ArgCount)
 }
 
-fn arg_sint(value: &Datum, width: u8) -> Result<Piece<'_>, ArgError>
-    requires { IsWidth width }
-    ensures { arg_read result ≡ sint_arg width (doc_of value.now) }
+/// The key of a piece that is not too long.
+fn piece_answer(alloc: Global, read: Result<Piece<'_>, ArgRefusal>) -> Result<Key, ArgError>
+    ensures { AnswersKey (limited_arg (arg_read read.entry)) result }
 {
-    match value {
-        Datum::Whole(number) => match signed_number(*number, width) {
-            Some(number) => Ok(Piece::Number(Number { number, width })),
-            None => Err(ArgError::OutOfRange),
-        },
-        _ => Err(ArgError::ArgKind),
+    let piece = read?;
+    if piece.len() > LONGEST_KEY {
+        return Err(ArgError::TooLong);
     }
-}
-
-fn arg_flag(value: &Datum) -> Result<Piece<'_>, ArgError>
-    ensures { arg_read result ≡ truth_arg (doc_of value.now) }
-{
-    match value {
-        Datum::Flag(value) => Ok(Piece::Flag(*value)),
-        _ => Err(ArgError::ArgKind),
-    }
-}
-
-fn arg_uuid(value: &Datum) -> Result<Piece<'_>, ArgError>
-    ensures { arg_read result ≡ uuid_arg (doc_of value.now) }
-{
-    match value {
-        Datum::Str(text) => match parse_uuid(text.as_str()) {
-            Some(bytes) => Ok(Piece::Id(Id { bytes })),
-            None => Err(ArgError::BadUuid),
-        },
-        _ => Err(ArgError::ArgKind),
-    }
-}
-
-fn prefix_text(value: &Datum, lowercase: bool) -> Result<Piece<'_>, ArgError>
-    ensures { arg_read result ≡ text_pre lowercase (doc_of value.now) }
-{
-    match value {
-        Datum::Str(text) => Ok(Piece::Open(text.as_str(), lowercase)),
-        _ => Err(ArgError::ArgKind),
-    }
-}
-
-fn prefix_uuid(value: &Datum) -> Result<Piece<'_>, ArgError>
-    ensures { arg_read result ≡ uuid_pre (doc_of value.now) }
-{
-    match value {
-        Datum::Str(text) => match parse_start(text.as_str()) {
-            Some(start) => Ok(Piece::Start(start)),
-            None => Err(ArgError::BadUuid),
-        },
-        _ => Err(ArgError::ArgKind),
-    }
+    Ok(piece.key(alloc)?)
 }

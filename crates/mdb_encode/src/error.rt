@@ -1,3 +1,4 @@
+//! Why a row has no keys, and why arguments make none.
 ghost use Rattle.std.specs.Prelude.{◌≡◌};
 ghost use Rattle.mdb_encode.specs.declared.error.KeyError.TheVariants as key_error;
 ghost use Rattle.mdb_encode.specs.declared.error.ArgError.TheVariants as arg_error;
@@ -24,6 +25,7 @@ pub enum KeyError {
 impl From<AllocError> for KeyError {
     ghost from_gives = { λ _ e. e ≡ key_error.Memory };
 
+    /// Want of memory.
     fn from(_: AllocError) -> Self {
         KeyError::Memory
     }
@@ -51,6 +53,7 @@ pub enum ArgError {
 impl From<AllocError> for ArgError {
     ghost from_gives = { λ _ e. e ≡ arg_error.Memory };
 
+    /// Want of memory.
     fn from(_: AllocError) -> Self {
         ArgError::Memory
     }

@@ -4,7 +4,9 @@ ghost use Rattle.std.specs.Prelude.{◌≡◌, ◌≤◌, length};
 /// A number that is written in so many bytes.
 #[derive(Clone, Copy)]
 pub(crate) struct Number {
+    /// The number.
     pub(crate) number: u64,
+    /// How many bytes it is written in.
     pub(crate) width: u8,
     ghost narrow: { width ≤ 8 },
 }
@@ -12,6 +14,7 @@ pub(crate) struct Number {
 /// The bytes of a UUID.
 #[derive(Clone, Copy)]
 pub(crate) struct Id {
+    /// The bytes, in the order of the text.
     pub(crate) bytes: [u8; 16],
     ghost whole: { length bytes ≡ 16 },
 }
@@ -20,7 +23,9 @@ pub(crate) struct Id {
 /// hyphens are read as a start too.
 #[derive(Clone, Copy)]
 pub(crate) struct Start {
+    /// The bytes, in the order of the text.
     pub(crate) bytes: [u8; 18],
+    /// How many of them are meant.
     pub(crate) len: usize,
     ghost whole: { length bytes ≡ 18 },
     ghost within: { len ≤ 18 },

@@ -3,7 +3,7 @@ ghost use Rattle.std.specs.Prelude.{◌≡◌, ◌+◌, ◌<◌, ◌≤◌, ◌�
 ghost use Rattle.uuid.specs.Text.{parsed_hyphenated, hex_digit_value};
 ghost use Rattle.mdb_encode.specs.Arguments.{uuid_start, hex_bytes};
 ghost use Rattle.mdb_encode.specs.Bytes.{Bytes};
-ghost use Rattle.mdb_encode.specs.UuidStart.{digits_in, start_bytes, hex_after, IsRun};
+ghost use Rattle.mdb_encode.specs.inner.UuidStart.{digits_in, start_bytes, hex_after, IsRun};
 
 use crate::fixed::Start;
 use uuid::Uuid;
@@ -11,8 +11,11 @@ use uuid::Uuid;
 /// Bytes that are read from hexadecimal digits, and the first digit of the next one.
 #[derive(Clone, Copy)]
 struct HexRun {
+    /// The bytes, of which the first `len` are read.
     bytes: [u8; 18],
+    /// How many whole bytes were read.
     len: usize,
+    /// The value of the first digit of the next byte, where it was read.
     high: Option<u8>,
 }
 

@@ -1,7 +1,10 @@
+//! Keys, and the keys of one row in one index.
 ghost use Rattle.std.specs.Prelude.{◌≡◌, ◌++◌, ◌∷◌, [], List, ℕ, length, is_ok, if◌then◌else◌, slice_get, option_map, IfOk};
+ghost use Rattle.std.specs.Slice.Iter.{iter_rest};
 
 use std::alloc::{AllocError, Global};
 use std::marker::Model;
+use std::slice;
 
 /// The bytes under which a row stands in an index, seen as the list of these bytes.
 #[derive(Drop)]
@@ -91,6 +94,13 @@ impl Keys {
         } else {
             None
         }
+    }
+
+    /// The keys, from the first.
+    pub fn iter(&self) -> slice::Iter<'_, Key>
+        ensures { iter_rest result ≡ self.now }
+    {
+        self.keys.iter()
     }
 
     /// Adds a key at the end. After want of memory the list is unchanged.

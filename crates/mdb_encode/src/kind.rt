@@ -1,8 +1,11 @@
-ghost use Rattle.std.specs.Prelude.{◌≡◌, ◌++◌, ◌∷◌, ◌<◌, [], Some, length, is_ok, if◌then◌else◌, slice_get, option_map};
+//! How an index makes its keys.
+ghost use Rattle.std.specs.Prelude.{◌≡◌, ◌++◌, ◌∷◌, ◌<◌, [], Some, length, is_ok, if◌then◌else◌, slice_get, option_map, map};
+ghost use Rattle.std.specs.Slice.Iter.{iter_rest};
 ghost use Rattle.mdb_encode.specs.Kind.{indexer_of, indexers_of};
 
 use mdb_datum::{Datum, Text};
 use std::alloc::{AllocError, Global};
+use std::slice;
 
 /// How an index makes its keys from one member of a row, or from several.
 ///
@@ -78,7 +81,16 @@ impl Kinds {
             None
         }
     }
-    /// The part at a place that is there.
+
+    /// The parts, from the first.
+    #[tactic(auto, using(crate::proofs::Parts::parts_level))]
+    pub fn iter(&self) -> slice::Iter<'_, Kind>
+        ensures { map indexer_of (iter_rest result) ≡ indexers_of self.now }
+    {
+        self.kinds.iter()
+    }
+
+    /// The part at a place that is there, counted from 0.
     pub(crate) fn part(&self, at: usize) -> &Kind
         requires { at < length (indexers_of self.now) }
         ensures { slice_get (indexers_of self.now) at ≡ Some (indexer_of result.now) }

@@ -1,9 +1,11 @@
-ghost use Rattle.std.specs.Prelude.{◌≡◌, ◌++◌, ◌≤◌, length, min, OnOk, true};
-ghost use Rattle.mdb_encode.specs.Piece.{bytes_of};
+//! The pieces that keys are written from.
+ghost use Rattle.std.specs.Prelude.{◌≡◌, ◌++◌, ◌∷◌, [], ◌≤◌, length, min, IfOk, OnOk, true};
 ghost use Rattle.mdb_encode.specs.Keys.{folded, text_key, big_endian};
+ghost use Rattle.mdb_encode.specs.inner.Piece.{bytes_of};
 
+use crate::Key;
 use crate::fixed::{Id, Number, Start};
-use std::alloc::AllocError;
+use std::alloc::{AllocError, Global};
 
 /// What a member or an argument puts into a key: read and tested, and not yet written.
 #[derive(Clone, Copy)]
@@ -41,24 +43,46 @@ impl Piece<'_> {
         }
     }
 
+    /// A key of this piece alone, in memory for its bytes.
+    pub(crate) fn key(&self, alloc: Global) -> Result<Key, AllocError>
+        ensures { IfOk result (λ key. key ≡ bytes_of self.now) }
+    {
+        let mut bytes = Vec::with_capacity(alloc, self.len())?;
+        self.write(&mut bytes)?;
+        Ok(Key::of(bytes))
+    }
+
     /// Puts its bytes behind those of `key`.
     pub(crate) fn write(&self, key: &mut Vec<u8>) -> Result<(), AllocError>
         ensures { OnOk result (key.new.items ≡ key.old.items ++ bytes_of self.now) }
     {
         match self {
-            Piece::Text(text, lowercase) => write_ended(key, text, *lowercase)?,
-            Piece::Open(text, lowercase) => write_text(key, text, *lowercase)?,
-            Piece::Pair(name, text, lowercase) => {
-                write_ended(key, name, *lowercase)?;
-                write_ended(key, text, *lowercase)?;
-            }
-            Piece::Number(number) => write_number(key, number.number, number.width)?,
-            Piece::Flag(value) => key.push(u8::from(*value))?,
-            Piece::Id(id) => key.extend_from_slice(&id.bytes)?,
-            Piece::Start(start) => key.extend_from_slice(&start.bytes[..start.len])?,
+            Piece::Text(text, lowercase) => write_ended(key, text, *lowercase),
+            Piece::Open(text, lowercase) => write_text(key, text, *lowercase),
+            Piece::Pair(name, text, lowercase) => write_pair(key, name, text, *lowercase),
+            Piece::Number(number) => write_number(key, number.number, number.width),
+            Piece::Flag(value) => write_byte(key, u8::from(*value)),
+            Piece::Id(id) => key.extend_from_slice(&id.bytes),
+            Piece::Start(start) => key.extend_from_slice(&start.bytes[..start.len]),
         }
-        Ok(())
     }
+}
+
+/// Writes one byte.
+fn write_byte(key: &mut Vec<u8>, byte: u8) -> Result<(), AllocError>
+    ensures { OnOk result (key.new.items ≡ key.old.items ++ byte ∷ []) }
+{
+    key.push(byte)?;
+    Ok(())
+}
+
+/// Writes a name and a text, each with its end byte.
+fn write_pair(key: &mut Vec<u8>, name: &str, text: &str, lowercase: bool) -> Result<(), AllocError>
+    ensures { OnOk result (key.new.items
+        ≡ key.old.items ++ (text_key lowercase name.now ++ text_key lowercase text.now)) }
+{
+    write_ended(key, name, lowercase)?;
+    write_ended(key, text, lowercase)
 }
 
 /// Writes a text and its end byte.
@@ -66,11 +90,10 @@ fn write_ended(key: &mut Vec<u8>, text: &str, lowercase: bool) -> Result<(), All
     ensures { OnOk result (key.new.items ≡ key.old.items ++ text_key lowercase text.now) }
 {
     write_text(key, text, lowercase)?;
-    key.push(0)?;
-    Ok(())
+    write_byte(key, 0)
 }
 
-/// Writes a text, with the ASCII letters A to Z as a to z where they are folded.
+/// Writes a text, whose letters are folded or not.
 fn write_text(key: &mut Vec<u8>, text: &str, lowercase: bool) -> Result<(), AllocError>
     ensures { OnOk result (key.new.items ≡ key.old.items ++ folded lowercase text.now) }
 {
@@ -81,6 +104,7 @@ fn write_text(key: &mut Vec<u8>, text: &str, lowercase: bool) -> Result<(), Allo
     }
 }
 
+/// Writes a text with the ASCII letters A to Z as a to z.
 fn write_folded(key: &mut Vec<u8>, bytes: &[u8]) -> Result<(), AllocError>
     ensures { OnOk result (key.new.items ≡ key.old.items ++ folded true bytes.now) }
 {

@@ -1,12 +1,12 @@
 -- A walk over a list by place, where the first that breaks a rule ends it.
-use Rattle.std.proofs.Common.{◌≡◌, ℕ, ◌+◌, List, [], ◌∷◌, ◌++◌, drop, ap, sym, ◌∙◌, refl, append_assoc, Some, map}
-use Rattle.std.proofs.lemmas.List.{map-append}
+use Rattle.std.proofs.Common.{◌≡◌, ℕ, ◌+◌, List, [], ◌∷◌, ◌++◌, drop, ap, sym, ◌∙◌, refl, append_assoc, Some}
 use Rattle.std.specs.Prelude.{Result, Ok, Err}
 use Rattle.std.specs.List.{slice_get}
 use Rattle.mdb_encode.proofs.Walk.{drop_at}
 use Rattle.mdb_schema.specs.Broken.{◌>>=◌, each, Checked, Broken}
-use Rattle.mdb_schema.specs.IndexerAnswer.{Answers}
 use Rattle.mdb_schema.specs.SchemaAnswer.{AnswersSchema}
+use Rattle.mdb_schema.specs.inner.IndexerAnswer.{Answers}
+use Rattle.mdb_schema.specs.inner.ListAnswer.{AnswersList}
 use Rattle.mdb_schema.specs.declared.error.SchemaError.{SchemaError}
 use Rattle.mdb_schema.specs.declared.error.SchemaError.TheVariants as schema_error
 use Rattle.mdb_schema.specs.declared.error.IndexerError.{IndexerError}
@@ -34,12 +34,11 @@ pub refused_at : {A B C D : Type 0} (view : C → B) (lists : D → List B) (f :
 refused_at view lists f done xs at x indexer_error.Memory there walked told = tt
 refused_at view lists f done xs at x (indexer_error.Broken r) there walked told = walked ∙ each_stops f done xs at x r there told
 
-pub named_refusal_at : {A B C D : Type 0} (view : C → B) (lists : D → List B) (f : A → Result B Broken) (done : List B) (xs : List A) (at : ℕ) (x : A) (e : SchemaError) → Some x ≡ slice_get xs at → each f xs ≡ behind done (each f (drop at xs)) → AnswersSchema view (f x) (Err e) → AnswersSchema lists (each f xs) (Err e)
-named_refusal_at view lists f done xs at x schema_error.Memory there walked told = tt
-named_refusal_at view lists f done xs at x (schema_error.Broken r t i) there walked told = walked ∙ each_stops f done xs at x (record { rule = r; table = t; index = i }) there told
+pub named_refusal_at : {A B : Type 0} (f : A → Result B Broken) (done : List B) (xs : List A) (at : ℕ) (x : A) (e : SchemaError) → Some x ≡ slice_get xs at → each f xs ≡ behind done (each f (drop at xs)) → AnswersSchema (f x) (Err e) → AnswersList (each f xs) (Err e)
+named_refusal_at f done xs at x schema_error.Memory there walked told = tt
+named_refusal_at f done xs at x (schema_error.Broken r t i) there walked told = walked ∙ each_stops f done xs at x (record { rule = r; table = t; index = i }) there told
 
 -- one more, at the end of what the code holds
-pub each_pushed : {A B C E : Type 0} (f : A → Result B E) (view : C → B) (done more : List C) (xs : List A) (at : ℕ) (x : A) (y : C) → Some x ≡ slice_get xs at → f x ≡ Ok (view y) → each f xs ≡ behind (map view done) (each f (drop at xs)) → more ≡ done ++ y ∷ [] → each f xs ≡ behind (map view more) (each f (drop (at + 1) xs))
-each_pushed f view done more xs at x y there found walked pushed =
-    walked ∙ each_more f (map view done) xs at x (view y) there found
-    ∙ ap (λ ys. behind ys (each f (drop (at + 1) xs))) (sym (ap (map view) pushed ∙ map-append view done (y ∷ [])))
+pub each_pushed : {A B E : Type 0} (f : A → Result B E) (done more : List B) (xs : List A) (at : ℕ) (x : A) (y : B) → Some x ≡ slice_get xs at → f x ≡ Ok y → each f xs ≡ behind done (each f (drop at xs)) → more ≡ done ++ y ∷ [] → each f xs ≡ behind more (each f (drop (at + 1) xs))
+each_pushed f done more xs at x y there found walked pushed =
+    walked ∙ each_more f done xs at x y there found ∙ ap (λ ys. behind ys (each f (drop (at + 1) xs))) (sym pushed)

@@ -10,7 +10,7 @@ use Rattle.mdb_encode.specs.declared.kind.Kind.{Kind}
 use Rattle.mdb_encode.specs.Lawful.{IsWidth, IsScalar, IsPart, AreParts, IsPartList, IsLawful}
 use Rattle.mdb_encode.proofs.Parts.{part_is_lawful}
 use Rattle.mdb_schema.specs.Broken.{◌>>=◌, needed, passed, each}
-use Rattle.mdb_schema.specs.IndexerAnswer.{Answers}
+use Rattle.mdb_schema.specs.inner.IndexerAnswer.{Answers}
 use Rattle.mdb_schema.specs.Members.{text_bytes, filled}
 use Rattle.mdb_schema.specs.Shapes.{has_only, both, field_in, flag_or_false, number_in, scalar_in, folded_shape, width_shape, plain_shape, equals_shape, compound_shape}
 use Rattle.mdb_schema.specs.Reading.{width_of, sized, folded_indexer, width_indexer, plain_indexer, equals_indexer, single_indexer, kind_in, part_in, compound_indexer, whole_indexer, indexer_in}

@@ -13,13 +13,8 @@ use Rattle.std.proofs.lemmas.Map.Keys.{Less-from_sorted}
 use Rattle.std.proofs.lemmas.Map.Text.{is_eq-slice_cmp}
 use Rattle.std.proofs.lemmas.Slice.Eq.{bytes_eq-Decides}
 use Rattle.mdb_encode.specs.Bytes.{Bytes, byte_order}
-use Rattle.mdb_schema.specs.InOrder.{index_names, table_names, AreIndexesInOrder, AreTablesInOrder}
-use Rattle.mdb_schema.specs.IndexDef.{index_view}
-use Rattle.mdb_schema.specs.Places.{index_place}
-use Rattle.mdb_schema.specs.Schema.{IndexSchema, TableSchema, table_place}
-use Rattle.mdb_schema.specs.TableDef.{table_view}
-use Rattle.mdb_schema.specs.declared.index_def.IndexDef.{IndexDef}
-use Rattle.mdb_schema.specs.declared.table_def.TableDef.{TableDef}
+use Rattle.mdb_schema.specs.LawfulSchema.{AreInOrder, index_names, table_names}
+use Rattle.mdb_schema.specs.Schema.{IndexSchema, TableSchema, index_place, table_place}
 
 -- the place of a name
 abbrev place : Bytes → List Bytes → Option ℕ
@@ -94,22 +89,10 @@ module _ {A : Type 0} (name_of : A → Bytes) (name : Bytes) where
         | inr upper ↦ other_name (get_or ns k []) name Greater (named_at (λ n. byte_order n name ≡ Greater) xs k inside (λ d. parts.1 k d upper inside)) refl
       ]))
 
-index_names_are : (xs : List IndexDef) → map (λ (i : IndexDef). (index_view i).name) xs ≡ index_names (map index_view xs)
-index_names_are [] = refl
-index_names_are (x ∷ xs) = ap (λ ns. (index_view x).name ∷ ns) (index_names_are xs)
+pub index_searched : (name : Bytes) (is : List IndexSchema) → AreInOrder (index_names is) → (r : Result ℕ ℕ) → IsSearchInRange r (length is) → IsBinarySearchResult (λ i. byte_order i.name name) is r → result_ok r ≡ index_place name is
+index_searched name is rising r within found =
+    searched (λ (i : IndexSchema). i.name) name is rising r within found ∙ sym (indexes_by_name name is)
 
-table_names_are : (xs : List TableDef) → map (λ (t : TableDef). (table_view t).name) xs ≡ table_names (map table_view xs)
-table_names_are [] = refl
-table_names_are (x ∷ xs) = ap (λ ns. (table_view x).name ∷ ns) (table_names_are xs)
-
-pub index_searched : (name : Bytes) (xs : List IndexDef) → AreIndexesInOrder (map index_view xs) → (r : Result ℕ ℕ) → IsSearchInRange r (length xs) → IsBinarySearchResult (λ i. byte_order (index_view i).name name) xs r → result_ok r ≡ index_place name (map index_view xs)
-index_searched name xs rising r within found =
-    let same = index_names_are xs in
-    searched (λ (i : IndexDef). (index_view i).name) name xs (subst (λ ns. IsStrictlySortedBy byte_order ns) (sym same) rising) r within found
-    ∙ ap (place name) same ∙ sym (indexes_by_name name (map index_view xs))
-
-pub table_searched : (name : Bytes) (xs : List TableDef) → AreTablesInOrder (map table_view xs) → (r : Result ℕ ℕ) → IsSearchInRange r (length xs) → IsBinarySearchResult (λ t. byte_order (table_view t).name name) xs r → result_ok r ≡ table_place name (map table_view xs)
-table_searched name xs rising r within found =
-    let same = table_names_are xs in
-    searched (λ (t : TableDef). (table_view t).name) name xs (subst (λ ns. IsStrictlySortedBy byte_order ns) (sym same) rising) r within found
-    ∙ ap (place name) same ∙ sym (tables_by_name name (map table_view xs))
+pub table_searched : (name : Bytes) (ts : List TableSchema) → AreInOrder (table_names ts) → (r : Result ℕ ℕ) → IsSearchInRange r (length ts) → IsBinarySearchResult (λ t. byte_order t.name name) ts r → result_ok r ≡ table_place name ts
+table_searched name ts rising r within found =
+    searched (λ (t : TableSchema). t.name) name ts rising r within found ∙ sym (tables_by_name name ts)

@@ -1,6 +1,7 @@
--- What the reading of a schema's file is: the schema, or the first rule that it breaks, with the names of the table and the
--- index where it is broken. The tests stand in the order in which they are made, and members in the order of the document,
--- which is the byte order of their names where it was read from a text.
+-- What the reading of a schema's file is: the schema, or the first rule that it breaks, with the
+-- names of the table and the index where it is broken. The tests stand in the order in which they
+-- are made, and members in the order of the document, which is the byte order of their names where
+-- it was read from a text.
 use Rattle.std.specs.Prelude.{◌==◌, ℕ, ℤ, pos, negsuc, List, length, nat_lt, nat_le, Bool, true, false, not, if◌then◌else◌, Some, None, option_and_then, Result, Ok, Err, codes}
 use Rattle.std.specs.Str.{bytes_eq}
 use Rattle.mdb_datum.specs.Doc.{Doc, Field, member}
@@ -20,7 +21,11 @@ use Rattle.mdb_schema.specs.declared.kind_name.KindName.TheVariants as kind
 
 -- a width in bytes
 abbrev pub width_of : ℤ → Checked ℕ
-width_of (pos n) = if n == 1 then Ok 1 else (if n == 2 then Ok 2 else (if n == 4 then Ok 4 else (if n == 8 then Ok 8 else Err rule.BadWidth)))
+width_of (pos n) =
+    if n == 1 then Ok 1 else (
+    if n == 2 then Ok 2 else (
+    if n == 4 then Ok 4 else (
+    if n == 8 then Ok 8 else Err rule.BadWidth)))
 width_of (negsuc n) = Err rule.BadWidth
 
 abbrev pub folded_indexer : (Bytes → Bool → Indexer) → List Field → Checked Indexer
@@ -110,16 +115,28 @@ id_in unique allow_missing i = do
 
 -- what an index has to be, by its name
 abbrev pub index_rules : Bytes → Bool → Bool → Indexer → Checked (Unit {0})
-index_rules name unique allow_missing i = if bytes_eq name (codes "id") then id_in unique allow_missing i else Ok tt
+index_rules name unique allow_missing i =
+    if bytes_eq name (codes "id") then id_in unique allow_missing i else Ok tt
+
+-- the members of an index under its name: the indexer, and `unique` and `allow_missing`
+abbrev pub index_members : Field → Checked (Doc × (Bool × Bool))
+index_members f = do
+  declared ← passed rule.BadName (is_declared_name f.0)
+  members ← needed rule.BadShape (object_fields f.1)
+  needed rule.BadShape (index_shape members)
+
+-- the indexer of an index, where it keeps to what its name asks
+abbrev pub index_kind : Bytes → Bool → Bool → Doc → Checked Indexer
+index_kind name unique allow_missing d = do
+  i ← indexer_in d
+  kept ← index_rules name unique allow_missing i
+  Ok i
 
 -- an index under its name
 abbrev pub index_in : Field → Checked IndexSchema
 index_in f = do
-  declared ← passed rule.BadName (is_declared_name f.0)
-  members ← needed rule.BadShape (object_fields f.1)
-  shape ← needed rule.BadShape (index_shape members)
-  i ← indexer_in shape.0
-  kept ← index_rules f.0 shape.1.0 shape.1.1 i
+  shape ← index_members f
+  i ← index_kind f.0 shape.1.0 shape.1.1 shape.0
   Ok (record { name = f.0; unique = shape.1.0; allow_missing = shape.1.1; indexer = i })
 
 -- an index of the table of a name

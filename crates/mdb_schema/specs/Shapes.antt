@@ -1,5 +1,6 @@
--- The shapes of the objects in a schema's document. `None` stands for another shape: a member too many, one that isn't
--- there and has to be, or one of another form. `unique`, `allow_missing` and `lowercase` are false where they are left out.
+-- The shapes of the objects in a schema's document. `None` stands for another shape: a member too
+-- many, one that isn't there and has to be, or one of another form. `unique`, `allow_missing` and
+-- `lowercase` are false where they are left out.
 use Rattle.std.specs.Prelude.{ℤ, List, Bool, false, if◌then◌else◌, Option, Some, None, option_and_then, [], ◌∷◌, codes}
 use Rattle.std.specs.List.{list_any, list_all}
 use Rattle.std.specs.Str.{bytes_eq}
@@ -42,7 +43,8 @@ both (Some x) (Some y) = Some (x, y)
 -- `memdb`, a whole number, and `tables`, an object
 abbrev pub schema_shape : List Field → Option (ℤ × List Field)
 schema_shape fs = if has_only (codes "memdb" ∷ codes "tables" ∷ []) fs
-    then both (option_and_then number_in (member (codes "memdb") fs)) (option_and_then object_fields (member (codes "tables") fs)) else None
+    then both (option_and_then number_in (member (codes "memdb") fs))
+    (option_and_then object_fields (member (codes "tables") fs)) else None
 
 -- `indexes`, an object
 abbrev pub table_shape : List Field → Option (List Field)
@@ -52,7 +54,9 @@ table_shape fs = if has_only (codes "indexes" ∷ []) fs
 -- `indexer`, and `unique` and `allow_missing`
 abbrev pub index_shape : List Field → Option (Doc × (Bool × Bool))
 index_shape fs = if has_only (codes "indexer" ∷ codes "unique" ∷ codes "allow_missing" ∷ []) fs
-    then both (member (codes "indexer") fs) (both (flag_or_false (member (codes "unique") fs)) (flag_or_false (member (codes "allow_missing") fs))) else None
+    then both (member (codes "indexer") fs)
+    (both (flag_or_false (member (codes "unique") fs))
+    (flag_or_false (member (codes "allow_missing") fs))) else None
 
 -- the members of an indexer, beside `kind`
 -- `field` and `lowercase`
@@ -77,4 +81,5 @@ equals_shape fs = if has_only (codes "kind" ∷ codes "field" ∷ codes "equals"
 -- `parts`, a list, and `allow_missing`
 abbrev pub compound_shape : List Field → Option (List Doc × Bool)
 compound_shape fs = if has_only (codes "kind" ∷ codes "parts" ∷ codes "allow_missing" ∷ []) fs
-    then both (option_and_then list_in (member (codes "parts") fs)) (flag_or_false (member (codes "allow_missing") fs)) else None
+    then both (option_and_then list_in (member (codes "parts") fs))
+    (flag_or_false (member (codes "allow_missing") fs)) else None

@@ -1,3 +1,4 @@
+//! Why bytes are no schema.
 ghost use Rattle.std.specs.Prelude.{◌≡◌};
 ghost use Rattle.mdb_schema.specs.declared.error.IndexerError.TheVariants as indexer_error;
 ghost use Rattle.mdb_schema.specs.declared.error.SchemaError.TheVariants as schema_error;
@@ -11,8 +12,8 @@ use std::alloc::{AllocError, AllocFailed};
 pub enum SchemaError {
     /// There was not enough memory.
     Memory,
-    /// The first rule that they break, and the names of the table and the index where they do. A rule
-    /// of the file as a whole has no names, and one of a table as a whole has no index.
+    /// The first rule that they break, and the names of the table and the index where they do. A
+    /// rule of the file as a whole has no names, and one of a table as a whole has no index.
     Broken {
         rule: SchemaRule,
         table: Option<Text>,
@@ -37,7 +38,7 @@ impl<T: Drop> From<AllocFailed<T>> for SchemaError {
 }
 
 /// Why a part of a document is no index, before the names of the table and the index are known.
-#[derive(Clone, Copy, Debug, PartialEq, Eq)]
+#[derive(Clone, Copy)]
 pub(crate) enum IndexerError {
     /// There was not enough memory.
     Memory,

@@ -1,10 +1,15 @@
+//! Indexes of a table.
 ghost use Rattle.std.specs.Prelude.{◌≡◌};
 ghost use Rattle.mdb_encode.specs.Kind.{indexer_of};
+ghost use Rattle.mdb_encode.specs.Lawful.{IsLawful};
+ghost use Rattle.mdb_schema.specs.LawfulSchema.{IsLawfulIndex};
 
 use mdb_datum::Text;
 use mdb_encode::Kind;
+use std::marker::Model;
 
-/// An index of a table: its name, its rules, and how its keys are made.
+/// An index of a table, seen as an `IndexSchema`: its name, its rules, and how its keys are made. It
+/// is lawful by its type, which `name` tells.
 #[derive(Drop)]
 pub struct IndexDef {
     name: Text,
@@ -13,12 +18,37 @@ pub struct IndexDef {
     kind: Kind,
 }
 
-impl IndexDef {
-    ghost use Rattle.mdb_schema.specs.IndexDef.{index_view};
+impl Model for IndexDef {
+    ghost use Rattle.mdb_schema.specs.LawfulSchema.{IsLawfulIndex};
+    ghost use Rattle.mdb_schema.specs.Schema.{IndexSchema};
+    ghost use Rattle.mdb_schema.specs.inner.Stored.{index_code};
 
+    ghost Value = { IndexSchema };
+
+    ghost coded = { index_code };
+
+    ghost use Rattle.mdb_schema.specs.inner.IndexView.{index_view};
+
+    ghost view = { index_view };
+
+    ghost invariant = { λ d. IsLawfulIndex (index_view d) };
+}
+
+impl IndexDef {
+    /// An index of these parts.
     pub(crate) fn of(name: Text, unique: bool, allow_missing: bool, kind: Kind) -> IndexDef
-        ensures { index_view result
-            ≡ record { name = name; unique = unique; allow_missing = allow_missing; indexer = indexer_of kind } }
+        requires { IsLawfulIndex (record {
+          name = name;
+          unique = unique;
+          allow_missing = allow_missing;
+          indexer = indexer_of kind;
+        }) }
+        ensures { result ≡ record {
+          name = name;
+          unique = unique;
+          allow_missing = allow_missing;
+          indexer = indexer_of kind;
+        } }
     {
         IndexDef {
             name,
@@ -30,28 +60,30 @@ impl IndexDef {
 
     /// The index's name.
     pub fn name(&self) -> &Text
-        ensures { result.now ≡ (index_view self.now).name }
+        ensures name { result.now ≡ self.now.name }
+        ensures lawful { IsLawfulIndex self.now }
     {
         &self.name
     }
 
     /// Whether no two rows may have the same key.
     pub fn unique(&self) -> bool
-        ensures { result ≡ (index_view self.now).unique }
+        ensures { result ≡ self.now.unique }
     {
         self.unique
     }
 
     /// Whether a row may have no key.
     pub fn allow_missing(&self) -> bool
-        ensures { result ≡ (index_view self.now).allow_missing }
+        ensures { result ≡ self.now.allow_missing }
     {
         self.allow_missing
     }
 
     /// How the keys are made.
     pub fn kind(&self) -> &Kind
-        ensures { indexer_of result.now ≡ (index_view self.now).indexer }
+        ensures indexer { indexer_of result.now ≡ self.now.indexer }
+        ensures lawful { IsLawful (indexer_of result.now) }
     {
         &self.kind
     }

@@ -1,12 +1,13 @@
-// Indexers: from a document to a kind of index.
+//! Indexers: from a document to a kind of index.
 ghost use Rattle.std.specs.Prelude.{◌≡◌, IfOk};
 ghost use Rattle.std.specs.Result.{result_map_both};
 ghost use Rattle.mdb_datum.specs.Datum.{doc_of, items_of, members_of};
+ghost use Rattle.mdb_encode.specs.Indexer.{str, uint, sint};
 ghost use Rattle.mdb_encode.specs.Kind.{indexer_of, indexers_of};
 ghost use Rattle.mdb_encode.specs.Lawful.{IsLawful, IsScalar};
 ghost use Rattle.mdb_schema.specs.Broken.{needed, each};
-ghost use Rattle.mdb_schema.specs.IndexerAnswer.{Answers};
-ghost use Rattle.mdb_schema.specs.Reading.{width_of, sized, kind_in, single_indexer, part_in, compound_indexer, whole_indexer, indexer_in};
+ghost use Rattle.mdb_schema.specs.inner.IndexerAnswer.{Answers};
+ghost use Rattle.mdb_schema.specs.Reading.{width_of, folded_indexer, sized, width_indexer, equals_indexer, kind_in, single_indexer, part_in, compound_indexer, whole_indexer, indexer_in};
 ghost use Rattle.mdb_schema.specs.Shapes.{folded_shape, plain_shape, equals_shape};
 ghost use Rattle.mdb_schema.specs.declared.schema_rule.SchemaRule.TheVariants as rule;
 
@@ -35,7 +36,8 @@ fn width_of(number: i128) -> Result<u8, SchemaRule>
 
 /// The kind of an indexer, and its members.
 fn kind_in(document: &Datum) -> Result<(KindName, &Members), SchemaRule>
-    ensures { result_map_both (λ p. (p.0, members_of p.1.now)) (λ r. r) result ≡ kind_in (doc_of document.now) }
+    ensures { result_map_both (λ p. (p.0, members_of p.1.now)) (λ r. r) result
+        ≡ kind_in (doc_of document.now) }
 {
     let Some(members) = object_in(document) else {
         return Err(SchemaRule::BadShape);
@@ -96,7 +98,8 @@ fn scalar_copy(alloc: Global, document: &Datum) -> Result<Datum, AllocError>
 
 /// Copies of `field` and `equals`.
 fn compared(alloc: Global, members: &Members) -> Result<(Text, Datum), IndexerError>
-    ensures { Answers (λ p. (p.0, doc_of p.1)) (needed rule.BadShape (equals_shape (members_of members.now))) result }
+    ensures { Answers (λ p. (p.0, doc_of p.1))
+        (needed rule.BadShape (equals_shape (members_of members.now))) result }
 {
     let Some((field, scalar)) = equals_shape(members) else {
         return Err(IndexerError::Broken(SchemaRule::BadShape));
@@ -107,23 +110,46 @@ fn compared(alloc: Global, members: &Members) -> Result<(Text, Datum), IndexerEr
     ))
 }
 
+/// An indexer of the kind `text`.
+fn text_indexer(alloc: Global, members: &Members) -> Result<Kind, IndexerError>
+    ensures { Answers indexer_of (folded_indexer str (members_of members.now)) result }
+{
+    let (field, lowercase) = folded(alloc, members)?;
+    Ok(Kind::Str { field, lowercase })
+}
+
+/// An indexer of the kind `uint`.
+fn uint_indexer(alloc: Global, members: &Members) -> Result<Kind, IndexerError>
+    ensures { Answers indexer_of (width_indexer uint (members_of members.now)) result }
+{
+    let (field, width) = sized(alloc, members)?;
+    Ok(Kind::Uint { field, width })
+}
+
+/// An indexer of the kind `int`.
+fn int_indexer(alloc: Global, members: &Members) -> Result<Kind, IndexerError>
+    ensures { Answers indexer_of (width_indexer sint (members_of members.now)) result }
+{
+    let (field, width) = sized(alloc, members)?;
+    Ok(Kind::Sint { field, width })
+}
+
+/// An indexer of the kind `conditional`.
+fn conditional_indexer(alloc: Global, members: &Members) -> Result<Kind, IndexerError>
+    ensures { Answers indexer_of (equals_indexer (members_of members.now)) result }
+{
+    let (field, scalar) = compared(alloc, members)?;
+    Ok(Kind::Equals { field, scalar })
+}
+
 /// An indexer that may be a part, whose kind is known.
 fn single_indexer(alloc: Global, kind: KindName, members: &Members) -> Result<Kind, IndexerError>
     ensures { Answers indexer_of (single_indexer kind (members_of members.now)) result }
 {
     match kind {
-        KindName::Text => {
-            let (field, lowercase) = folded(alloc, members)?;
-            Ok(Kind::Str { field, lowercase })
-        }
-        KindName::Uint => {
-            let (field, width) = sized(alloc, members)?;
-            Ok(Kind::Uint { field, width })
-        }
-        KindName::Int => {
-            let (field, width) = sized(alloc, members)?;
-            Ok(Kind::Sint { field, width })
-        }
+        KindName::Text => text_indexer(alloc, members),
+        KindName::Uint => uint_indexer(alloc, members),
+        KindName::Int => int_indexer(alloc, members),
         KindName::Bool => Ok(Kind::Flag {
             field: plain(alloc, members)?,
         }),
@@ -133,10 +159,7 @@ fn single_indexer(alloc: Global, kind: KindName, members: &Members) -> Result<Ki
         KindName::FieldSet => Ok(Kind::IsSet {
             field: plain(alloc, members)?,
         }),
-        KindName::Conditional => {
-            let (field, scalar) = compared(alloc, members)?;
-            Ok(Kind::Equals { field, scalar })
-        }
+        KindName::Conditional => conditional_indexer(alloc, members),
         KindName::TextList | KindName::TextMap | KindName::Compound => {
             Err(IndexerError::Broken(SchemaRule::BadPart))
         }

@@ -1,19 +1,29 @@
-// The names of the kinds of indexers in a schema file.
+//! The kinds of indexers, by their names in a schema file.
 ghost use Rattle.std.specs.Prelude.{◌≡◌};
 ghost use Rattle.mdb_schema.specs.KindName.{kind_named};
 
 /// A kind of indexer.
-#[derive(Clone, Copy, Debug, PartialEq, Eq)]
+#[derive(Clone, Copy)]
 pub(crate) enum KindName {
+    /// `text`.
     Text,
+    /// `text_list`.
     TextList,
+    /// `text_map`.
     TextMap,
+    /// `uint`.
     Uint,
+    /// `int`.
     Int,
+    /// `bool`.
     Bool,
+    /// `uuid`.
     Uuid,
+    /// `field_set`.
     FieldSet,
+    /// `conditional`.
     Conditional,
+    /// `compound`.
     Compound,
 }
 
@@ -21,35 +31,17 @@ pub(crate) enum KindName {
 pub(crate) fn kind_named(word: &str) -> Option<KindName>
     ensures { result ≡ kind_named word.now }
 {
-    if word == "text" {
-        return Some(KindName::Text);
+    match word {
+        "text" => Some(KindName::Text),
+        "text_list" => Some(KindName::TextList),
+        "text_map" => Some(KindName::TextMap),
+        "uint" => Some(KindName::Uint),
+        "int" => Some(KindName::Int),
+        "bool" => Some(KindName::Bool),
+        "uuid" => Some(KindName::Uuid),
+        "field_set" => Some(KindName::FieldSet),
+        "conditional" => Some(KindName::Conditional),
+        "compound" => Some(KindName::Compound),
+        _ => None,
     }
-    if word == "text_list" {
-        return Some(KindName::TextList);
-    }
-    if word == "text_map" {
-        return Some(KindName::TextMap);
-    }
-    if word == "uint" {
-        return Some(KindName::Uint);
-    }
-    if word == "int" {
-        return Some(KindName::Int);
-    }
-    if word == "bool" {
-        return Some(KindName::Bool);
-    }
-    if word == "uuid" {
-        return Some(KindName::Uuid);
-    }
-    if word == "field_set" {
-        return Some(KindName::FieldSet);
-    }
-    if word == "conditional" {
-        return Some(KindName::Conditional);
-    }
-    if word == "compound" {
-        return Some(KindName::Compound);
-    }
-    None
 }

@@ -1,4 +1,4 @@
-// Names that a schema may declare.
+//! Names that a schema may declare.
 ghost use Rattle.std.specs.Prelude.{◌≡◌};
 ghost use Rattle.std.specs.List.{list_all};
 ghost use Rattle.mdb_schema.specs.Names.{is_name_byte, is_word, is_declared_name};
@@ -10,6 +10,7 @@ fn is_name_byte(byte: u8) -> bool
     matches!(byte, b'a'..=b'z' | b'A'..=b'Z' | b'0'..=b'9' | b'_' | b'-')
 }
 
+/// Whether each byte may stand in a declared name.
 fn all_name_bytes(bytes: &[u8]) -> bool
     ensures { result ≡ list_all is_name_byte bytes.now }
 {

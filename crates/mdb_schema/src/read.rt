@@ -1,18 +1,19 @@
-// A schema, from its document.
-ghost use Rattle.std.specs.Prelude.{◌≡◌, IfOk, Some, None, option_map, map};
+//! A schema, from its document.
+ghost use Rattle.std.specs.Prelude.{◌≡◌, IfOk, IsTrue, Some, None, option_copied};
 ghost use Rattle.std.specs.Result.{result_map_both};
 ghost use Rattle.mdb_datum.specs.Canonical.{IsRegular};
 ghost use Rattle.mdb_datum.specs.Datum.{doc_of, members_of};
 ghost use Rattle.mdb_datum.specs.Reading.{reading};
 ghost use Rattle.mdb_encode.specs.Kind.{indexer_of};
+ghost use Rattle.mdb_encode.specs.Lawful.{IsLawful};
 ghost use Rattle.mdb_schema.specs.Broken.{each};
-ghost use Rattle.mdb_schema.specs.Definition.{index_view, table_view, schema_view};
-ghost use Rattle.mdb_schema.specs.InOrder.{SchemaInOrder};
-ghost use Rattle.mdb_schema.specs.IndexerAnswer.{Answers};
-ghost use Rattle.mdb_schema.specs.LawfulSchema.{IsLawfulSchema};
-ghost use Rattle.mdb_schema.specs.Reading.{is_multi, id_in, index_rules, index_in, named_index, is_version_one, index_list, table_in, table_list, schema_in, schema_of};
-ghost use Rattle.mdb_schema.specs.Regular.{EachRegular};
-ghost use Rattle.mdb_schema.specs.SchemaAnswer.{AnswersSchema, IsNamed};
+ghost use Rattle.mdb_schema.specs.LawfulSchema.{IsLawfulIndex, IsLawfulSchema};
+ghost use Rattle.mdb_schema.specs.Names.{is_declared_name};
+ghost use Rattle.mdb_schema.specs.Reading.{is_multi, id_in, index_rules, index_members, index_kind, index_in, named_index, is_version_one, index_list, table_in, table_list, schema_in, schema_of};
+ghost use Rattle.mdb_schema.specs.SchemaAnswer.{AnswersSchema};
+ghost use Rattle.mdb_schema.specs.inner.IndexerAnswer.{Answers};
+ghost use Rattle.mdb_schema.specs.inner.ListAnswer.{AnswersList, IsNamed};
+ghost use Rattle.mdb_schema.specs.inner.Regular.{EachRegular};
 
 use crate::error::{IndexerError, SchemaError};
 use crate::index_def::IndexDef;
@@ -74,28 +75,64 @@ fn index_rules(
     }
 }
 
-/// The index under a name.
-fn index_in(alloc: Global, name: &Text, document: &Datum) -> Result<IndexDef, IndexerError>
-    ensures { Answers index_view (index_in (name.now, doc_of document.now)) result }
+/// The members of an index under a name: the indexer, and `unique` and `allow_missing`.
+fn index_members<'a>(
+    name: &Text,
+    document: &'a Datum,
+) -> Result<(&'a Datum, (bool, bool)), SchemaRule>
+    ensures found { result_map_both (λ p. (doc_of p.0.now, p.1)) (λ r. r) result
+        ≡ index_members (name.now, doc_of document.now) }
+    ensures declared { IfOk result (λ _. IsTrue (is_declared_name name.now)) }
 {
     if !is_declared_name(name.as_str()) {
-        return Err(IndexerError::Broken(SchemaRule::BadName));
+        return Err(SchemaRule::BadName);
     }
     let Some(members) = object_in(document) else {
-        return Err(IndexerError::Broken(SchemaRule::BadShape));
+        return Err(SchemaRule::BadShape);
     };
-    let Some((indexer, (unique, allow_missing))) = index_shape(members) else {
-        return Err(IndexerError::Broken(SchemaRule::BadShape));
+    let Some(shape) = index_shape(members) else {
+        return Err(SchemaRule::BadShape);
     };
+    Ok(shape)
+}
+
+/// The kind of an index, where it keeps to what its name asks.
+fn index_kind(
+    alloc: Global,
+    name: &Text,
+    unique: bool,
+    allow_missing: bool,
+    indexer: &Datum,
+) -> Result<Kind, IndexerError>
+    requires { IsTrue (is_declared_name name.now) }
+    ensures answer { Answers indexer_of
+        (index_kind name.now unique allow_missing (doc_of indexer.now)) result }
+    ensures lawful { IfOk result (λ kind. IsLawfulIndex (record {
+      name = name.now;
+      unique = unique;
+      allow_missing = allow_missing;
+      indexer = indexer_of kind;
+    })) }
+{
     let kind = read_indexer(alloc, indexer)?;
     index_rules(name, unique, allow_missing, &kind)?;
-    let name = Text::of(alloc, name.as_str())?;
-    Ok(IndexDef::of(name, unique, allow_missing, kind))
+    Ok(kind)
+}
+
+/// The index under a name.
+fn index_in(alloc: Global, name: &Text, document: &Datum) -> Result<IndexDef, IndexerError>
+    ensures { Answers (λ index. index) (index_in (name.now, doc_of document.now)) result }
+{
+    let (indexer, (unique, allow_missing)) = index_members(name, document)?;
+    // The name is copied first, so that want of memory for it has no kind to drop.
+    let own = Text::of(alloc, name.as_str())?;
+    let kind = index_kind(alloc, name, unique, allow_missing, indexer)?;
+    Ok(IndexDef::of(own, unique, allow_missing, kind))
 }
 
 /// A copy of a name, where there is one.
 fn copied(alloc: Global, name: Option<&Text>) -> Result<Option<Text>, AllocError>
-    ensures { IfOk result (λ copy. copy ≡ option_map (λ own. own.now) name.entry) }
+    ensures { IfOk result (λ copy. copy ≡ option_copied name.entry) }
 {
     match name {
         Some(name) => Ok(Some(Text::of(alloc, name.as_str())?)),
@@ -110,7 +147,8 @@ fn broken(
     table: Option<&Text>,
     index: Option<&Text>,
 ) -> Result<SchemaError, AllocError>
-    ensures { IfOk result (λ e. IsNamed (IndexerError.Broken rule) (option_map (λ own. own.now) table.entry) (option_map (λ own. own.now) index.entry) e) }
+    ensures { IfOk result (λ e. IsNamed (IndexerError.Broken rule)
+        (option_copied table.entry) (option_copied index.entry) e) }
 {
     let table = copied(alloc, table)?;
     let index = copied(alloc, index)?;
@@ -124,7 +162,8 @@ fn named(
     table: Option<&Text>,
     index: Option<&Text>,
 ) -> SchemaError
-    ensures { IsNamed error (option_map (λ own. own.now) table.entry) (option_map (λ own. own.now) index.entry) result }
+    ensures { IsNamed error
+        (option_copied table.entry) (option_copied index.entry) result }
 {
     match error {
         IndexerError::Memory => SchemaError::Memory,
@@ -142,7 +181,7 @@ fn named_index(
     name: &Text,
     document: &Datum,
 ) -> Result<IndexDef, SchemaError>
-    ensures { AnswersSchema index_view (named_index table.now (name.now, doc_of document.now)) result }
+    ensures { AnswersSchema (named_index table.now (name.now, doc_of document.now)) result }
 {
     match index_in(alloc, name, document) {
         Ok(index) => Ok(index),
@@ -152,7 +191,8 @@ fn named_index(
 
 /// The members for the indexes of a table.
 fn index_list<'a>(name: &Text, document: &'a Datum) -> Result<&'a Members, SchemaRule>
-    ensures { result_map_both (λ m. members_of m.now) (λ r. r) result ≡ index_list (name.now, doc_of document.now) }
+    ensures { result_map_both (λ m. members_of m.now) (λ r. r) result
+        ≡ index_list (name.now, doc_of document.now) }
 {
     if !is_declared_name(name.as_str()) {
         return Err(SchemaRule::BadName);
@@ -177,7 +217,7 @@ fn index_list<'a>(name: &Text, document: &'a Datum) -> Result<&'a Members, Schem
 
 /// The indexes of a table, each whole before the next.
 fn indexes_in(alloc: Global, table: &Text, members: &Members) -> Result<Vec<IndexDef>, SchemaError>
-    ensures { AnswersSchema (λ v. map index_view v.items) (each (named_index table.now) (members_of members.now)) result }
+    ensures { AnswersList (each (named_index table.now) (members_of members.now)) result }
 {
     let mut indexes = Vec::new(alloc);
     for at in 0..members.len() {
@@ -195,7 +235,7 @@ fn indexes_in(alloc: Global, table: &Text, members: &Members) -> Result<Vec<Inde
 /// The table under a name.
 fn table_in(alloc: Global, name: &Text, document: &Datum) -> Result<TableDef, SchemaError>
     requires { IsRegular (doc_of document.now) }
-    ensures { AnswersSchema table_view (table_in (name.now, doc_of document.now)) result }
+    ensures { AnswersSchema (table_in (name.now, doc_of document.now)) result }
 {
     let members = match index_list(name, document) {
         Ok(members) => members,
@@ -203,9 +243,10 @@ fn table_in(alloc: Global, name: &Text, document: &Datum) -> Result<TableDef, Sc
     };
     let indexes = indexes_in(alloc, name, members)?;
     let name = Text::of(alloc, name.as_str())?;
-    Ok(TableDef::of(name, indexes))
+    Ok(TableDef::of(alloc, name, indexes)?)
 }
 
+/// Whether the version of the format is 1, the only one.
 fn is_version_one(number: i128) -> bool
     ensures { result ≡ is_version_one number }
 {
@@ -237,7 +278,7 @@ fn table_list(document: &Datum) -> Result<&Members, SchemaRule>
 /// The tables, each whole before the next.
 fn tables_in(alloc: Global, members: &Members) -> Result<Vec<TableDef>, SchemaError>
     requires { EachRegular (members_of members.now) }
-    ensures { AnswersSchema (λ v. map table_view v.items) (each table_in (members_of members.now)) result }
+    ensures { AnswersList (each table_in (members_of members.now)) result }
 {
     let mut tables = Vec::new(alloc);
     for at in 0..members.len() {
@@ -255,7 +296,7 @@ fn tables_in(alloc: Global, members: &Members) -> Result<Vec<TableDef>, SchemaEr
 /// The schema that a document is.
 fn schema_in(alloc: Global, document: &Datum) -> Result<Schema, SchemaError>
     requires { IsRegular (doc_of document.now) }
-    ensures { AnswersSchema schema_view (schema_in (doc_of document.now)) result }
+    ensures { AnswersSchema (schema_in (doc_of document.now)) result }
 {
     let members = match table_list(document) {
         Ok(members) => members,
@@ -267,20 +308,10 @@ fn schema_in(alloc: Global, document: &Datum) -> Result<Schema, SchemaError>
 
 /// The schema that a file's bytes are, or the first rule that they break. It takes memory for the
 /// document and the schema, and time in proportion to the bytes.
-#[tactic(auto, using(crate::proofs::LawfulSchemas::schema_answer_lawful))]
+#[tactic(auto, using(crate::proofs::LawfulSchemas::answer_lawful))]
 pub fn read_schema(alloc: Global, bytes: &[u8]) -> Result<Schema, SchemaError>
-    ensures answer { AnswersSchema schema_view (schema_of (reading bytes.now)) result }
-    ensures lawful { IfOk result (λ s. IsLawfulSchema (schema_view s)) }
-    ensures order { IfOk result (λ s. SchemaInOrder (schema_view s)) }
-{
-    schema_from(alloc, bytes)
-}
-
-/// The same, from the document that the bytes are.
-#[tactic(auto, using(crate::proofs::Rising::answer_rises))]
-fn schema_from(alloc: Global, bytes: &[u8]) -> Result<Schema, SchemaError>
-    ensures answer { AnswersSchema schema_view (schema_of (reading bytes.now)) result }
-    ensures order { IfOk result (λ s. SchemaInOrder (schema_view s)) }
+    ensures answer { AnswersSchema (schema_of (reading bytes.now)) result }
+    ensures lawful { IfOk result (λ schema. IsLawfulSchema schema) }
 {
     match read_doc(alloc, bytes) {
         Ok(document) => schema_in(alloc, &document),

@@ -1,48 +1,60 @@
-ghost use Rattle.std.specs.Prelude.{◌≡◌, length, map, option_map, slice_get};
-ghost use Rattle.mdb_schema.specs.InOrder.{AreTablesInOrder, AreTablesInOrder-prop};
-ghost use Rattle.mdb_schema.specs.TableDef.{table_view};
+//! Schemas.
+ghost use Rattle.std.specs.Prelude.{◌≡◌, IfSome, length, option_copied, slice_get};
+ghost use Rattle.mdb_schema.specs.LawfulSchema.{IsLawfulSchema, IsLawfulTable};
+ghost use Rattle.mdb_schema.specs.Schema.{table_place};
 
 use crate::table_def::TableDef;
+use std::marker::Model;
 
-/// A schema, which never changes: its tables, which stand in byte order of their names.
+/// A schema, seen as a `DbSchema`: its tables, which stand in byte order of their names. It never
+/// changes. It is lawful by its type, which `len` tells.
 #[derive(Drop)]
 pub struct Schema {
     tables: Vec<TableDef>,
-    pub ghost in_order: { AreTablesInOrder (map table_view tables.items) } by { AreTablesInOrder-prop (map table_view tables.items) },
+}
+
+impl Model for Schema {
+    ghost use Rattle.mdb_schema.specs.LawfulSchema.{IsLawfulSchema};
+    ghost use Rattle.mdb_schema.specs.Schema.{DbSchema};
+    ghost use Rattle.mdb_schema.specs.inner.Stored.{schema_code};
+
+    ghost Value = { DbSchema };
+
+    ghost coded = { schema_code };
+
+    ghost view = { λ s. s.tables.items };
+
+    ghost invariant = { λ s. IsLawfulSchema s.tables.items };
 }
 
 impl Schema {
-    ghost use Rattle.mdb_schema.specs.Definition.{schema_view};
-    ghost use Rattle.mdb_schema.specs.Schema.{table_place};
-
+    /// A schema of these tables.
     pub(crate) fn of(tables: Vec<TableDef>) -> Schema
-        requires { AreTablesInOrder (map table_view tables.items) }
-        ensures { schema_view result ≡ map table_view tables.items }
+        requires { IsLawfulSchema tables.items }
+        ensures { result ≡ tables.items }
     {
         Schema { tables }
     }
 
     /// How many tables there are.
     pub fn len(&self) -> usize
-        ensures { result ≡ length (schema_view self.now) }
+        ensures count { result ≡ length self.now }
+        ensures lawful { IsLawfulSchema self.now }
     {
         self.tables.len()
     }
 
     /// The table at a place, counted from 0.
     pub fn table(&self, at: usize) -> Option<&TableDef>
-        ensures { option_map (λ t. table_view t.now) result ≡ slice_get (schema_view self.now) at }
+        ensures found { option_copied result ≡ slice_get self.now at }
+        ensures lawful { IfSome result (λ table. IsLawfulTable table.now) }
     {
-        if at < self.tables.len() {
-            Some(&self.tables[at])
-        } else {
-            None
-        }
+        self.tables.get(at)
     }
 
     /// The place of the table of a name. It takes time in the logarithm of the number of tables.
     pub fn find(&self, name: &str) -> Option<usize>
-        ensures { result ≡ table_place name.now (schema_view self.now) }
+        ensures { result ≡ table_place name.now self.now }
     {
         let name = name.as_bytes();
         self.tables

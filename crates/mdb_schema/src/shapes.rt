@@ -1,5 +1,5 @@
-// The shapes of the objects in a schema's document: which members they have, and of which form.
-ghost use Rattle.std.specs.Prelude.{◌≡◌, map, option_map, option_and_then, IfSome};
+//! The shapes of the objects in a schema's document: which members they have, and of which form.
+ghost use Rattle.std.specs.Prelude.{◌≡◌, map, option_map, option_copied, option_and_then, IfSome};
 ghost use Rattle.mdb_encode.specs.Lawful.{IsScalar};
 ghost use Rattle.std.specs.List.{list_any};
 ghost use Rattle.std.specs.Str.{bytes_eq};
@@ -9,6 +9,30 @@ ghost use Rattle.mdb_schema.specs.Members.{object_fields, text_bytes};
 ghost use Rattle.mdb_schema.specs.Shapes.{has_only, flag_or_false, number_in, list_in, scalar_in, field_in, schema_shape, table_shape, index_shape, folded_shape, width_shape, plain_shape, equals_shape, compound_shape};
 
 use mdb_datum::{Datum, Items, Members, Text};
+
+/// The members that a schema may have.
+const SCHEMA_NAMES: [&str; 2] = ["memdb", "tables"];
+
+/// The members that a table may have.
+const TABLE_NAMES: [&str; 1] = ["indexes"];
+
+/// The members that an index may have.
+const INDEX_NAMES: [&str; 3] = ["indexer", "unique", "allow_missing"];
+
+/// The members that an indexer of texts may have.
+const FOLDED_NAMES: [&str; 3] = ["kind", "field", "lowercase"];
+
+/// The members that an indexer of numbers may have.
+const WIDTH_NAMES: [&str; 3] = ["kind", "field", "width"];
+
+/// The members that an indexer with no choice may have.
+const PLAIN_NAMES: [&str; 2] = ["kind", "field"];
+
+/// The members that an indexer with a condition may have.
+const EQUALS_NAMES: [&str; 3] = ["kind", "field", "equals"];
+
+/// The members that an indexer of several parts may have.
+const COMPOUND_NAMES: [&str; 3] = ["kind", "parts", "allow_missing"];
 
 /// The members of an object.
 #[tactic(auto, using(crate::proofs::ShapeLemmas::object_found))]
@@ -23,7 +47,7 @@ pub(crate) fn object_in(document: &Datum) -> Option<&Members>
 
 /// The text that a document is.
 pub(crate) fn text_in(document: &Datum) -> Option<&Text>
-    ensures { option_map (λ s. s.now) result ≡ text_bytes (doc_of document.now) }
+    ensures { option_copied result ≡ text_bytes (doc_of document.now) }
 {
     match document {
         Datum::Str(text) => Some(text),
@@ -31,6 +55,7 @@ pub(crate) fn text_in(document: &Datum) -> Option<&Text>
     }
 }
 
+/// Whether a name is one of these.
 fn is_one_of(name: &Text, names: &[&str]) -> bool
     ensures { result ≡ list_any (λ own. bytes_eq name.now own) (map (λ own. own.now) names.now) }
 {
@@ -91,9 +116,42 @@ fn scalar_in(document: &Datum) -> Option<&Datum>
 
 /// The text under a name.
 pub(crate) fn text_under<'a>(members: &'a Members, name: &str) -> Option<&'a Text>
-    ensures { option_map (λ s. s.now) result ≡ option_and_then text_bytes (member name.now (members_of members.now)) }
+    ensures { option_copied result
+        ≡ option_and_then text_bytes (member name.now (members_of members.now)) }
 {
     text_in(members.get(name)?)
+}
+
+/// The whole number under a name.
+fn number_under(members: &Members, name: &str) -> Option<i128>
+    ensures { result ≡ option_and_then number_in (member name.now (members_of members.now)) }
+{
+    number_in(members.get(name)?)
+}
+
+/// The members of the object under a name.
+fn object_under<'a>(members: &'a Members, name: &str) -> Option<&'a Members>
+    ensures { option_map (λ m. members_of m.now) result
+        ≡ option_and_then object_fields (member name.now (members_of members.now)) }
+{
+    object_in(members.get(name)?)
+}
+
+/// The list under a name.
+fn list_under<'a>(members: &'a Members, name: &str) -> Option<&'a Items>
+    ensures { option_map (λ l. items_of l.now) result
+        ≡ option_and_then list_in (member name.now (members_of members.now)) }
+{
+    list_in(members.get(name)?)
+}
+
+/// The document under a name, where it is no list and no object.
+fn scalar_under<'a>(members: &'a Members, name: &str) -> Option<&'a Datum>
+    ensures found { option_map (λ d. doc_of d.now) result
+        ≡ option_and_then scalar_in (member name.now (members_of members.now)) }
+    ensures scalar { IfSome result (λ d. IsScalar (doc_of d.now)) }
+{
+    scalar_in(members.get(name)?)
 }
 
 /// The truth value under a name, or false where there is no such member.
@@ -109,7 +167,7 @@ fn flag_under(members: &Members, name: &str) -> Option<bool>
 
 /// The member that an indexer reads.
 fn field_in(members: &Members) -> Option<&Text>
-    ensures { option_map (λ s. s.now) result ≡ field_in (members_of members.now) }
+    ensures { option_copied result ≡ field_in (members_of members.now) }
 {
     let name = text_under(members, "field")?;
     if name.as_str().is_empty() {
@@ -121,13 +179,14 @@ fn field_in(members: &Members) -> Option<&Text>
 
 /// `memdb` and `tables` of a schema.
 pub(crate) fn schema_shape(members: &Members) -> Option<(i128, &Members)>
-    ensures { option_map (λ p. (p.0, members_of p.1.now)) result ≡ schema_shape (members_of members.now) }
+    ensures { option_map (λ p. (p.0, members_of p.1.now)) result
+        ≡ schema_shape (members_of members.now) }
 {
-    if !has_only(members, &["memdb", "tables"]) {
+    if !has_only(members, &SCHEMA_NAMES) {
         return None;
     }
-    let version = number_in(members.get("memdb")?)?;
-    let tables = object_in(members.get("tables")?)?;
+    let version = number_under(members, "memdb")?;
+    let tables = object_under(members, "tables")?;
     Some((version, tables))
 }
 
@@ -135,17 +194,17 @@ pub(crate) fn schema_shape(members: &Members) -> Option<(i128, &Members)>
 pub(crate) fn table_shape(members: &Members) -> Option<&Members>
     ensures { option_map (λ m. members_of m.now) result ≡ table_shape (members_of members.now) }
 {
-    if !has_only(members, &["indexes"]) {
+    if !has_only(members, &TABLE_NAMES) {
         return None;
     }
-    object_in(members.get("indexes")?)
+    object_under(members, "indexes")
 }
 
 /// `indexer`, `unique` and `allow_missing` of an index.
 pub(crate) fn index_shape(members: &Members) -> Option<(&Datum, (bool, bool))>
     ensures { option_map (λ p. (doc_of p.0.now, p.1)) result ≡ index_shape (members_of members.now) }
 {
-    if !has_only(members, &["indexer", "unique", "allow_missing"]) {
+    if !has_only(members, &INDEX_NAMES) {
         return None;
     }
     let indexer = members.get("indexer")?;
@@ -158,7 +217,7 @@ pub(crate) fn index_shape(members: &Members) -> Option<(&Datum, (bool, bool))>
 pub(crate) fn folded_shape(members: &Members) -> Option<(&Text, bool)>
     ensures { option_map (λ p. (p.0.now, p.1)) result ≡ folded_shape (members_of members.now) }
 {
-    if !has_only(members, &["kind", "field", "lowercase"]) {
+    if !has_only(members, &FOLDED_NAMES) {
         return None;
     }
     let field = field_in(members)?;
@@ -170,19 +229,19 @@ pub(crate) fn folded_shape(members: &Members) -> Option<(&Text, bool)>
 pub(crate) fn width_shape(members: &Members) -> Option<(&Text, i128)>
     ensures { option_map (λ p. (p.0.now, p.1)) result ≡ width_shape (members_of members.now) }
 {
-    if !has_only(members, &["kind", "field", "width"]) {
+    if !has_only(members, &WIDTH_NAMES) {
         return None;
     }
     let field = field_in(members)?;
-    let width = number_in(members.get("width")?)?;
+    let width = number_under(members, "width")?;
     Some((field, width))
 }
 
 /// `field` of an indexer that has no more.
 pub(crate) fn plain_shape(members: &Members) -> Option<&Text>
-    ensures { option_map (λ s. s.now) result ≡ plain_shape (members_of members.now) }
+    ensures { option_copied result ≡ plain_shape (members_of members.now) }
 {
-    if !has_only(members, &["kind", "field"]) {
+    if !has_only(members, &PLAIN_NAMES) {
         return None;
     }
     field_in(members)
@@ -190,25 +249,27 @@ pub(crate) fn plain_shape(members: &Members) -> Option<&Text>
 
 /// `field` and `equals` of an indexer.
 pub(crate) fn equals_shape(members: &Members) -> Option<(&Text, &Datum)>
-    ensures found { option_map (λ p. (p.0.now, doc_of p.1.now)) result ≡ equals_shape (members_of members.now) }
+    ensures found { option_map (λ p. (p.0.now, doc_of p.1.now)) result
+        ≡ equals_shape (members_of members.now) }
     ensures scalar { IfSome result (λ p. IsScalar (doc_of p.1.now)) }
 {
-    if !has_only(members, &["kind", "field", "equals"]) {
+    if !has_only(members, &EQUALS_NAMES) {
         return None;
     }
     let field = field_in(members)?;
-    let scalar = scalar_in(members.get("equals")?)?;
+    let scalar = scalar_under(members, "equals")?;
     Some((field, scalar))
 }
 
 /// `parts` and `allow_missing` of an indexer.
 pub(crate) fn compound_shape(members: &Members) -> Option<(&Items, bool)>
-    ensures { option_map (λ p. (items_of p.0.now, p.1)) result ≡ compound_shape (members_of members.now) }
+    ensures { option_map (λ p. (items_of p.0.now, p.1)) result
+        ≡ compound_shape (members_of members.now) }
 {
-    if !has_only(members, &["kind", "parts", "allow_missing"]) {
+    if !has_only(members, &COMPOUND_NAMES) {
         return None;
     }
-    let parts = list_in(members.get("parts")?)?;
+    let parts = list_under(members, "parts")?;
     let allow_missing = flag_under(members, "allow_missing")?;
     Some((parts, allow_missing))
 }

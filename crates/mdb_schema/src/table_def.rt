@@ -1,60 +1,100 @@
-ghost use Rattle.std.specs.Prelude.{◌≡◌, length, map, option_map, slice_get};
-ghost use Rattle.mdb_schema.specs.IndexDef.{index_view};
-ghost use Rattle.mdb_schema.specs.InOrder.{AreIndexesInOrder, AreIndexesInOrder-prop};
+//! Tables of a schema.
+ghost use Rattle.std.specs.Prelude.{◌≡◌, IfOk, IfSome, length, option_copied, slice_get};
+ghost use Rattle.mdb_schema.specs.LawfulSchema.{IsLawfulIndex, IsLawfulTable};
+ghost use Rattle.mdb_schema.specs.Schema.{index_place};
 
 use crate::index_def::IndexDef;
 use mdb_datum::Text;
+use std::alloc::{AllocError, Global};
+use std::marker::Model;
+use std::sync::Arc;
 
-/// A table: its name and its indexes, which stand in byte order of their names.
+/// A table, seen as a `TableSchema`: its name and its indexes, which stand in byte order of their
+/// names. It is lawful by its type, which `len` tells.
+/// It is shared by the schema and the tables that are made of it, and never changes.
 #[derive(Drop)]
 pub struct TableDef {
+    parts: Arc<TableParts, Global>,
+}
+
+/// What a table's definition shares.
+#[derive(Drop)]
+struct TableParts {
     name: Text,
     indexes: Vec<IndexDef>,
-    pub ghost in_order: { AreIndexesInOrder (map index_view indexes.items) } by { AreIndexesInOrder-prop (map index_view indexes.items) },
+}
+
+impl Model for TableDef {
+    ghost use Rattle.mdb_schema.specs.LawfulSchema.{IsLawfulTable};
+    ghost use Rattle.mdb_schema.specs.Schema.{TableSchema};
+    ghost use Rattle.mdb_schema.specs.inner.Stored.{table_code};
+
+    ghost Value = { TableSchema };
+
+    ghost coded = { table_code };
+
+    ghost use Rattle.mdb_schema.specs.inner.TableView.{table_view};
+
+    ghost view = { table_view };
+
+    ghost invariant = { λ d. IsLawfulTable (table_view d) };
 }
 
 impl TableDef {
-    ghost use Rattle.mdb_schema.specs.Places.{index_place};
-    ghost use Rattle.mdb_schema.specs.TableDef.{table_view};
-
-    pub(crate) fn of(name: Text, indexes: Vec<IndexDef>) -> TableDef
-        requires { AreIndexesInOrder (map index_view indexes.items) }
-        ensures { table_view result ≡ record { name = name; indexes = map index_view indexes.items } }
+    /// A table of this name with these indexes. It takes memory for what is shared.
+    pub(crate) fn of(
+        alloc: Global,
+        name: Text,
+        indexes: Vec<IndexDef>,
+    ) -> Result<TableDef, AllocError>
+        requires { IsLawfulTable (record { name = name; indexes = indexes.items }) }
+        ensures { IfOk result (λ t. t ≡ record { name = name; indexes = indexes.items }) }
     {
-        TableDef { name, indexes }
+        Ok(TableDef {
+            parts: Arc::new(alloc, TableParts { name, indexes })?,
+        })
+    }
+
+    /// A second owner of the same definition. It takes no memory, and is refused only where it has
+    /// as many owners as can be counted, 2^63 - 1.
+    pub fn share(&self) -> Result<TableDef, AllocError>
+        ensures { IfOk result (λ t. t ≡ self.now) }
+    {
+        Ok(TableDef {
+            parts: Arc::try_clone(&self.parts)?,
+        })
     }
 
     /// The table's name.
     pub fn name(&self) -> &Text
-        ensures { result.now ≡ (table_view self.now).name }
+        ensures { result.now ≡ self.now.name }
     {
-        &self.name
+        &self.parts.name
     }
 
     /// How many indexes there are.
     pub fn len(&self) -> usize
-        ensures { result ≡ length (table_view self.now).indexes }
+        ensures count { result ≡ length self.now.indexes }
+        ensures lawful { IsLawfulTable self.now }
     {
-        self.indexes.len()
+        self.parts.indexes.len()
     }
 
     /// The index at a place, counted from 0.
     pub fn index(&self, at: usize) -> Option<&IndexDef>
-        ensures { option_map (λ i. index_view i.now) result ≡ slice_get (table_view self.now).indexes at }
+        ensures found { option_copied result ≡ slice_get self.now.indexes at }
+        ensures lawful { IfSome result (λ index. IsLawfulIndex index.now) }
     {
-        if at < self.indexes.len() {
-            Some(&self.indexes[at])
-        } else {
-            None
-        }
+        self.parts.indexes.get(at)
     }
 
     /// The place of the index of a name. It takes time in the logarithm of the number of indexes.
     pub fn find(&self, name: &str) -> Option<usize>
-        ensures { result ≡ index_place name.now (table_view self.now).indexes }
+        ensures { result ≡ index_place name.now self.now.indexes }
     {
         let name = name.as_bytes();
-        self.indexes
+        self.parts
+            .indexes
             .binary_search_by(|index| index.name().as_str().as_bytes().cmp(&name))
             .ok()
     }

@@ -1,90 +1,102 @@
-// What is read and what is refused is worked from the format of schema files.
-ghost use Rattle.mdb_schema.specs.Examples.{OneRule, TwoRules, Read};
+//! What is read and what is refused, worked from the format of schema files.
+ghost use Rattle.mdb_schema.specs.worked.DeclaredNames.{DeclaredNames};
+ghost use Rattle.mdb_schema.specs.worked.EachKind.{EachKind};
+ghost use Rattle.mdb_schema.specs.worked.OneRule.{OneRule};
+ghost use Rattle.mdb_schema.specs.worked.TwoRules.{TwoRules};
+ghost use Rattle.mdb_schema.specs.worked.WholeSchemas.{WholeSchemas};
 
-use crate::{Schema, SchemaError, SchemaRule, read_schema};
+use crate::{Schema, SchemaError, SchemaRule, TableDef, read_schema};
 use mdb_datum::Text;
 use std::alloc::{AllocError, Global};
 use std::process::Abort;
-use std::test::Fail;
 
-mod counts;
-mod lawful;
-mod names;
+mod lookup;
 mod one_rule;
+mod read;
 mod two_rules;
 
-/// A schema file, the rule that it breaks first, and the names of the table and the index where it does.
-type Case = (
-    &'static str,
-    &'static str,
-    Option<&'static str>,
-    Option<&'static str>,
-);
+/// A text, and what its file is told as: a schema, or the rule that it breaks with the names of the
+/// table and the index. In the text, `$` stands for the indexer of the text `a`.
+type Case = (&'static str, &'static str);
+
+/// A file, at the place of `@`.
+const WHOLE: &str = "@";
+
+/// What stands in `tables`, at the place of `@`.
+const TABLES: &str = r#"{"memdb":1,"tables":{@}}"#;
+
+/// What stands in `indexes` of the table `t`, at the place of `@`.
+const INDEXES: &str = r#"{"memdb":1,"tables":{"t":{"indexes":{@}}}}"#;
+
+/// The indexer of the index `id` of the table `t`, at the place of `@`.
+const INDEXER: &str =
+    r#"{"memdb":1,"tables":{"t":{"indexes":{"id":{"unique":true,"indexer":@}}}}}"#;
 
 /// Nothing runs here: the clauses are computed.
 fn worked_documents()
     ensures one { OneRule }
     ensures two { TwoRules }
-    ensures read { Read }
+    ensures read { WholeSchemas }
+    ensures kinds { EachKind }
+    ensures names { DeclaredNames }
 {}
 
-/// The schema that a text is.
-fn schema_of(alloc: Global, file: &str) -> Result<Schema, Fail> {
-    match read_schema(alloc, file.as_bytes()) {
-        Ok(schema) => Ok(schema),
-        Err(SchemaError::Memory) => Err(Fail::from(AllocError)),
-        Err(SchemaError::Broken { rule, .. }) => Err(Fail::from(rule.word())),
+/// The file with a text at the place of `@`.
+fn file_of(alloc: Global, frame: &str, text: &str) -> Result<String, AllocError> {
+    let file = frame.replace(alloc, "@", text)?;
+    file.replace(alloc, "$", r#"{"kind":"text","field":"a"}"#)
+}
+
+/// A rule, and the names of the table and the index where it is broken.
+fn refusal_text(
+    alloc: Global,
+    rule: SchemaRule,
+    table: &Option<Text>,
+    index: &Option<Text>,
+) -> Result<String, AllocError> {
+    let rule = rule.word();
+    match (table, index) {
+        (Some(table), Some(index)) => {
+            let table = table.as_str();
+            let index = index.as_str();
+            format!(in alloc; "{rule} {table} {index}")
+        }
+        (Some(table), None) => {
+            let table = table.as_str();
+            format!(in alloc; "{rule} {table}")
+        }
+        (None, Some(_)) => String::from_str(alloc, "an index of no table"),
+        (None, None) => String::from_str(alloc, rule),
     }
 }
 
-/// What a text breaks.
-fn broken(alloc: Global, file: &[u8]) -> Result<(SchemaRule, Option<Text>, Option<Text>), Fail> {
+/// What a file is told as.
+fn told(alloc: Global, file: &[u8]) -> Result<String, AllocError> {
     match read_schema(alloc, file) {
-        Ok(_) => Err(Fail::from("it is a schema")),
-        Err(SchemaError::Memory) => Err(Fail::from(AllocError)),
-        Err(SchemaError::Broken { rule, table, index }) => Ok((rule, table, index)),
+        Ok(_) => String::from_str(alloc, "a schema"),
+        Err(SchemaError::Memory) => Err(AllocError),
+        Err(SchemaError::Broken { rule, table, index }) => {
+            refusal_text(alloc, rule, &table, &index)
+        }
     }
 }
 
-fn is_name(found: &Option<Text>, wanted: Option<&str>) -> bool {
-    match (found, wanted) {
-        (Some(found), Some(wanted)) => found.as_str() == wanted,
-        (None, None) => true,
-        _ => false,
-    }
+/// Whether a text in a frame is told as wanted.
+fn is_told(alloc: Global, frame: &str, text: &str, wanted: &str) -> Result<bool, AllocError> {
+    let file = file_of(alloc, frame, text)?;
+    let found = told(alloc, file.as_str().as_bytes())?;
+    Ok(found.as_str() == wanted)
 }
 
-/// Reads a file, which breaks this rule in this table and index.
-fn check<R: Abort>(
+/// Reads texts in a frame, each of which is told as it is.
+fn check_all<R: Abort>(
     rt: &R,
     alloc: Global,
-    file: &str,
-    rule: &str,
-    table: Option<&str>,
-    index: Option<&str>,
-) -> Result<(), Fail> {
-    let (found, in_table, in_index) = broken(alloc, file.as_bytes())?;
-    assert_eq!(rt; found.word(), rule, "{file}");
-    assert!(rt; is_name(&in_table, table), "the table of {file}");
-    assert!(rt; is_name(&in_index, index), "the index of {file}");
-    Ok(())
-}
-
-/// Reads files, each of which breaks its rule.
-fn check_all<R: Abort>(rt: &R, alloc: Global, cases: &[Case]) -> Result<(), Fail> {
-    for (file, rule, table, index) in cases {
-        check(rt, alloc, file, rule, *table, *index)?;
+    frame: &str,
+    cases: &[Case],
+) -> Result<(), AllocError> {
+    for (text, wanted) in cases {
+        assert!(rt; is_told(alloc, frame, text, wanted)?, "{text}");
     }
     Ok(())
-}
-
-/// A file whose table `t` has these indexes.
-fn with_indexes(alloc: Global, indexes: &str) -> Result<String, AllocError> {
-    format!(in alloc; "{{\"memdb\":1,\"tables\":{{\"t\":{{\"indexes\":{{{indexes}}}}}}}}}")
-}
-
-/// A file whose table `t` has the index `id` with this indexer.
-fn with_indexer(alloc: Global, indexer: &str) -> Result<String, AllocError> {
-    let index = format!(in alloc; "\"id\":{{\"unique\":true,\"indexer\":{indexer}}}")?;
-    with_indexes(alloc, index.as_str())
 }

@@ -1,18 +1,16 @@
 -- A schema has the form that is built exactly where it is the schema of a table and a member.
 use Rattle.std.proofs.Common.{arith, ◌≡◌, refl, ap, sym, ◌∙◌, subst, List, [], ◌∷◌, length, Bool, true, false, Some, None, Option, ◌<◌}
-use Rattle.std.specs.Prelude.{◌&&◌, ◌==◌, if◌then◌else◌, option_map, option_and_then, codes, nat_lt, not, slice_get, IsTrue, All}
+use Rattle.std.specs.Prelude.{◌&&◌, ◌==◌, if◌then◌else◌, option_map, option_and_then, codes, nat_lt, not, IsTrue}
 use Rattle.std.specs.Str.{bytes_eq}
 use Rattle.std.proofs.lemmas.Slice.Eq.{bytes_eq-Decides}
 use Rattle.std.proofs.lemmas.Bool.Decides.{nat_tests}
-use Rattle.std.proofs.lemmas.List.Elements.{All-head}
-use Rattle.mdb_encode.specs.Bytes.{Bytes}
+use Rattle.mdb_datum.specs.Bytes.{Bytes}
 use Rattle.mdb_encode.specs.Indexer.{Indexer, str, str_list, str_map, uint, sint, truth, uuid, is_set, equals, compound}
 use Rattle.mdb_encode.specs.Lawful.{IsLawful}
-use Rattle.mdb_schema.specs.LawfulSchema.{IsLawfulIndex, IsLawfulTable, IsLawfulSchema}
 use Rattle.mdb_schema.specs.Schema.{IndexSchema, TableSchema, DbSchema}
 use Rattle.memdb.specs.FirstForm.{first_table, first_schema}
 use Rattle.memdb.specs.FirstForm as first
-use Rattle.memdb.specs.Form.{only, plain_text, as_id, id_index, form_of, first_form, is_over_text}
+use Rattle.memdb.specs.inner.Form.{only, plain_text, as_id, id_index, form_of, first_form, is_over_text}
 
 -- what a chain found came from what it began with
 chained : {A B : Type 0} (f : A → Option B) (o : Option A) (y : B) → option_and_then f o ≡ Some y → (x : A) × (o ≡ Some x) × (f x ≡ Some y)
@@ -86,31 +84,14 @@ form_is s p e =
 pub has_form : (table name : Bytes) → first_form (first_schema table name) ≡ Some (table, name)
 has_form table name = refl
 
--- the one index of the one table is lawful
-index_lawful : (s : DbSchema) (t : TableSchema) (i : IndexSchema) → IsLawfulSchema s → slice_get s 0 ≡ Some t → slice_get t.indexes 0 ≡ Some i → IsLawful i.indexer
-index_lawful [] t i h a b = cc
-index_lawful (u ∷ s) t i h a b = of_table (subst (λ (v : TableSchema). IsLawfulTable v) same (All-head IsLawfulTable u s h.each)) t.indexes refl b
-  where
-    same : u ≡ t
-    same = cc
-
-    of_table : IsLawfulTable t → (is : List IndexSchema) → t.indexes ≡ is → slice_get is 0 ≡ Some i → IsLawful i.indexer
-    of_table l [] e g = cc
-    of_table l (j ∷ js) e g =
-        let is : j ≡ i = cc in
-        subst (λ (k : IndexSchema). IsLawful k.indexer) is (All-head IsLawfulIndex j js (subst (λ (ks : List IndexSchema). All IsLawfulIndex ks) e l.each)).kind
-
--- so its member has a name
-plain_over_text : (i : Indexer) (name : Bytes) → Some name ≡ plain_text i → IsLawful i → IsTrue (is_over_text name i)
+-- the member of a lawful indexer has a name
+pub plain_over_text : (i : Indexer) (name : Bytes) → Some name ≡ plain_text i → IsLawful i → IsTrue (is_over_text name i)
 plain_over_text i name e h =
     let is = plain_is i name (sym e) in
     let long : 0 < length name = subst (λ (j : Indexer). IsLawful j) is h in
     let t : nat_lt 0 (length name) ≡ true = grind (arith, nat_tests) in
     let same : bytes_eq name name ≡ true = (bytes_eq-Decides name name).1 refl in
     subst (λ (j : Indexer). IsTrue (is_over_text name j)) (sym is) (rw (same, t) refl)
-
-pub lawful_over_text : (s : DbSchema) (t : TableSchema) (i : IndexSchema) (name : Bytes) → IsLawfulSchema s → Some t ≡ slice_get s 0 → slice_get t.indexes 0 ≡ Some i → Some name ≡ plain_text i.indexer → IsTrue (is_over_text name i.indexer)
-lawful_over_text s t i name h a b e = plain_over_text i.indexer name e (index_lawful s t i h (sym a) b)
 
 -- an indexer over a text is what it says
 pub over_text_is : (i : Indexer) (name : Bytes) → is_over_text name i ≡ true → (i ≡ str name false) × (0 < length name)

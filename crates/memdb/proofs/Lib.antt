@@ -1,8 +1,12 @@
+pub mod Answering
+pub mod Converses
 pub mod Exclusion
 pub mod Forms
+pub mod InOrder
 pub mod Judged
 pub mod Legality
-pub mod Owing
+pub mod Loading
+pub mod OneIndex
 pub mod Pieces
 pub mod Questions
 pub mod Rows

@@ -2,10 +2,10 @@
 use Rattle.std.proofs.Common.{arith, ◌≡◌, refl, ap, sym, ◌∙◌, ℕ, ◌+◌, ◌-◌, ◌<◌, ◌≤◌, [], ◌++◌, length, take, drop, append_assoc, subst, length-append, length-take-le, length-drop, take-add, take_all, option_map}
 use Rattle.std.specs.Prelude.{Option, Some, None, IfSome, Ok}
 use Rattle.std.proofs.lemmas.List.{append-nil, take_rest}
-use Rattle.mdb_encode.specs.Bytes.{Bytes}
+use Rattle.mdb_datum.specs.Bytes.{Bytes}
 use Rattle.mdb_ports.specs.Files.{Contents, Fetched, Fetches}
 use Rattle.mdb_ports.specs.Sink.{Grows}
-use Rattle.memdb.specs.Outcome.{Whole, IsTooLarge, file_limit}
+use Rattle.memdb.specs.Observed.{IsWhole, IsTooLarge, file_limit}
 
 -- the bytes are the front of the file of this name, where there is one
 pub record IsFront (files : Contents) (name bytes : Bytes) : Type 0 where
@@ -60,8 +60,8 @@ pub front_whole : (told : Option Contents) (name bytes buffer : Bytes) (n : ℕ)
     → Fetches told name (length bytes) buffer (Ok n)
     → n ≡ 0
     → length bytes ≤ file_limit
-    → IfSome told (λ files. Whole files name bytes)
-front_whole None name bytes buffer n before got none fits = tt
+    → IsWhole told name bytes
+front_whole None name bytes buffer n before got none fits = record { there = tt; fits = fits }
 front_whole (Some files) name bytes buffer n before got none fits =
     let past : length got.0 ≤ length bytes = got.2.at_end.0 none in
     let same : bytes ≡ got.0 = before.front got.0 got.1 ∙ take_all (length bytes) got.0 past in
@@ -70,12 +70,13 @@ front_whole (Some files) name bytes buffer n before got none fits =
 -- a piece that passes the limit shows a file that is too large
 pub front_too_large : (told : Option Contents) (name bytes buffer : Bytes) (n : ℕ)
     → Fetches told name (length bytes) buffer (Ok n)
+    → n ≤ length buffer
     → file_limit - length bytes < n
-    → IfSome told (λ files. IsTooLarge files name)
-front_too_large None name bytes buffer n got past = tt
-front_too_large (Some files) name bytes buffer n got past =
-    let longer : file_limit < length got.0 = omega (arith, got.2.there, length-drop (length bytes) got.0) in
-    record { bytes = got.0; there = got.1; longer = longer }
+    → IsTooLarge told name
+front_too_large None name bytes buffer n got within past =
+    record { bytes = bytes ++ take n buffer; there = tt; longer = omega (arith, length-append bytes (take n buffer), length-take-le n buffer within) }
+front_too_large (Some files) name bytes buffer n got within past =
+    record { bytes = got.0; there = got.1; longer = omega (arith, got.2.there, length-drop (length bytes) got.0) }
 
 pub grows_nothing : (told : Option Bytes) → Grows told told []
 grows_nothing None = refl

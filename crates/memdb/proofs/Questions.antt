@@ -8,7 +8,7 @@ use Rattle.mdb_datum.specs.Reading.{read_as}
 use Rattle.mdb_datum.specs.declared.datum.Datum as datum
 use Rattle.mdb_datum.specs.declared.datum.Items.{Items}
 use Rattle.mdb_datum.proofs.Variants.{doc_of_items}
-use Rattle.memdb.specs.Question.{is_short_text, text_of}
+use Rattle.memdb.specs.inner.Question.{is_short_text, text_of}
 use Rattle.memdb.specs.Script.{text_in, text_limit}
 
 of_list : (ds : List Doc) → text_in (read_as (list (doc_list ds))) ≡ (if is_short_text ds then Some (text_of ds) else None)

@@ -1,16 +1,15 @@
 -- A script's lines, as the walk over its bytes finds them one after the other.
-use Rattle.std.proofs.Common.{arith, ◌≡◌, refl, ap, sym, ◌∙◌, ℕ, suc, ◌+◌, ◌<◌, List, [], ◌∷◌, ◌++◌, length, map, take, drop, append_assoc, add-one, one-add, Bool, true, false, Some, None, Option}
+use Rattle.std.proofs.Common.{arith, ◌≡◌, refl, ap, sym, ◌∙◌, ℕ, suc, ◌+◌, ◌<◌, List, [], ◌∷◌, ◌++◌, length, take, drop, append_assoc, add-one, one-add, Bool, true, false, Some, None, Option}
 use Rattle.std.specs.Prelude.{◌==◌, if◌then◌else◌, option_map, option_and_then, nat_lt, not, codes}
 use Rattle.std.specs.List.{position_or_len}
 use Rattle.std.specs.Str.{bytes_eq}
 use Rattle.std.proofs.lemmas.Bool.Decides.{nat_tests}
 use Rattle.std.proofs.lemmas.List.{append-nil, map-append}
-use Rattle.mdb_datum.specs.Row.{row_of}
-use Rattle.mdb_datum.specs.declared.row.Row as code
-use Rattle.mdb_encode.specs.Bytes.{Bytes}
+use Rattle.mdb_datum.specs.Row.{Fields}
+use Rattle.mdb_datum.specs.Bytes.{Bytes}
 use Rattle.memdb.specs.Script.{Command, read, write, commit, insert, question, first_by_id, lines_from, lines_of, next_command, commands_in, inserts_in, insert_in, read_in, questions_in, question_in}
-use Rattle.memdb.specs.Single.{inserts, questions}
-use Rattle.memdb.specs.Lines.{first_line, after_word, part_of, put_before}
+use Rattle.memdb.specs.inner.Single.{inserts, questions}
+use Rattle.memdb.specs.inner.Lines.{first_line, after_word, part_of, put_before}
 
 -- ---- lines
 
@@ -162,8 +161,8 @@ pub put_more : (cs : List Command) (c : Command) (o : Option (List Command)) →
 put_more cs c None = refl
 put_more cs c (Some ds) = ap Some (sym (append_assoc cs (c ∷ []) ds))
 
-pub inserts_more : (table : Bytes) (rows : List code.Row) (row : code.Row) → inserts table (map row_of (rows ++ row ∷ [])) ≡ inserts table (map row_of rows) ++ insert table (row_of row) ∷ []
-inserts_more table rows row = ap (inserts table) (map-append row_of rows (row ∷ [])) ∙ map-append (insert table) (map row_of rows) (row_of row ∷ [])
+pub inserts_more : (table : Bytes) (rows : List Fields) (row : Fields) → inserts table (rows ++ row ∷ []) ≡ inserts table rows ++ insert table row ∷ []
+inserts_more table rows row = map-append (insert table) rows (row ∷ [])
 
 pub questions_more : (table : Bytes) (texts : List Bytes) (s : Bytes) → questions table (texts ++ s ∷ []) ≡ questions table texts ++ question (first_by_id table s) ∷ []
 questions_more table texts s = map-append (λ s. question (first_by_id table s)) texts (s ∷ [])

@@ -8,7 +8,7 @@ use Rattle.mdb_datum.specs.Reading.{read_as}
 use Rattle.mdb_datum.specs.declared.datum.Datum as datum
 use Rattle.mdb_datum.specs.declared.datum.Members.{Members}
 use Rattle.mdb_datum.proofs.Variants.{doc_of_members, fields_there_and_back}
-use Rattle.mdb_encode.specs.Bytes.{Bytes}
+use Rattle.mdb_datum.specs.Bytes.{Bytes}
 use Rattle.memdb.specs.Script.{after, has_id, row_in}
 
 -- what follows two beginnings, one after the other

@@ -5,16 +5,16 @@ use Rattle.std.specs.Str.{bytes_eq}
 use Rattle.std.proofs.lemmas.Bool.Decides.{nat_tests}
 use Rattle.std.proofs.lemmas.List.{length-map}
 use Rattle.std.proofs.lemmas.List.Sums.{sum_by-cons}
-use Rattle.mdb_encode.specs.Bytes.{Bytes}
-use Rattle.mdb_schema.specs.State.{Row}
+use Rattle.mdb_datum.specs.Bytes.{Bytes}
+use Rattle.mdb_datum.specs.Row.{Fields}
 use Rattle.memdb.specs.Script.{Command, read, write, commit, lines_from, lines_of, next_command, commands_in, inserts_in, insert_in, read_in, questions_in, question_in, within_lines, numbered, script_of, line_limit}
-use Rattle.memdb.specs.Single.{inserts, questions, commands}
-use Rattle.memdb.specs.Lines.{after_word, part_of, put_before}
+use Rattle.memdb.specs.inner.Single.{inserts, questions, commands}
+use Rattle.memdb.specs.inner.Lines.{after_word, part_of, put_before}
 use Rattle.memdb.proofs.ScriptLines.{led_by, one_more, write_begun, read_begun}
 
 -- ---- the parts together
 
-pub script_whole : (table field bytes first rest last : Bytes) (rows : List Row) (texts : List Bytes) → Some first ≡ after_word (codes "write") bytes
+pub script_whole : (table field bytes first rest last : Bytes) (rows : List Fields) (texts : List Bytes) → Some first ≡ after_word (codes "write") bytes
     → part_of (inserts_in table field) first ≡ put_before (inserts table rows) (next_command commit (part_of (read_in table) rest)) → Some last ≡ after_word (codes "read") rest
     → part_of (questions_in table) last ≡ Some (questions table texts) → part_of (commands_in table field) bytes ≡ Some (commands table rows texts)
 script_whole table field bytes first rest last rows texts w i r q =
@@ -27,14 +27,14 @@ script_without_write table field bytes w = write_begun table field bytes ∙ rw 
 pub script_without_inserts : (table field bytes first : Bytes) → Some first ≡ after_word (codes "write") bytes → part_of (inserts_in table field) first ≡ None → part_of (commands_in table field) bytes ≡ None
 script_without_inserts table field bytes first w i = write_begun table field bytes ∙ rw (← w, i) refl
 
-pub script_without_read : (table field bytes first rest : Bytes) (rows : List Row) → Some first ≡ after_word (codes "write") bytes
+pub script_without_read : (table field bytes first rest : Bytes) (rows : List Fields) → Some first ≡ after_word (codes "write") bytes
     → part_of (inserts_in table field) first ≡ put_before (inserts table rows) (next_command commit (part_of (read_in table) rest)) → None ≡ after_word (codes "read") rest
     → part_of (commands_in table field) bytes ≡ None
 script_without_read table field bytes first rest rows w i r =
     let reads : part_of (read_in table) rest ≡ None = read_begun table rest ∙ rw (← r) refl in
     write_begun table field bytes ∙ rw (← w, i, reads) refl
 
-pub script_without_questions : (table field bytes first rest last : Bytes) (rows : List Row) → Some first ≡ after_word (codes "write") bytes
+pub script_without_questions : (table field bytes first rest last : Bytes) (rows : List Fields) → Some first ≡ after_word (codes "write") bytes
     → part_of (inserts_in table field) first ≡ put_before (inserts table rows) (next_command commit (part_of (read_in table) rest)) → Some last ≡ after_word (codes "read") rest
     → part_of (questions_in table) last ≡ None → part_of (commands_in table field) bytes ≡ None
 script_without_questions table field bytes first rest last rows w i r q =
@@ -116,10 +116,10 @@ commands_length : (table field : Bytes) (ls : List Bytes) → SameLength ls (com
 commands_length table field [] = nothing_there []
 commands_length table field (l ∷ ls) = if_there (l ∷ ls) (bytes_eq l (codes "write")) (next_command write (inserts_in table field ls)) (one_longer l ls write (inserts_in table field ls) (inserts_length table field ls))
 
-three_more : (table : Bytes) (rows : List Row) (texts : List Bytes) → length (commands table rows texts) ≡ length rows + length texts + 3
+three_more : (table : Bytes) (rows : List Fields) (texts : List Bytes) → length (commands table rows texts) ≡ length rows + length texts + 3
 three_more table rows texts = simp (length-append, length-map) (omega arith)
 
-pub script_few : (table field bytes : Bytes) (rows : List Row) (texts : List Bytes) → nat_le (count_by (λ b. b == 10) bytes) line_limit ≡ true
+pub script_few : (table field bytes : Bytes) (rows : List Fields) (texts : List Bytes) → nat_le (count_by (λ b. b == 10) bytes) line_limit ≡ true
     → part_of (commands_in table field) bytes ≡ Some (commands table rows texts) → length rows + length texts ≤ line_limit
 script_few table field bytes rows texts few whole = by_lines (lines_of bytes) refl whole
   where

@@ -9,9 +9,12 @@ use Rattle.memdb.specs.FirstForm.{IsFirstSchema, first_schema}
 use Rattle.std.proofs.lemmas.Fmt.{decimal_digit}
 use Rattle.std.proofs.lemmas.List.Sorted.{IsPermutation-refl, length_permutation}
 use Rattle.mdb_schema.specs.Schema.{DbSchema}
-use Rattle.mdb_schema.specs.State.{Row, State}
+use Rattle.mdb_datum.specs.Row.{Fields}
+use Rattle.mdb_schema.specs.State.{State}
 use Rattle.mdb_schema.specs.Write.{Write, put, step}
-use Rattle.mdb_schema.specs.Answer.{Query, Answer, one, ask}
+use Rattle.mdb_schema.specs.Answer.{ask}
+use Rattle.mdb_schema.specs.Query.{Query}
+use Rattle.mdb_schema.specs.declared.answer.Answer.TheVariants.{One}
 use Rattle.mdb_schema.specs.History.{Commit, History, after_writes, state_at}
 use Rattle.memdb.specs.Reply.{Reply, read_at, write_at, committed, inserted, replaced, found, none, insert_reply, answer_reply, output_text}
 use Rattle.memdb.specs.Session.{View, Transaction, closed, reading, writing, at_start, Session, Sessions}
@@ -79,10 +82,10 @@ session = (
         (record { none_open = refl; not_older = lit≤ tt; there = lit≤ tt }, refl),
         (
           view 1 (reading 1),
-          record { state = (ann ∷ []) ∷ []; sees = refl; answer = one (Some ann); asked = refl; said = refl; next = refl },
+          record { state = (ann ∷ []) ∷ []; sees = refl; answer = Some ann; asked = refl; said = refl; next = refl },
           (
             view 1 (reading 1),
-            record { state = (ann ∷ []) ∷ []; sees = refl; answer = one None; asked = refl; said = refl; next = refl },
+            record { state = (ann ∷ []) ∷ []; sees = refl; answer = None; asked = refl; said = refl; next = refl },
             tt,
           ),
         ),
@@ -142,10 +145,10 @@ second_session = (
           (record { none_open = refl; not_older = lit≤ tt; there = lit≤ tt }, refl),
           (
             view 1 (reading 1),
-            record { state = (short_ann ∷ []) ∷ []; sees = refl; answer = one (Some short_ann); asked = refl; said = refl; next = refl },
+            record { state = (short_ann ∷ []) ∷ []; sees = refl; answer = Some short_ann; asked = refl; said = refl; next = refl },
             (
               view 1 (reading 1),
-              record { state = (short_ann ∷ []) ∷ []; sees = refl; answer = one None; asked = refl; said = refl; next = refl },
+              record { state = (short_ann ∷ []) ∷ []; sees = refl; answer = None; asked = refl; said = refl; next = refl },
               tt,
             ),
           ),
@@ -196,13 +199,13 @@ after_read db H last k open_one ls (none ∷ rs) s = absurd s.1
 
 -- an insert is answered by the row that stood there
 record Steps (db : DbSchema) (H : History) (last n : ℕ) (ws : List Write) (w : Write) (ls : List Line) (rs : List Reply) : Type 0 where
-  stepped : State × Option Row
+  stepped : State × Option Fields
   rest : List Reply
   are : rs ≡ insert_reply stepped.1 ∷ rest
   accepted : step db (after_writes db (state_at db H n) ws) w ≡ Ok stepped
   later : Session db H 1 (record { last = last; transaction = writing n (ws ++ w ∷ []) }) ls rest
 
-after_insert : (db : DbSchema) (H : History) (last n : ℕ) (ws : List Write) (k : ℕ) (table : List ℕ) (row : Row) (ls : List Line) (rs : List Reply) → Session db H 1 (record { last = last; transaction = writing n ws }) (record { number = k; command = insert table row } ∷ ls) rs → Steps db H last n ws (put table row) ls rs
+after_insert : (db : DbSchema) (H : History) (last n : ℕ) (ws : List Write) (k : ℕ) (table : List ℕ) (row : Fields) (ls : List Line) (rs : List Reply) → Session db H 1 (record { last = last; transaction = writing n ws }) (record { number = k; command = insert table row } ∷ ls) rs → Steps db H last n ws (put table row) ls rs
 after_insert db H last n ws k table row ls [] s = absurd s
 after_insert db H last n ws k table row ls (r ∷ rs) s =
     let i = s.1 in
@@ -240,17 +243,17 @@ after_commit db H last n ws k ls (none ∷ rs) s = absurd s.1
 
 -- a question in a read transaction is answered from the rows after its commit
 record Tells (db : DbSchema) (H : History) (last n : ℕ) (q : Query) (ls : List Line) (rs : List Reply) : Type 0 where
-  answer : Answer
+  answer : Option Fields
   rest : List Reply
   are : rs ≡ answer_reply answer ∷ rest
-  asked : ask db (state_at db H n) q ≡ Ok answer
+  asked : ask db (state_at db H n) q ≡ Ok (One answer)
   later : Session db H 1 (record { last = last; transaction = reading n }) ls rest
 
 after_question : (db : DbSchema) (H : History) (last n : ℕ) (k : ℕ) (q : Query) (ls : List Line) (rs : List Reply) → Session db H 1 (record { last = last; transaction = reading n }) (record { number = k; command = question q } ∷ ls) rs → Tells db H last n q ls rs
 after_question db H last n k q ls [] s = absurd s
 after_question db H last n k q ls (r ∷ rs) s =
     let a = s.1 in
-    record { answer = a.answer; rest = rs; are = ap (λ (x : Reply). x ∷ rs) a.said; asked = subst (λ st. ask db st q ≡ Ok a.answer) a.sees a.asked; later = subst (λ v. Session db H 1 v ls rs) a.next s.2 }
+    record { answer = a.answer; rest = rs; are = ap (λ (x : Reply). x ∷ rs) a.said; asked = subst (λ st. ask db st q ≡ Ok (One a.answer)) a.sees a.asked; later = subst (λ v. Session db H 1 v ls rs) a.next s.2 }
 
 -- a history of one commit, of which this is the entry
 only_entry : (H : History) (n : ℕ) (c : Commit) → length H ≡ 1 → slice_get H n ≡ Some c → H ≡ c ∷ []
@@ -289,10 +292,10 @@ asks : ℕ → List Line
 asks k = numbered k (question (first_by_id (codes "t") (codes "ann")) ∷ question (first_by_id (codes "t") (codes "bob")) ∷ [])
 
 -- the replies of the first run, from what each line says of them: what the definitions compute over that history
-first_answers : (H : History) (n m : ℕ) (c : Commit) (st : State × Option Row) (a b : Answer) → c ≡ record { caller = 1; writes = put (codes "t") ann ∷ [] } → Follows H n m c →
+first_answers : (H : History) (n m : ℕ) (c : Commit) (st : State × Option Fields) (a b : Option Fields) → c ≡ record { caller = 1; writes = put (codes "t") ann ∷ [] } → Follows H n m c →
     step schema (after_writes schema (state_at schema H n) []) (put (codes "t") ann) ≡ Ok st →
-    ask schema (state_at schema H m) (first_by_id (codes "t") (codes "ann")) ≡ Ok a →
-    ask schema (state_at schema H m) (first_by_id (codes "t") (codes "bob")) ≡ Ok b →
+    ask schema (state_at schema H m) (first_by_id (codes "t") (codes "ann")) ≡ Ok (One a) →
+    ask schema (state_at schema H m) (first_by_id (codes "t") (codes "bob")) ≡ Ok (One b) →
     write_at n ∷ insert_reply st.1 ∷ committed (n + 1) ∷ read_at m ∷ answer_reply a ∷ answer_reply b ∷ [] ≡ replies
 unfolding schema replies ann
 first_answers H n m c st a b is f accepted asked_ann asked_bob =
@@ -303,14 +306,14 @@ first_answers H n m c st a b is f accepted asked_ann asked_bob =
     (subst (λ h. step schema (after_writes schema (state_at schema h n) []) (put (codes "t") ann) ≡ Ok st) the_history accepted) in
     let stored : Ok (one_row, None) ≡ Ok st = stepped in
     let st_is : st ≡ (one_row, None) = cc in
-    let told_ann : Ok (one (Some ann)) ≡ Ok a =
-    subst (λ k. ask schema (state_at schema (record { caller = 1; writes = put (codes "t") ann ∷ [] } ∷ []) k) (first_by_id (codes "t") (codes "ann")) ≡ Ok a) f.second
-    (subst (λ h. ask schema (state_at schema h m) (first_by_id (codes "t") (codes "ann")) ≡ Ok a) the_history asked_ann) in
-    let a_is : a ≡ one (Some ann) = cc in
-    let told_bob : Ok (one None) ≡ Ok b =
-    subst (λ k. ask schema (state_at schema (record { caller = 1; writes = put (codes "t") ann ∷ [] } ∷ []) k) (first_by_id (codes "t") (codes "bob")) ≡ Ok b) f.second
-    (subst (λ h. ask schema (state_at schema h m) (first_by_id (codes "t") (codes "bob")) ≡ Ok b) the_history asked_bob) in
-    let b_is : b ≡ one None = cc in
+    let told_ann : Ok (One (Some ann)) ≡ Ok (One a) =
+    subst (λ k. ask schema (state_at schema (record { caller = 1; writes = put (codes "t") ann ∷ [] } ∷ []) k) (first_by_id (codes "t") (codes "ann")) ≡ Ok (One a)) f.second
+    (subst (λ h. ask schema (state_at schema h m) (first_by_id (codes "t") (codes "ann")) ≡ Ok (One a)) the_history asked_ann) in
+    let a_is : a ≡ Some ann = cc in
+    let told_bob : Ok (One None) ≡ Ok (One b) =
+    subst (λ k. ask schema (state_at schema (record { caller = 1; writes = put (codes "t") ann ∷ [] } ∷ []) k) (first_by_id (codes "t") (codes "bob")) ≡ Ok (One b)) f.second
+    (subst (λ h. ask schema (state_at schema h m) (first_by_id (codes "t") (codes "bob")) ≡ Ok (One b)) the_history asked_bob) in
+    let b_is : b ≡ None = cc in
     rw (st_is, a_is, b_is, f.first, f.second) refl
 
 first_replies : (H : History) (rs : List Reply) → Session schema H 1 at_start lines rs → IsPermutation (enumerate_from 1 H) (all_printed 1 (lines ∷ []) (rs ∷ [])) → rs ≡ replies
@@ -340,11 +343,11 @@ only_first out l =
     l.written ∙ ap (λ x. output_text 1 (codes "c1" ∷ []) (lines ∷ []) x) are ∙ sym output_is
 
 -- the replies of the second run
-second_answers : (H : History) (n m : ℕ) (c : Commit) (st sr : State × Option Row) (a b : Answer) → c ≡ record { caller = 1; writes = put (codes "t") ann ∷ put (codes "t") short_ann ∷ [] } → Follows H n m c →
+second_answers : (H : History) (n m : ℕ) (c : Commit) (st sr : State × Option Fields) (a b : Option Fields) → c ≡ record { caller = 1; writes = put (codes "t") ann ∷ put (codes "t") short_ann ∷ [] } → Follows H n m c →
     step schema (after_writes schema (state_at schema H n) []) (put (codes "t") ann) ≡ Ok st →
     step schema (after_writes schema (state_at schema H n) (put (codes "t") ann ∷ [])) (put (codes "t") short_ann) ≡ Ok sr →
-    ask schema (state_at schema H m) (first_by_id (codes "t") (codes "ann")) ≡ Ok a →
-    ask schema (state_at schema H m) (first_by_id (codes "t") (codes "bob")) ≡ Ok b →
+    ask schema (state_at schema H m) (first_by_id (codes "t") (codes "ann")) ≡ Ok (One a) →
+    ask schema (state_at schema H m) (first_by_id (codes "t") (codes "bob")) ≡ Ok (One b) →
     write_at n ∷ insert_reply st.1 ∷ insert_reply sr.1 ∷ committed (n + 1) ∷ read_at m ∷ answer_reply a ∷ answer_reply b ∷ [] ≡ second_replies
 unfolding schema second_replies ann short_ann
 second_answers H n m c st sr a b is f accepted accepted_too asked_ann asked_bob =
@@ -359,14 +362,14 @@ second_answers H n m c st sr a b is f accepted accepted_too asked_ann asked_bob 
     subst (λ k. step schema (after_writes schema (state_at schema (record { caller = 1; writes = put (codes "t") ann ∷ put (codes "t") short_ann ∷ [] } ∷ []) k) (put (codes "t") ann ∷ [])) (put (codes "t") short_ann) ≡ Ok sr) f.first
     (subst (λ h. step schema (after_writes schema (state_at schema h n) (put (codes "t") ann ∷ [])) (put (codes "t") short_ann) ≡ Ok sr) the_history accepted_too) in
     let sr_is : sr ≡ (other_row, Some ann) = cc in
-    let told_ann : Ok (one (Some short_ann)) ≡ Ok a =
-    subst (λ k. ask schema (state_at schema (record { caller = 1; writes = put (codes "t") ann ∷ put (codes "t") short_ann ∷ [] } ∷ []) k) (first_by_id (codes "t") (codes "ann")) ≡ Ok a) f.second
-    (subst (λ h. ask schema (state_at schema h m) (first_by_id (codes "t") (codes "ann")) ≡ Ok a) the_history asked_ann) in
-    let a_is : a ≡ one (Some short_ann) = cc in
-    let told_bob : Ok (one None) ≡ Ok b =
-    subst (λ k. ask schema (state_at schema (record { caller = 1; writes = put (codes "t") ann ∷ put (codes "t") short_ann ∷ [] } ∷ []) k) (first_by_id (codes "t") (codes "bob")) ≡ Ok b) f.second
-    (subst (λ h. ask schema (state_at schema h m) (first_by_id (codes "t") (codes "bob")) ≡ Ok b) the_history asked_bob) in
-    let b_is : b ≡ one None = cc in
+    let told_ann : Ok (One (Some short_ann)) ≡ Ok (One a) =
+    subst (λ k. ask schema (state_at schema (record { caller = 1; writes = put (codes "t") ann ∷ put (codes "t") short_ann ∷ [] } ∷ []) k) (first_by_id (codes "t") (codes "ann")) ≡ Ok (One a)) f.second
+    (subst (λ h. ask schema (state_at schema h m) (first_by_id (codes "t") (codes "ann")) ≡ Ok (One a)) the_history asked_ann) in
+    let a_is : a ≡ Some short_ann = cc in
+    let told_bob : Ok (One None) ≡ Ok (One b) =
+    subst (λ k. ask schema (state_at schema (record { caller = 1; writes = put (codes "t") ann ∷ put (codes "t") short_ann ∷ [] } ∷ []) k) (first_by_id (codes "t") (codes "bob")) ≡ Ok (One b)) f.second
+    (subst (λ h. ask schema (state_at schema h m) (first_by_id (codes "t") (codes "bob")) ≡ Ok (One b)) the_history asked_bob) in
+    let b_is : b ≡ None = cc in
     rw (st_is, sr_is, a_is, b_is, f.first, f.second) refl
 
 second_replies_are : (H : History) (rs : List Reply) → Session schema H 1 at_start second_lines rs → IsPermutation (enumerate_from 1 H) (all_printed 1 (second_lines ∷ []) (rs ∷ [])) → rs ≡ second_replies

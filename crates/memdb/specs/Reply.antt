@@ -1,9 +1,8 @@
 -- The answers to a client's lines, and their text.
 use Rattle.std.specs.Prelude.{◌+◌, ℕ, List, [], ◌∷◌, ◌++◌, Option, Some, None, codes, decimal}
 use Rattle.mdb_datum.specs.Written.{row_text}
-use Rattle.mdb_encode.specs.Bytes.{Bytes}
-use Rattle.mdb_schema.specs.State.{Row}
-use Rattle.mdb_schema.specs.Answer.{Answer, one}
+use Rattle.mdb_datum.specs.Bytes.{Bytes}
+use Rattle.mdb_datum.specs.Row.{Fields}
 use Rattle.memdb.specs.Script.{Line}
 
 pub data Reply : Type 0 where
@@ -14,17 +13,18 @@ pub data Reply : Type 0 where
   committed : ℕ → Reply
   inserted : Reply
   replaced : Reply
-  found : Row → Reply
+  found : Fields → Reply
   none : Reply
 
--- what an insert is answered, by the row that stood there
-abbrev pub insert_reply : Option Row → Reply
+-- what an insert is answered, by the row that it replaced
+abbrev pub insert_reply : Option Fields → Reply
 insert_reply None = inserted
 insert_reply (Some r) = replaced
 
-abbrev pub answer_reply : Answer → Reply
-answer_reply (one None) = none
-answer_reply (one (Some r)) = found r
+-- what a question for one row is answered
+abbrev pub answer_reply : Option Fields → Reply
+answer_reply None = none
+answer_reply (Some r) = found r
 
 abbrev pub reply_text : Reply → Bytes
 reply_text (read_at n) = codes "read @" ++ decimal n
@@ -50,5 +50,6 @@ heading k word = codes "client " ++ (decimal k ++ (32 ∷ (word ++ 10 ∷ [])))
 
 -- for each client in order its heading and its answers
 abbrev pub output_text : ℕ → List Bytes → List (List Line) → List (List Reply) → Bytes
-output_text k (w ∷ ws) (s ∷ ss) (rs ∷ rss) = heading k w ++ (lines_text s rs ++ output_text (k + 1) ws ss rss)
+output_text k (w ∷ ws) (s ∷ ss) (rs ∷ rss) =
+    heading k w ++ (lines_text s rs ++ output_text (k + 1) ws ss rss)
 output_text k ws ss rss = []

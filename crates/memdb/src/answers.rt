@@ -1,17 +1,17 @@
-ghost use Rattle.std.specs.Prelude.{◌≡◌, ◌+◌, ◌<◌, ◌≤◌, ◌^◌, ◌++◌, ◌∷◌, [], length, map, IfOk, OnOk, All, true, false, option_map};
+//! What a client is answered: its script is carried out line by line, over one table in a radix
+//! tree.
+ghost use Rattle.std.specs.Prelude.{◌≡◌, ◌+◌, ◌<◌, ◌≤◌, ◌^◌, ◌++◌, ◌∷◌, [], length, map, IfOk, OnOk, All, true, false};
 ghost use Rattle.std.specs.FinMap.{find, put};
+ghost use Rattle.mdb_datum.specs.Bytes.{byte_order};
 ghost use Rattle.mdb_datum.specs.Doc.{member};
-ghost use Rattle.mdb_datum.specs.Row.{row_of};
-ghost use Rattle.mdb_encode.specs.Bytes.{byte_order};
-ghost use Rattle.radix_node.specs.Tree.{pairs_of};
-ghost use Rattle.radix_txn.specs.Txn.{is_spoiled, txn_pairs};
-ghost use Rattle.memdb.specs.QuestionOf.{asked_text};
-ghost use Rattle.memdb.specs.Script.{has_id, line_limit};
-ghost use Rattle.memdb.specs.Reply.{heading, line_text, insert_reply, answer_reply};
-ghost use Rattle.memdb.specs.ReplyOf.{reply_of};
-ghost use Rattle.mdb_schema.specs.Answer.{one};
 ghost use Rattle.mdb_encode.specs.Keys.{ended};
-ghost use Rattle.memdb.specs.Single.{IsKeyed, row_id, after_inserts, insert_replies, question_replies, single_replies, replies_text};
+ghost use Rattle.radix_node.specs.Nodes.{pairs_of};
+ghost use Rattle.radix_txn.specs.Txn.{txn_pairs};
+ghost use Rattle.memdb.specs.Reply.{heading, line_text, write_at, read_at, committed, insert_reply, answer_reply};
+ghost use Rattle.memdb.specs.Script.{has_id, line_limit};
+ghost use Rattle.memdb.specs.inner.QuestionOf.{asked_text};
+ghost use Rattle.memdb.specs.inner.ReplyOf.{reply_of};
+ghost use Rattle.memdb.specs.inner.Single.{IsKeyed, row_id, after_inserts, insert_replies, question_replies, single_replies, replies_text};
 
 use crate::form::Form;
 use crate::question::Question;
@@ -22,39 +22,92 @@ use radix_node::Tree;
 use radix_txn::{Edit, TreeTxn};
 use std::alloc::{AllocError, Global};
 
-/// Adds the line `client NUMBER WORD`.
-fn write_heading(number: u64, word: &Text, out: &mut Vec<u8>) -> Result<(), AllocError>
-    ensures { OnOk result (out.new.items ≡ out.old.items ++ heading number word.now) }
+/// The whole output for one client: its heading, and the answers to a script that inserts rows,
+/// commits them and asks for the rows of texts. It takes memory for the tree and the text.
+pub fn answers(
+    alloc: Global,
+    name: &Text,
+    form: &Form<'_>,
+    rows: &[Row],
+    questions: &[Question],
+) -> Result<Vec<u8>, AllocError>
+    requires keyed { IsKeyed form.now.field.now rows.now (map asked_text questions.now) }
+    requires few { length rows.now + length questions.now ≤ line_limit }
+    ensures { IfOk result (λ out. out.items ≡ heading 1 name.now ++ replies_text 1
+        (single_replies form.now.field.now rows.now (map asked_text questions.now))) }
+{
+    let mut out = Vec::new(alloc);
+    write_heading(1, name, &mut out)?;
+    let tree = write_transaction(alloc, form, rows, &mut out)?;
+    read_transaction(
+        alloc,
+        form,
+        questions,
+        &tree,
+        2 + rows.len() as u64,
+        &mut out,
+    )?;
+    Ok(out)
+}
+
+/// Adds the line `client NUMBER NAME`.
+fn write_heading(number: u64, name: &Text, out: &mut Vec<u8>) -> Result<(), AllocError>
+    ensures { OnOk result (out.new.items ≡ out.old.items ++ heading number name.now) }
 {
     out.extend_from_slice(b"client ")?;
     write_number(number, out)?;
     out.push(b' ')?;
-    out.extend_from_slice(word.as_str().as_bytes())?;
+    out.extend_from_slice(name.as_str().as_bytes())?;
     out.push(b'\n')?;
     Ok(())
 }
 
-/// The `id` key of a row, which has one.
-fn row_keys(alloc: Global, form: &Form<'_>, row: &Row) -> Result<Keys, AllocError>
-    requires { has_id (member form.now.field.now (row_of row.now)) ≡ true }
-    ensures { IfOk result (λ ks. ks ≡ row_id form.now.field.now (row_of row.now) ∷ []) }
+/// Begins a write transaction on nothing, at line 1, and inserts rows in it. Adds the answers to a
+/// text, and gives the tree.
+fn write_transaction(
+    alloc: Global,
+    form: &Form<'_>,
+    rows: &[Row],
+    out: &mut Vec<u8>,
+) -> Result<Tree, AllocError>
+    requires keyed { All (λ row. has_id (member form.now.field.now row) ≡ true) rows.now }
+    requires fits { 2 + length rows.now < 2 ^ 64 }
+    ensures stored { IfOk result (λ tree.
+        pairs_of tree ≡ after_inserts form.now.field.now [] rows.now) }
+    ensures said { OnOk result (out.new.items ≡ out.old.items
+        ++ (line_text 1 (write_at 0)
+        ++ replies_text 2 (insert_replies form.now.field.now [] rows.now))) }
 {
-    match keys_of(alloc, form.kind, row) {
-        Ok(keys) => Ok(keys),
-        Err(KeyError::Memory) => Err(AllocError),
-        Err(_) => unreachable!(),
-    }
+    let mut txn = Tree::empty(alloc)?.txn()?;
+    Reply::WriteAt(0).write(1, out)?;
+    insert_rows(alloc, form, rows, 2, &mut txn, out)?;
+    Ok(txn.freeze()?)
 }
 
-/// The `id` key of the text that is asked for.
-fn question_key(alloc: Global, form: &Form<'_>, question: &Question) -> Result<Key, AllocError>
-    ensures { IfOk result (λ k. k ≡ ended (asked_text question.now)) }
+/// Inserts rows in a transaction, by lines that begin at a number, and adds the answers to a text.
+fn insert_rows(
+    alloc: Global,
+    form: &Form<'_>,
+    rows: &[Row],
+    first: u64,
+    txn: &mut TreeTxn,
+    out: &mut Vec<u8>,
+) -> Result<(), AllocError>
+    requires keyed { All (λ row. has_id (member form.now.field.now row) ≡ true) rows.now }
+    requires fits { first + length rows.now < 2 ^ 64 }
+    requires sound { txn.old.spoiled ≡ false }
+    ensures stored { OnOk result
+        (txn_pairs txn.new ≡ after_inserts form.now.field.now (txn_pairs txn.old) rows.now) }
+    ensures said { OnOk result (out.new.items ≡ out.old.items
+        ++ replies_text first (insert_replies form.now.field.now (txn_pairs txn.old) rows.now)) }
+    ensures sound { OnOk result (txn.new.spoiled ≡ false) }
 {
-    match arg_key(alloc, form.kind, question.args()) {
-        Ok(key) => Ok(key),
-        Err(ArgError::Memory) => Err(AllocError),
-        Err(_) => unreachable!(),
+    let mut number = first;
+    for row in rows {
+        insert_row(alloc, form, row, number, txn, out)?;
+        number += 1;
     }
+    Ok(())
 }
 
 /// Inserts a row in a transaction, and adds the answer to a text.
@@ -66,51 +119,64 @@ fn insert_row(
     txn: &mut TreeTxn,
     out: &mut Vec<u8>,
 ) -> Result<(), AllocError>
-    requires id { has_id (member form.now.field.now (row_of row.now)) ≡ true }
-    requires sound { is_spoiled txn.old ≡ false }
-    ensures stored { OnOk result (txn_pairs txn.new ≡ put byte_order (row_id form.now.field.now (row_of row.now)) (row_of row.now) (txn_pairs txn.old)) }
-    ensures said { OnOk result (out.new.items ≡ out.old.items
-        ++ line_text number (insert_reply (find byte_order (row_id form.now.field.now (row_of row.now)) (txn_pairs txn.old)))) }
-    ensures sound { OnOk result (is_spoiled txn.new ≡ false) }
+    requires id { has_id (member form.now.field.now row.now) ≡ true }
+    requires sound { txn.old.spoiled ≡ false }
+    ensures stored { OnOk result (txn_pairs txn.new
+        ≡ put byte_order (row_id form.now.field.now row.now) row.now (txn_pairs txn.old)) }
+    ensures said { OnOk result (out.new.items ≡ out.old.items ++ line_text number
+        (insert_reply (find byte_order (row_id form.now.field.now row.now) (txn_pairs txn.old)))) }
+    ensures sound { OnOk result (txn.new.spoiled ≡ false) }
 {
     let keys = row_keys(alloc, form, row)?;
     let Some(key) = keys.get(0) else {
         unreachable!();
     };
-    let stood = txn.insert(key.bytes(), row)?;
-    insert_answer(&stood).write(number, out)
+    let old = txn.insert(key.bytes(), row)?;
+    insert_answer(&old).write(number, out)
 }
 
-/// What an insert is answered, by the row that stood there.
-fn insert_answer(stood: &Option<Row>) -> Reply<'static>
-    ensures { reply_of result ≡ insert_reply (option_map row_of stood.now) }
+/// The `id` key of a row, which has one.
+fn row_keys(alloc: Global, form: &Form<'_>, row: &Row) -> Result<Keys, AllocError>
+    requires { has_id (member form.now.field.now row.now) ≡ true }
+    ensures { IfOk result (λ keys. keys ≡ row_id form.now.field.now row.now ∷ []) }
 {
-    match stood {
+    match keys_of(alloc, form.kind, row) {
+        Ok(keys) => Ok(keys),
+        Err(KeyError::Memory) => Err(AllocError),
+        Err(_) => unreachable!(),
+    }
+}
+
+/// What an insert is answered, by the row that it replaced.
+fn insert_answer(old: &Option<Row>) -> Reply<'static>
+    ensures { reply_of result ≡ insert_reply old.now }
+{
+    match old {
         None => Reply::Inserted,
         Some(_) => Reply::Replaced,
     }
 }
 
-/// The tree of a transaction that inserts rows, by lines that begin at a number; adds the answers to a text.
-fn insert_rows(
+/// Commits at a line, begins a read transaction on that commit, and asks for the rows of texts.
+/// Adds the answers to a text.
+fn read_transaction(
     alloc: Global,
     form: &Form<'_>,
-    rows: &[Row],
-    first: u64,
+    questions: &[Question],
+    tree: &Tree,
+    line: u64,
     out: &mut Vec<u8>,
-) -> Result<Tree, AllocError>
-    requires keyed { All (λ row. has_id (member form.now.field.now (row_of row)) ≡ true) rows.now }
-    requires fits { first + length rows.now < 2 ^ 64 }
-    ensures stored { IfOk result (λ tree. pairs_of tree ≡ after_inserts form.now.field.now [] (map row_of rows.now)) }
-    ensures said { OnOk result (out.new.items ≡ out.old.items ++ replies_text first (insert_replies form.now.field.now [] (map row_of rows.now))) }
+) -> Result<(), AllocError>
+    requires { line + 2 + length questions.now < 2 ^ 64 }
+    ensures { OnOk result (out.new.items ≡ out.old.items
+        ++ (line_text line (committed 1)
+        ++ (line_text (line + 1) (read_at 1)
+        ++ replies_text (line + 2)
+        (question_replies (pairs_of tree.now) (map asked_text questions.now))))) }
 {
-    let mut txn = Tree::empty(alloc)?.txn()?;
-    let mut number = first;
-    for row in rows {
-        insert_row(alloc, form, row, number, &mut txn, out)?;
-        number += 1;
-    }
-    Ok(txn.freeze()?)
+    Reply::Committed(1).write(line, out)?;
+    Reply::ReadAt(1).write(line + 1, out)?;
+    ask_all(alloc, form, questions, tree, line + 2, out)
 }
 
 /// Asks a tree, by lines that begin at a number, and adds the answers to a text.
@@ -123,7 +189,8 @@ fn ask_all(
     out: &mut Vec<u8>,
 ) -> Result<(), AllocError>
     requires { first + length questions.now < 2 ^ 64 }
-    ensures { OnOk result (out.new.items ≡ out.old.items ++ replies_text first (question_replies (pairs_of tree.now) (map asked_text questions.now))) }
+    ensures { OnOk result (out.new.items ≡ out.old.items ++ replies_text first
+        (question_replies (pairs_of tree.now) (map asked_text questions.now))) }
 {
     let mut number = first;
     for question in questions {
@@ -143,7 +210,8 @@ fn ask(
     out: &mut Vec<u8>,
 ) -> Result<(), AllocError>
     ensures { OnOk result (out.new.items ≡ out.old.items
-        ++ line_text number (answer_reply (one (find byte_order (ended (asked_text question.now)) (pairs_of tree.now))))) }
+        ++ line_text number (answer_reply
+        (find byte_order (ended (asked_text question.now)) (pairs_of tree.now)))) }
 {
     let key = question_key(alloc, form, question)?;
     match tree.get(key.bytes()) {
@@ -152,28 +220,13 @@ fn ask(
     }
 }
 
-/// The whole output for one client: its heading, and the answers to a script that inserts rows, commits them
-/// and asks for the rows of texts.
-#[tactic(auto, using(crate::proofs::Texts::replies_text_append, crate::proofs::Texts::length_insert_replies))]
-pub fn answers(
-    alloc: Global,
-    word: &Text,
-    form: &Form<'_>,
-    rows: &[Row],
-    questions: &[Question],
-) -> Result<Vec<u8>, AllocError>
-    requires keyed { IsKeyed form.now.field.now (map row_of rows.now) (map asked_text questions.now) }
-    requires few { length rows.now + length questions.now ≤ line_limit }
-    ensures { IfOk result (λ v. v.items ≡ heading 1 word.now
-        ++ replies_text 1 (single_replies form.now.field.now (map row_of rows.now) (map asked_text questions.now))) }
+/// The `id` key of the text that is asked for.
+fn question_key(alloc: Global, form: &Form<'_>, question: &Question) -> Result<Key, AllocError>
+    ensures { IfOk result (λ key. key ≡ ended (asked_text question.now)) }
 {
-    let mut out = Vec::new(alloc);
-    write_heading(1, word, &mut out)?;
-    Reply::WriteAt(0).write(1, &mut out)?;
-    let tree = insert_rows(alloc, form, rows, 2, &mut out)?;
-    let commit = 2 + rows.len() as u64;
-    Reply::Committed(1).write(commit, &mut out)?;
-    Reply::ReadAt(1).write(commit + 1, &mut out)?;
-    ask_all(alloc, form, questions, &tree, commit + 2, &mut out)?;
-    Ok(out)
+    match arg_key(alloc, form.kind, question.args()) {
+        Ok(key) => Ok(key),
+        Err(ArgError::Memory) => Err(AllocError),
+        Err(_) => unreachable!(),
+    }
 }

@@ -1,15 +1,15 @@
-// The form of the schemas that are built: one table with one index `id` over the text of one member.
-ghost use Rattle.std.specs.Prelude.{◌≡◌, IsTrue, IfSome, Some, length, option_map, slice_get};
+//! The form of the schemas that are supported: one table with one index `id` over the text of one
+//! member.
+ghost use Rattle.std.specs.Prelude.{◌≡◌, IsTrue, option_copied, option_map};
 ghost use Rattle.mdb_encode.specs.Kind.{indexer_of};
-ghost use Rattle.mdb_schema.specs.Definition.{index_view, table_view, schema_view};
-ghost use Rattle.mdb_schema.specs.LawfulSchema.{IsLawfulSchema};
-ghost use Rattle.memdb.specs.Form.{plain_text, id_index, first_form, is_over_text};
+ghost use Rattle.memdb.specs.inner.Form.{plain_text, id_index, first_form, is_over_text};
 
 use mdb_datum::Text;
 use mdb_encode::Kind;
 use mdb_schema::{IndexDef, Schema, TableDef};
 
-/// A schema's one table, the member whose text is its `id`, and how the keys of its index `id` are made.
+/// A schema's one table, the member whose text is its `id`, and how the keys of its index `id` are
+/// made.
 #[derive(Drop)]
 pub struct Form<'a> {
     pub table: &'a Text,
@@ -18,11 +18,10 @@ pub struct Form<'a> {
     ghost over_text: { IsTrue (is_over_text field.now (indexer_of kind.now)) },
 }
 
-/// The table and the member of a schema, where it is of the form that is built.
-#[tactic(auto, using(crate::proofs::Forms::lawful_over_text))]
+/// The table and the member of a schema, where it is supported.
+#[tactic(auto, using(crate::proofs::Forms::plain_over_text))]
 pub fn first_form(schema: &Schema) -> Option<Form<'_>>
-    requires { IsLawfulSchema (schema_view schema.now) }
-    ensures { option_map (λ f. (f.table.now, f.field.now)) result ≡ first_form (schema_view schema.now) }
+    ensures { option_map (λ f. (f.table.now, f.field.now)) result ≡ first_form schema.now }
 {
     if schema.len() != 1 {
         return None;
@@ -39,8 +38,7 @@ pub fn first_form(schema: &Schema) -> Option<Form<'_>>
 
 /// A table's one index, where it is `id`, unique and never missing.
 fn id_index(table: &TableDef) -> Option<&IndexDef>
-    ensures found { option_map (λ i. index_view i.now) result ≡ id_index (table_view table.now).indexes }
-    ensures there { IfSome result (λ i. slice_get (table_view table.now).indexes 0 ≡ Some (index_view i.now)) }
+    ensures { option_copied result ≡ id_index table.now.indexes }
 {
     if table.len() != 1 {
         return None;
@@ -55,7 +53,7 @@ fn id_index(table: &TableDef) -> Option<&IndexDef>
 
 /// The member whose text makes the keys, not folded.
 fn plain_text(kind: &Kind) -> Option<&Text>
-    ensures { option_map (λ name. name.now) result ≡ plain_text (indexer_of kind.now) }
+    ensures { option_copied result ≡ plain_text (indexer_of kind.now) }
 {
     match kind {
         Kind::Str {

@@ -1,7 +1,7 @@
-// The lines of a text, each ended by a line feed.
+//! The lines of a text, each ended by a line feed.
 ghost use Rattle.std.specs.Prelude.{◌≡◌, ◌==◌, ◌<◌, length, count_by, nat_le, IfSome, option_map, position};
 ghost use Rattle.memdb.specs.Script.{after, line_limit};
-ghost use Rattle.memdb.specs.Lines.{first_line, after_word};
+ghost use Rattle.memdb.specs.inner.Lines.{first_line, after_word};
 
 /// A script has at most so many lines.
 const LINE_LIMIT: usize = 100_000;

@@ -1,31 +1,31 @@
-ghost use Rattle.std.specs.Prelude.{◌≡◌, ◌<◌, ◌≤◌, length, vec_len, IfOk, IfSome, IsErrOf, OnOk};
-ghost use Rattle.mdb_ports.specs.Faults.{Rose};
-ghost use Rattle.mdb_ports.specs.Files.{IsAbsentIfReliable};
-ghost use Rattle.memdb.specs.Outcome.{Whole, IsTooLarge, file_limit};
-ghost use Rattle.memdb.specs.declared.load.LoadError.TheVariants.{Memory, Read};
+//! A file, read whole.
+ghost use Rattle.std.specs.Prelude.{◌≡◌, ◌<◌, ◌∷◌, [], length, vec_len, IfOk};
+ghost use Rattle.memdb.specs.Observed.{observed, Stays};
+ghost use Rattle.memdb.specs.inner.Loads.{Loads, content_of};
+ghost use Rattle.memdb.specs.declared.load.LoadError.TheVariants.{Memory};
 
 use mdb_datum::Text;
-use mdb_ports::{Failed, Files};
-use std::alloc::{AllocError, Global};
+use mdb_ports::Files;
+use std::alloc::{AllocError, AllocFailed, Global};
 
-// The most bytes of one file.
+/// The most bytes of one file.
 const LIMIT: usize = 1_048_576;
 
-// The most bytes that one call fetches.
+/// The most bytes that one call fetches.
 const PIECE: usize = 65_536;
 
-/// Why a file was not read whole.
-#[derive(Clone, Copy, Debug, PartialEq, Eq)]
-pub enum LoadError {
+/// Why files were not read whole.
+#[derive(Clone, Copy)]
+pub enum LoadError<'a> {
     /// There was not enough memory.
     Memory,
-    /// A call of the files failed.
-    Read,
-    /// The file has more than 1,048,576 bytes.
-    TooLarge,
+    /// A call failed, at the file of this name.
+    Read(&'a Text),
+    /// The file of this name has more than 1,048,576 bytes.
+    TooLarge(&'a Text),
 }
 
-impl From<AllocError> for LoadError {
+impl From<AllocError> for LoadError<'_> {
     ghost from_gives = { λ _ e. e ≡ Memory };
 
     fn from(_: AllocError) -> Self {
@@ -33,78 +33,51 @@ impl From<AllocError> for LoadError {
     }
 }
 
-impl From<Failed> for LoadError {
-    ghost from_gives = { λ _ e. e ≡ Read };
+impl<T: Drop> From<AllocFailed<T>> for LoadError<'_> {
+    ghost from_gives = { λ _ e. e ≡ Memory };
 
-    fn from(_: Failed) -> Self {
-        LoadError::Read
+    fn from(_: AllocFailed<T>) -> Self {
+        LoadError::Memory
     }
 }
 
-/// Reads the file of this name whole, 65,536 bytes a call at most. A file of up to 1,048,576 bytes is read.
-///
-/// It takes memory for one such piece and for the bytes that it has read, and reads no further than the piece with
-/// the first byte past the limit.
-pub fn load<F: Files>(alloc: Global, files: &mut F, name: &Text) -> Result<Vec<u8>, LoadError>
-    ensures same_files { F.told files.new ≡ F.told files.old }
-    ensures stays { F.reliable files.new ≡ F.reliable files.old }
-    ensures later { F.faults files.old ≤ F.faults files.new }
-
-    ensures whole { IfOk result
-        (λ v. length v.items ≤ file_limit × IfSome (F.told files.old) (λ fs. Whole fs name.now v.items)) }
-    ensures too_large { IsErrOf result LoadError.TooLarge
-        → IfSome (F.told files.old) (λ fs. IsTooLarge fs name.now) }
-    ensures read { IsErrOf result LoadError.Read → Rose (F.faults files.old) (F.faults files.new) }
-    ensures absent { IsErrOf result LoadError.Read
-        → IsAbsentIfReliable (F.reliable files.old) (F.told files.old) name.now }
-
-    // Only a failed call is a fault.
-    ensures whole_no_fault { OnOk result (F.faults files.new ≡ F.faults files.old) }
-    ensures too_large_no_fault { IsErrOf result LoadError.TooLarge → F.faults files.new ≡ F.faults files.old }
-    ensures memory_no_fault { IsErrOf result LoadError.Memory → F.faults files.new ≡ F.faults files.old }
-{
-    let mut piece = new_piece(alloc)?;
-    Ok(load_by(alloc, files, name, &mut piece)?)
-}
-
-fn new_piece(alloc: Global) -> Result<Vec<u8>, AllocError>
+/// A buffer for the pieces of files, of 65,536 bytes.
+pub fn new_piece(alloc: Global) -> Result<Vec<u8>, AllocError>
     ensures { IfOk result (λ v. 0 < vec_len v) }
 {
     vec![in alloc; 0u8; PIECE]
 }
 
-// Reads a file by pieces that fit a buffer.
-fn load_by<F: Files>(
+/// Reads the file of this name whole, by pieces that fit a buffer. A file of up to 1,048,576 bytes
+/// is read. It takes memory for the bytes that it has read, and reads no further than the piece
+/// with the first byte past the limit. The buffer's bytes mean nothing before and after.
+///
+/// # Errors
+/// `Read` where a call fails, `TooLarge` past the limit; `Memory` may come at any file.
+pub fn load<'a, F: Files>(
     alloc: Global,
     files: &mut F,
-    name: &Text,
+    name: &'a Text,
     piece: &mut [u8],
-) -> Result<Vec<u8>, LoadError>
+) -> Result<Vec<u8>, LoadError<'a>>
     requires { 0 < length piece.old }
-    ensures same_files { F.told files.new ≡ F.told files.old }
-    ensures stays { F.reliable files.new ≡ F.reliable files.old }
-    ensures later { F.faults files.old ≤ F.faults files.new }
-
-    ensures whole { IfOk result
-        (λ v. length v.items ≤ file_limit × IfSome (F.told files.old) (λ fs. Whole fs name.now v.items)) }
-    ensures too_large { IsErrOf result LoadError.TooLarge
-        → IfSome (F.told files.old) (λ fs. IsTooLarge fs name.now) }
-    ensures read { IsErrOf result LoadError.Read → Rose (F.faults files.old) (F.faults files.new) }
-    ensures absent { IsErrOf result LoadError.Read
-        → IsAbsentIfReliable (F.reliable files.old) (F.told files.old) name.now }
-
-    ensures whole_no_fault { OnOk result (F.faults files.new ≡ F.faults files.old) }
-    ensures too_large_no_fault { IsErrOf result LoadError.TooLarge → F.faults files.new ≡ F.faults files.old }
-    ensures memory_no_fault { IsErrOf result LoadError.Memory → F.faults files.new ≡ F.faults files.old }
+    ensures stays { let seen = observed (F.told files.old) (F.reliable files.old)
+        (F.faults files.old) (F.faults files.new) in
+        Stays seen (F.told files.new) (F.reliable files.new) }
+    ensures loads { let seen = observed (F.told files.old) (F.reliable files.old)
+        (F.faults files.old) (F.faults files.new) in
+        Loads content_of seen (name.now ∷ []) result }
 {
     let mut bytes = Vec::new(alloc);
     loop {
-        let count = files.fetch(name.as_str(), bytes.len() as u64, piece)?;
+        let Ok(count) = files.fetch(name.as_str(), bytes.len() as u64, piece) else {
+            return Err(LoadError::Read(name));
+        };
         if count == 0 {
             return Ok(bytes);
         }
         if count > LIMIT - bytes.len() {
-            return Err(LoadError::TooLarge);
+            return Err(LoadError::TooLarge(name));
         }
         bytes.extend_from_slice(&piece[..count])?;
     }

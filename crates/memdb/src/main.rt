@@ -1,17 +1,19 @@
 //! The program `memdb`: a schema and a client's script, run against one database.
 //!
-//! [`run::run`] is the top call, and its contract is what the program promises: whatever the files hold, an answer
-//! of 0 says that the bytes written are answers in one history, and every other answer has its cause. The modules
-//! below it read the words, the files and the script, carry the script out, and write the text. `main` hands it the
-//! real files and the real output, of which nothing is claimed but counts and causes.
+//! [`run::run`] is the top call, and its contract is what the program promises: whatever the files
+//! hold, an answer of 0 says that the bytes written are answers in one history, and every other
+//! answer has its cause. The modules below it read the words, the files and the script, carry the
+//! script out, and write the text. `main` hands it the real files and the real output, of which
+//! nothing is claimed but counts and causes.
 #![tactic(auto)]
 
 mod answers;
-mod due;
 mod form;
+mod inputs;
 mod judge;
 mod lines;
 mod load;
+mod outcome;
 mod output;
 mod question;
 mod reply;
@@ -20,6 +22,7 @@ mod script;
 #[cfg(test)]
 mod tests;
 mod words;
+mod write;
 
 use mdb_datum::Text;
 use mdb_ports::{DirFiles, OpenGate, OutSink};
@@ -38,14 +41,19 @@ fn main(rt: HostRuntime) -> ExitCode {
     ExitCode::from(run::run(&rt, alloc, &words, &mut files, &mut out, &OpenGate))
 }
 
-/// The words after the program's name. Where one of them is no text there are none, which is no command.
+/// The words after the program's name. Where one of them is no text there are none, which is no
+/// command.
 fn command_line(rt: &(impl Env + AllocGlobal), alloc: Global) -> Result<Vec<Text>, AllocError> {
+    match env::args(rt) {
+        Ok(args) => words_of(alloc, args),
+        Err(error) if error.kind() == io::ErrorKind::OutOfMemory => Err(AllocError),
+        Err(_error) => Ok(Vec::new(alloc)),
+    }
+}
+
+/// The arguments behind the first, as texts of their own.
+fn words_of(alloc: Global, args: env::Args) -> Result<Vec<Text>, AllocError> {
     let mut words = Vec::new(alloc);
-    let args = match env::args(rt) {
-        Ok(args) => args,
-        Err(error) if error.kind() == io::ErrorKind::OutOfMemory => return Err(AllocError),
-        Err(_) => return Ok(words),
-    };
     for word in args.skip(1) {
         words.push(Text::of(alloc, &word)?)?;
     }

@@ -1,24 +1,123 @@
-ghost use Rattle.std.specs.Prelude.{◌≤◌, ℕ, take, OnOk, OnErr};
-ghost use Rattle.mdb_ports.specs.Faults.{Rose};
-ghost use Rattle.mdb_ports.specs.Sink.{Grows};
+//! What a run writes, and the status that it ends with.
+ghost use Rattle.std.specs.Prelude.{◌≡◌, ◌++◌, ◌∷◌, [], IfOk, OnOk, codes};
+ghost use Rattle.mdb_datum.specs.Doc.{text};
+ghost use Rattle.mdb_datum.specs.Written.{compact};
+ghost use Rattle.memdb.specs.Outcome.{name_line, name_part, broken_text, not_yet_text};
+ghost use Rattle.memdb.specs.Words.{usage_text};
 
-use mdb_ports::{Failed, Sink};
+use mdb_datum::{Datum, Text, write_doc};
+use mdb_schema::SchemaRule;
+use std::alloc::{AllocError, Global};
 
-/// Writes a text whole, in as many calls as the sink wants. After `Failed` it has written the front of the text.
-/// It takes no memory, and an empty text makes no call.
-#[tactic(auto, using(crate::proofs::Pieces::grows_nothing))]
-pub fn write_all<S: Sink>(out: &mut S, text: &[u8]) -> Result<(), Failed>
-    ensures grown { OnOk result (Grows (S.told out.old) (S.told out.new) text.now) }
-    ensures prefix { OnErr result ((n : ℕ) × Grows (S.told out.old) (S.told out.new) (take n text.now)) }
-    ensures later { S.faults out.old ≤ S.faults out.new }
-    ensures cause { OnErr result (Rose (S.faults out.old) (S.faults out.new)) }
+/// A status and the text that is written under it.
+#[derive(Drop)]
+pub struct Output {
+    pub status: u8,
+    pub text: Vec<u8>,
+}
+
+const USAGE: &[u8] = b"usage: memdb run SCHEMA CLIENT...\n       memdb make NUMBER CLIENTS COUNT\n";
+
+/// The words are no command.
+pub fn usage(alloc: Global) -> Result<Output, AllocError>
+    ensures { IfOk result (λ output. (output.status ≡ 1) × (output.text.items ≡ usage_text)) }
 {
-    let mut written = 0;
-    while written < text.len() {
-        written += out.put(&text[written..])?;
-    }
+    Ok(Output {
+        status: 1,
+        text: Vec::from_slice(alloc, USAGE)?,
+    })
+}
+
+/// The schema breaks a rule, perhaps in a table and an index of these names.
+pub fn broken_schema(
+    alloc: Global,
+    rule: SchemaRule,
+    table: Option<Text>,
+    index: Option<Text>,
+) -> Result<Output, AllocError>
+    ensures { IfOk result (λ output. (output.status ≡ 2)
+        × (output.text.items
+        ≡ broken_text (record { rule = rule; table = table; index = index }))) }
+{
+    let mut text = Vec::from_slice(alloc, b"schema ")?;
+    text.extend_from_slice(rule.word().as_bytes())?;
+    write_names(alloc, table, index, &mut text)?;
+    Ok(Output { status: 2, text })
+}
+
+/// Adds the names of a table and an index, where they are there, and ends the line.
+fn write_names(
+    alloc: Global,
+    table: Option<Text>,
+    index: Option<Text>,
+    out: &mut Vec<u8>,
+) -> Result<(), AllocError>
+    ensures { OnOk result
+        (out.new.items ≡ out.old.items ++ (name_part table ++ (name_part index ++ 10 ∷ []))) }
+{
+    write_name(alloc, table, out)?;
+    write_name(alloc, index, out)?;
+    out.push(b'\n')?;
     Ok(())
 }
 
-#[cfg(test)]
-mod tests;
+/// Adds a blank and a name as a JSON text, where there is one.
+fn write_name(alloc: Global, name: Option<Text>, out: &mut Vec<u8>) -> Result<(), AllocError>
+    ensures { OnOk result (out.new.items ≡ out.old.items ++ name_part name) }
+{
+    match name {
+        None => Ok(()),
+        Some(name) => write_quoted(alloc, name, out),
+    }
+}
+
+/// Adds a blank and a name as a JSON text.
+fn write_quoted(alloc: Global, name: Text, out: &mut Vec<u8>) -> Result<(), AllocError>
+    ensures { OnOk result (out.new.items ≡ out.old.items ++ (32 ∷ compact (text name))) }
+{
+    let quoted = write_doc(alloc, &Datum::Str(name))?;
+    out.push(b' ')?;
+    out.extend_from_slice(&quoted)
+}
+
+/// A call of the files failed, at the file of this name.
+pub fn cannot_read(alloc: Global, name: &Text) -> Result<Output, AllocError>
+    ensures { IfOk result (λ output. (output.status ≡ 5)
+        × (output.text.items ≡ name_line (codes "cannot read ") name.now)) }
+{
+    Ok(Output {
+        status: 5,
+        text: name_line(alloc, b"cannot read ", name)?,
+    })
+}
+
+/// The file of this name has too many bytes.
+pub fn too_large(alloc: Global, name: &Text) -> Result<Output, AllocError>
+    ensures { IfOk result (λ output. (output.status ≡ 7)
+        × (output.text.items ≡ name_line (codes "too large ") name.now)) }
+{
+    Ok(Output {
+        status: 7,
+        text: name_line(alloc, b"too large ", name)?,
+    })
+}
+
+/// The schema or a script isn't supported.
+pub fn not_yet(alloc: Global) -> Result<Output, AllocError>
+    ensures { IfOk result (λ output. (output.status ≡ 8) × (output.text.items ≡ not_yet_text)) }
+{
+    Ok(Output {
+        status: 8,
+        text: Vec::from_slice(alloc, b"not yet\n")?,
+    })
+}
+
+/// A line of some words and a file's name.
+fn name_line(alloc: Global, what: &[u8], name: &Text) -> Result<Vec<u8>, AllocError>
+    ensures { IfOk result (λ line. line.items ≡ name_line what.now name.now) }
+{
+    let mut line = Vec::from_slice(alloc, what)?;
+    line.extend_from_slice(name.as_str().as_bytes())?;
+    line.push(b'\n')?;
+    Ok(line)
+}

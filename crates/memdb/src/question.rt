@@ -1,9 +1,9 @@
-// The questions of a script: each asks for the row whose `id` is a text.
+//! The questions of a script: each asks for the row whose `id` is a text.
 ghost use Rattle.std.specs.Prelude.{◌≡◌, ◌≤◌, ◌∷◌, [], IsTrue, length, option_map};
 ghost use Rattle.mdb_datum.specs.Datum.{doc_of, items_of};
 ghost use Rattle.mdb_datum.specs.Doc.{text};
 ghost use Rattle.mdb_datum.specs.Reading.{read_as};
-ghost use Rattle.memdb.specs.Question.{is_short_text};
+ghost use Rattle.memdb.specs.inner.Question.{is_short_text};
 ghost use Rattle.memdb.specs.Script.{text_in, text_limit};
 
 use mdb_datum::{Datum, Items};
@@ -11,7 +11,8 @@ use mdb_datum::{Datum, Items};
 /// The longest text, in bytes, whose key is no longer than a key may be.
 pub const TEXT_LIMIT: usize = 1023;
 
-/// A question for the row of a text, which is no longer than a key may be: its arguments, as they were read.
+/// A question for the row of a text, which is no longer than a key may be: its arguments, as they
+/// were read.
 #[derive(Drop)]
 pub struct Question {
     args: Items,
@@ -19,7 +20,7 @@ pub struct Question {
 }
 
 impl Question {
-    ghost use Rattle.memdb.specs.QuestionOf.{asked_text};
+    ghost use Rattle.memdb.specs.inner.QuestionOf.{asked_text};
 
     /// The question of these arguments, where they are a list of one such text.
     #[tactic(auto, using(crate::proofs::Questions::text_in_list))]

@@ -1,5 +1,5 @@
+//! The answers to the lines of a script.
 ghost use Rattle.std.specs.Prelude.{◌≡◌, ◌++◌, OnOk, decimal, codes};
-ghost use Rattle.mdb_datum.specs.Row.{row_of};
 ghost use Rattle.mdb_datum.specs.Written.{row_text};
 ghost use Rattle.memdb.specs.Reply.{reply_text, line_text};
 
@@ -26,11 +26,12 @@ pub enum Reply<'a> {
 }
 
 impl Reply<'_> {
-    ghost use Rattle.memdb.specs.ReplyOf.{reply_of};
+    ghost use Rattle.memdb.specs.inner.ReplyOf.{reply_of};
 
     /// Adds `LINE: ANSWER` and a line feed to a text.
     pub fn write(&self, number: u64, out: &mut Vec<u8>) -> Result<(), AllocError>
-        ensures { OnOk result (out.new.items ≡ out.old.items ++ line_text number (reply_of self.now)) }
+        ensures { OnOk result
+            (out.new.items ≡ out.old.items ++ line_text number (reply_of self.now)) }
     {
         write_number(number, out)?;
         out.extend_from_slice(b": ")?;
@@ -55,7 +56,7 @@ impl Reply<'_> {
 }
 
 fn write_row(row: &Row, out: &mut Vec<u8>) -> Result<(), AllocError>
-    ensures { OnOk result (out.new.items ≡ out.old.items ++ (codes "row " ++ row_text (row_of row.now))) }
+    ensures { OnOk result (out.new.items ≡ out.old.items ++ (codes "row " ++ row_text row.now)) }
 {
     let document = row.doc()?;
     out.extend_from_slice(b"row ")?;

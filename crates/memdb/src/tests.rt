@@ -1,27 +1,106 @@
-// The top call over files and a sink in memory.
+//! The top call over files and a sink in memory: the worked runs, and a failure at each call and
+//! each allocation.
 use super::*;
 use mdb_ports::{CallList, FileList, MemFiles, MemSink};
-use std::process::Abort;
 use std::sync::Wait;
 use std::test::Fail;
 use std::thread::Threads;
 
-const SCHEMA: &str =
-    "{\"memdb\":1,\"tables\":{\"t\":{\"indexes\":{\"id\":{\"unique\":true,\"indexer\":{\"kind\":\"text\",\"field\":\"name\"}}}}}}\n";
+const SCHEMA: &str = r#"{"memdb":1,"tables":{"t":{"indexes":{
+"id":{"unique":true,"indexer":{"kind":"text","field":"name"}}}}}}"#;
+
+const DEFAULTS: &str = r#"{"memdb":1,"tables":{"t":{"indexes":{
+"id":{"unique":true,"allow_missing":false,
+"indexer":{"lowercase":false,"kind":"text","field":"name"}}}}}}"#;
+
+const FOLDED: &str = r#"{"memdb":1,"tables":{"t":{"indexes":{
+"id":{"unique":true,"indexer":{"kind":"text","field":"name","lowercase":true}}}}}}"#;
+
+const BY_UUID: &str = r#"{"memdb":1,"tables":{"t":{"indexes":{
+"id":{"unique":true,"indexer":{"kind":"uuid","field":"name"}}}}}}"#;
+
+const TWO_INDEXES: &str = r#"{"memdb":1,"tables":{"t":{"indexes":{
+"id":{"unique":true,"indexer":{"kind":"text","field":"name"}},
+"x":{"indexer":{"kind":"text","field":"name"}}}}}}"#;
+
+const TWO_TABLES: &str = r#"{"memdb":1,"tables":{
+"t":{"indexes":{"id":{"unique":true,"indexer":{"kind":"text","field":"name"}}}},
+"u":{"indexes":{"id":{"unique":true,"indexer":{"kind":"text","field":"name"}}}}}}"#;
+
+const NO_ID: &str = r#"{"memdb":1,"tables":{"t":{"indexes":{
+"x":{"indexer":{"kind":"text","field":"a"}}}}}}"#;
+
+const BAD_INDEX: &str = r#"{"memdb":1,"tables":{"t":{"indexes":{"a\"b\u0001\n":1,"id":1}}}}"#;
 
 const USAGE: &str = "usage: memdb run SCHEMA CLIENT...\n       memdb make NUMBER CLIENTS COUNT\n";
 
-/// A run: its words parted by blanks, the files that are there, and what it answers and writes.
-#[derive(Drop)]
-struct Case {
-    words: &'static str,
-    schema: Option<&'static str>,
-    client: Option<&'static str>,
-    status: u8,
-    out: &'static str,
-}
+const EMPTY: &str = "write\ncommit\nread\n";
 
-fn words_of(alloc: Global, text: &str) -> Result<Vec<Text>, AllocError> {
+const ANN: &str = r#"write
+insert t {"name":"ann","age":3}
+commit
+read
+first t id ["ann"]
+first t id ["bob"]
+"#;
+
+const ANN_OUT: &str = r#"client 1 c1
+1: write @0
+2: inserted
+3: commit @1
+4: read @1
+5: row {"age":3,"name":"ann"}
+6: none
+"#;
+
+const TWICE: &str = r#"write
+insert t {"name":"ann","age":3}
+insert t {"name":"ann"}
+commit
+read
+first t id ["ann"]
+"#;
+
+const TWICE_OUT: &str = r#"client 1 c1
+1: write @0
+2: inserted
+3: replaced
+4: commit @1
+5: read @1
+6: row {"name":"ann"}
+"#;
+
+/// Words that are no command.
+const NO_COMMANDS: [&str; 4] = ["run S", "run S c1 c1", "run -x c1", "make 1 2 3"];
+
+/// A schema and a script, and the status and the text of their run.
+const CASES: [(&str, &str, u8, &str); 13] = [
+    (SCHEMA, ANN, 0, ANN_OUT),
+    (DEFAULTS, ANN, 0, ANN_OUT),
+    (SCHEMA, TWICE, 0, TWICE_OUT),
+    (
+        SCHEMA,
+        EMPTY,
+        0,
+        "client 1 c1\n1: write @0\n2: commit @1\n3: read @1\n",
+    ),
+    ("", ANN, 2, "schema syntax\n"),
+    ("{}\n", EMPTY, 2, "schema bad-shape\n"),
+    (NO_ID, "commit\n", 2, "schema no-id \"t\"\n"),
+    (
+        BAD_INDEX,
+        "",
+        2,
+        "schema bad-name \"t\" \"a\\\"b\\u0001\\n\"\n",
+    ),
+    (SCHEMA, "commit\n", 8, "not yet\n"),
+    (FOLDED, ANN, 8, "not yet\n"),
+    (BY_UUID, ANN, 8, "not yet\n"),
+    (TWO_INDEXES, ANN, 8, "not yet\n"),
+    (TWO_TABLES, ANN, 8, "not yet\n"),
+];
+
+fn parted(alloc: Global, text: &str) -> Result<Vec<Text>, AllocError> {
     let mut words = Vec::new(alloc);
     for word in text.split(' ') {
         words.push(Text::of(alloc, word)?)?;
@@ -29,319 +108,192 @@ fn words_of(alloc: Global, text: &str) -> Result<Vec<Text>, AllocError> {
     Ok(words)
 }
 
-fn files_of(alloc: Global, case: &Case, fails: CallList) -> Result<MemFiles, AllocError> {
-    let mut files = FileList::new(alloc);
-    if let Some(text) = case.schema {
-        files.push((
-            Text::of(alloc, "S")?,
-            Vec::from_slice(alloc, text.as_bytes())?,
-        ))?;
-    }
-    if let Some(text) = case.client {
-        files.push((
-            Text::of(alloc, "c1")?,
-            Vec::from_slice(alloc, text.as_bytes())?,
-        ))?;
-    }
-    Ok(MemFiles::of(files, fails))
+/// Lists a file.
+fn list(alloc: Global, files: &mut FileList, name: &str, text: &str) -> Result<(), AllocError> {
+    files.push((
+        Text::of(alloc, name)?,
+        Vec::from_slice(alloc, text.as_bytes())?,
+    ))
 }
 
-/// The call that fails, where there is one.
-fn failing(alloc: Global, call: Option<u64>) -> Result<CallList, AllocError> {
+/// The files `S` and `c1`.
+fn two_files(alloc: Global, schema: &str, client: &str) -> Result<FileList, AllocError> {
+    let mut files = FileList::new(alloc);
+    list(alloc, &mut files, "S", schema)?;
+    list(alloc, &mut files, "c1", client)?;
+    Ok(files)
+}
+
+/// The one file of a name.
+fn one_file(alloc: Global, name: &str, text: &str) -> Result<FileList, AllocError> {
+    let mut files = FileList::new(alloc);
+    list(alloc, &mut files, name, text)?;
+    Ok(files)
+}
+
+/// The call that fails, counted from 1: at 0 none does.
+fn failing(alloc: Global, call: u64) -> Result<CallList, AllocError> {
     let mut calls = CallList::new(alloc);
-    if let Some(call) = call {
-        calls.push(call)?;
-    }
+    calls.push(call)?;
     Ok(calls)
 }
 
-/// Runs a case over files and a sink that may fail, the sink taking 7 bytes a call, and compares what it writes.
-fn check<R: Threads + Wait + Sync + Abort>(
+/// Runs words over files, where a call of the files and one of the sink may fail, the sink taking 7
+/// bytes a call. Gives the status and the sink.
+fn run_over<R: Threads + Wait + Sync>(
     rt: &R,
     alloc: Global,
-    case: &Case,
-    file_call: Option<u64>,
-    sink_call: Option<u64>,
-) -> Result<(), Fail> {
-    let words = words_of(alloc, case.words)?;
-    let mut files = files_of(alloc, case, failing(alloc, file_call)?)?;
-    let mut out = MemSink::of(alloc, 4096, 7, failing(alloc, sink_call)?)?;
+    words: &str,
+    files: FileList,
+    calls: (u64, u64),
+) -> Result<(u8, MemSink), AllocError> {
+    let words = parted(alloc, words)?;
+    let mut files = MemFiles::of(files, failing(alloc, calls.0)?);
+    let mut out = MemSink::of(alloc, 4096, 7, failing(alloc, calls.1)?)?;
     let status = run::run(rt, alloc, &words, &mut files, &mut out, &OpenGate);
-    assert_eq!(rt; status, case.status, "{}", case.words);
-    assert_eq!(rt; out.bytes(), case.out.as_bytes());
-    Ok(())
+    Ok((status, out))
+}
+
+/// Whether that run ends with a status and a text.
+fn ends<R: Threads + Wait + Sync>(
+    rt: &R,
+    alloc: Global,
+    words: &str,
+    files: FileList,
+    want: (u8, &str),
+) -> Result<bool, AllocError> {
+    let (status, out) = run_over(rt, alloc, words, files, (0, 0))?;
+    Ok(status == want.0 && out.bytes() == want.1.as_bytes())
 }
 
 #[test]
-fn scripts_are_answered(rt: HostRuntime) -> Result<(), Fail> {
-    let cases = [
-        Case {
-            words: "run S c1",
-            schema: Some(SCHEMA),
-            client: Some(
-                "write\ninsert t {\"name\":\"ann\",\"age\":3}\ncommit\nread\nfirst t id [\"ann\"]\nfirst t id [\"bob\"]\n",
-            ),
-            status: 0,
-            out: "client 1 c1\n1: write @0\n2: inserted\n3: commit @1\n4: read @1\n5: row {\"age\":3,\"name\":\"ann\"}\n6: none\n",
-        },
-        Case {
-            words: "run S c1",
-            schema: Some(SCHEMA),
-            client: Some(
-                "write\ninsert t {\"name\":\"ann\",\"age\":3}\ninsert t {\"name\":\"ann\"}\ncommit\nread\nfirst t id [\"ann\"]\n",
-            ),
-            status: 0,
-            out: "client 1 c1\n1: write @0\n2: inserted\n3: replaced\n4: commit @1\n5: read @1\n6: row {\"name\":\"ann\"}\n",
-        },
-        Case {
-            words: "run S c1",
-            schema: Some(SCHEMA),
-            client: Some("write\ncommit\nread\n"),
-            status: 0,
-            out: "client 1 c1\n1: write @0\n2: commit @1\n3: read @1\n",
-        },
-    ];
-    for case in &cases {
-        check(&rt, rt.alloc(), case, None, None)?;
+fn words_that_are_no_command_give_the_usage(rt: HostRuntime) -> Result<(), Fail> {
+    for words in &NO_COMMANDS {
+        let files = two_files(rt.alloc(), SCHEMA, ANN)?;
+        let holds = ends(&rt, rt.alloc(), words, files, (1, USAGE))?;
+        assert!(rt; holds, "{words}");
     }
     Ok(())
 }
 
 #[test]
-fn every_other_answer_has_its_cause(rt: HostRuntime) -> Result<(), Fail> {
-    let cases = [
-        Case {
-            words: "run S",
-            schema: Some(SCHEMA),
-            client: None,
-            status: 1,
-            out: USAGE,
-        },
-        Case {
-            words: "run -x c1",
-            schema: Some(SCHEMA),
-            client: None,
-            status: 1,
-            out: USAGE,
-        },
-        Case {
-            words: "make 1 2 3",
-            schema: None,
-            client: None,
-            status: 1,
-            out: USAGE,
-        },
-        Case {
-            words: "run S c1",
-            schema: None,
-            client: Some("write\n"),
-            status: 5,
-            out: "cannot read S\n",
-        },
-        Case {
-            words: "run S c1",
-            schema: Some(SCHEMA),
-            client: None,
-            status: 5,
-            out: "cannot read c1\n",
-        },
-        Case {
-            words: "run S c1",
-            schema: Some(SCHEMA),
-            client: Some("commit\n"),
-            status: 8,
-            out: "not yet\n",
-        },
-        Case {
-            words: "run S c1",
-            schema: Some("{}\n"),
-            client: Some("write\ncommit\nread\n"),
-            status: 2,
-            out: "schema bad-shape\n",
-        },
-    ];
-    for case in &cases {
-        check(&rt, rt.alloc(), case, None, None)?;
-    }
-    Ok(())
-}
-
-/// The run of a schema and a script.
-fn schema_run(schema: &'static str, client: &'static str, status: u8, out: &'static str) -> Case {
-    Case {
-        words: "run S c1",
-        schema: Some(schema),
-        client: Some(client),
-        status,
-        out,
-    }
-}
-
-#[test]
-fn a_schema_that_breaks_a_rule_is_told(rt: HostRuntime) -> Result<(), Fail> {
-    let cases = [
-        (
-            r#"{"memdb":1,"tables":{"t":{"indexes":{"x":{"indexer":{"kind":"text","field":"a"}}}}}}"#,
-            "schema no-id \"t\"\n",
-        ),
-        (
-            r#"{"memdb":1,"tables":{"t":{"indexes":{"id":{"indexer":{"kind":"text","field":"a"}}}}}}"#,
-            "schema id-not-unique \"t\" \"id\"\n",
-        ),
-        (
-            r#"{"memdb":1,"tables":{"t":{"indexes":{"id":{"unique":true,"indexer":{"kind":"text","field":"a"}},"x_prefix":{"indexer":{"kind":"text","field":"a"}}}}}}"#,
-            "schema bad-name \"t\" \"x_prefix\"\n",
-        ),
-        ("", "schema syntax\n"),
-        (r#"{"memdb":2,"tables":{}}"#, "schema bad-version\n"),
-        (r#"{"memdb":1,"tables":{}}"#, "schema no-tables\n"),
-        (r#"{"memdb":1,"tables":{"":1}}"#, "schema bad-name \"\"\n"),
-        (
-            r#"{"memdb":1,"tables":{"t":{"indexes":{"id":{"unique":true,"indexer":{"kind":"text","field":"a"}},"a\"b\u0001\n":1}}}}"#,
-            "schema bad-name \"t\" \"a\\\"b\\u0001\\n\"\n",
-        ),
-        (
-            r#"{"memdb":1,"tables":{"a\\b/\u00e4":1}}"#,
-            "schema bad-name \"a\\\\b/\u{e4}\"\n",
-        ),
-    ];
-    // It comes before what a script breaks.
-    for (schema, out) in cases {
-        for client in ["write\ncommit\nread\n", "commit\n", ""] {
-            let case = schema_run(schema, client, 2, out);
-            check(&rt, rt.alloc(), &case, None, None)?;
-        }
-    }
-    Ok(())
-}
-
-const FOUR_TABLES: &str = r#"{"memdb":1,"tables":{
-"keys":{"indexes":{"id":{"unique":true,"indexer":{"kind":"uuid","field":"key"}}}},
-"notes":{"indexes":{"id":{"unique":true,"indexer":{"kind":"text","field":"name"}}}},
-"rules":{"indexes":{"id":{"unique":true,"indexer":{"kind":"text","field":"name"}},
-"path":{"unique":true,"indexer":{"kind":"compound","allow_missing":true,"parts":[{"kind":"text","field":"dc"},{"kind":"text","field":"svc"}]}}}},
-"users":{"indexes":{"age":{"indexer":{"kind":"uint","field":"age","width":2}},
-"id":{"unique":true,"indexer":{"kind":"text","field":"name"}},
-"mail":{"unique":true,"allow_missing":true,"indexer":{"kind":"text","field":"mail"}},
-"tags":{"allow_missing":true,"indexer":{"kind":"text_list","field":"tags"}}}}}}"#;
-
-const TWO_TABLES: &str = r#"{"memdb":1,"tables":{
-"nodes":{"indexes":{"id":{"unique":true,"indexer":{"kind":"text","field":"node","lowercase":true}},
-"meta":{"allow_missing":true,"indexer":{"kind":"text_map","field":"meta"}},
-"uuid":{"unique":true,"allow_missing":true,"indexer":{"kind":"uuid","field":"uuid"}}}},
-"services":{"indexes":{"id":{"unique":true,"indexer":{"kind":"compound","parts":[{"kind":"text","field":"node","lowercase":true},{"kind":"text","field":"sid","lowercase":true}]}},
-"service":{"allow_missing":true,"indexer":{"kind":"text","field":"name","lowercase":true}},
-"up":{"indexer":{"kind":"conditional","field":"status","equals":"passing"}}}}}}"#;
-
-#[test]
-fn a_lawful_schema_of_another_form_is_not_built(rt: HostRuntime) -> Result<(), Fail> {
-    let schemas = [
-        FOUR_TABLES,
-        TWO_TABLES,
-        r#"{"memdb":1,"tables":{"t":{"indexes":{"id":{"unique":true,"indexer":{"kind":"uuid","field":"name"}}}}}}"#,
-        r#"{"memdb":1,"tables":{"t":{"indexes":{"id":{"unique":true,"indexer":{"kind":"text","field":"name","lowercase":true}}}}}}"#,
-        r#"{"memdb":1,"tables":{"t":{"indexes":{"id":{"unique":true,"indexer":{"kind":"text","field":"name"}},"x":{"indexer":{"kind":"text","field":"name"}}}}}}"#,
-        r#"{"memdb":1,"tables":{"t":{"indexes":{"id":{"unique":true,"indexer":{"kind":"text","field":"name"}}}},"u":{"indexes":{"id":{"unique":true,"indexer":{"kind":"text","field":"name"}}}}}}"#,
-    ];
-    for schema in schemas {
-        for client in [
-            "write\ncommit\nread\n",
-            "write\ninsert t {\"name\":\"ann\"}\ncommit\nread\n",
-        ] {
-            let case = schema_run(schema, client, 8, "not yet\n");
-            check(&rt, rt.alloc(), &case, None, None)?;
-        }
+fn a_schema_and_a_script_are_answered(rt: HostRuntime) -> Result<(), Fail> {
+    for (schema, client, status, out) in &CASES {
+        let files = two_files(rt.alloc(), schema, client)?;
+        let holds = ends(&rt, rt.alloc(), "run S c1", files, (*status, out))?;
+        assert!(rt; holds, "{out}");
     }
     Ok(())
 }
 
 #[test]
-fn defaults_may_be_written_out(rt: HostRuntime) -> Result<(), Fail> {
-    let schemas = [
-        r#"{"memdb":1,"tables":{"t":{"indexes":{"id":{"unique":true,"allow_missing":false,"indexer":{"kind":"text","field":"name"}}}}}}"#,
-        r#"{"memdb":1,"tables":{"t":{"indexes":{"id":{"indexer":{"lowercase":false,"kind":"text","field":"name"},"unique":true}}}}}"#,
-    ];
-    for schema in schemas {
-        check(
-            &rt,
-            rt.alloc(),
-            &schema_run(schema, ANN, 0, ANN_OUT),
-            None,
-            None,
-        )?;
-    }
+fn an_absent_schema_is_told(rt: HostRuntime) -> Result<(), Fail> {
+    let files = one_file(rt.alloc(), "c1", ANN)?;
+    let holds = ends(&rt, rt.alloc(), "run S c1", files, (5, "cannot read S\n"))?;
+    assert!(rt; holds);
     Ok(())
 }
 
-const ANN: &str =
-    "write\ninsert t {\"name\":\"ann\",\"age\":3}\ncommit\nread\nfirst t id [\"ann\"]\nfirst t id [\"bob\"]\n";
-
-const ANN_OUT: &str =
-    "client 1 c1\n1: write @0\n2: inserted\n3: commit @1\n4: read @1\n5: row {\"age\":3,\"name\":\"ann\"}\n6: none\n";
-
-/// The run of one row, with the status and the text that are wanted of it.
-fn ann(status: u8, out: &'static str) -> Case {
-    Case {
-        words: "run S c1",
-        schema: Some(SCHEMA),
-        client: Some(ANN),
-        status,
-        out,
-    }
+#[test]
+fn an_absent_client_is_told(rt: HostRuntime) -> Result<(), Fail> {
+    let files = one_file(rt.alloc(), "S", "{}")?;
+    let holds = ends(&rt, rt.alloc(), "run S c1", files, (5, "cannot read c1\n"))?;
+    assert!(rt; holds);
+    Ok(())
 }
 
-// Each file takes two calls: its bytes, and its end.
+/// The run of one row, where a call of the files and one of the sink may fail.
+fn run_ann<R: Threads + Wait + Sync>(
+    rt: &R,
+    alloc: Global,
+    calls: (u64, u64),
+) -> Result<(u8, MemSink), AllocError> {
+    run_over(rt, alloc, "run S c1", two_files(alloc, SCHEMA, ANN)?, calls)
+}
+
+/// Whether the run whose call of the files fails ends with a status and a text.
+fn is_told<R: Threads + Wait + Sync>(
+    rt: &R,
+    alloc: Global,
+    call: u64,
+    status: u8,
+    text: &str,
+) -> Result<bool, AllocError> {
+    let (found, out) = run_ann(rt, alloc, (call, 0))?;
+    Ok(found == status && out.bytes() == text.as_bytes())
+}
+
+/// Each file takes two calls: its bytes, and its end.
+const FILE_CALLS: [(u64, u8, &str); 5] = [
+    (1, 5, "cannot read S\n"),
+    (2, 5, "cannot read S\n"),
+    (3, 5, "cannot read c1\n"),
+    (4, 5, "cannot read c1\n"),
+    (5, 0, ANN_OUT),
+];
+
 #[test]
 fn a_call_of_the_files_that_fails_is_told(rt: HostRuntime) -> Result<(), Fail> {
-    let wanted = [
-        (1, "cannot read S\n"),
-        (2, "cannot read S\n"),
-        (3, "cannot read c1\n"),
-        (4, "cannot read c1\n"),
-    ];
-    for (call, out) in wanted {
-        check(&rt, rt.alloc(), &ann(5, out), Some(call), None)?;
+    for (call, status, out) in &FILE_CALLS {
+        let holds = is_told(&rt, rt.alloc(), *call, *status, out)?;
+        assert!(rt; holds, "call {call}");
     }
-    check(&rt, rt.alloc(), &ann(0, ANN_OUT), Some(5), None)
+    Ok(())
+}
+
+/// Whether a run whose call of the sink fails after so many has written their pieces alone.
+fn is_cut<R: Threads + Wait + Sync>(rt: &R, alloc: Global, taken: u8) -> Result<bool, AllocError> {
+    let (status, out) = run_ann(rt, alloc, (0, u64::from(taken) + 1))?;
+    let held = usize::from(taken) * 7;
+    Ok(status == 6 && Some(out.bytes()) == ANN_OUT.as_bytes().get(..held))
+}
+
+// The text of 98 bytes takes 14 calls.
+#[test]
+fn a_call_of_the_sink_that_fails_leaves_the_front(rt: HostRuntime) -> Result<(), Fail> {
+    for taken in 0..14 {
+        let holds = is_cut(&rt, rt.alloc(), taken)?;
+        assert!(rt; holds, "after {taken} calls");
+    }
+    Ok(())
+}
+
+/// Whether the run over a file of so many bytes, beside a schema, ends with a status and a text.
+fn is_long<R: Threads + Wait + Sync>(
+    rt: &R,
+    alloc: Global,
+    name: &str,
+    bytes: usize,
+    want: (u8, &str),
+) -> Result<bool, AllocError> {
+    let text = "#".repeat(alloc, bytes)?;
+    let mut files = one_file(alloc, name, text.as_str())?;
+    list(alloc, &mut files, "S", SCHEMA)?;
+    ends(rt, alloc, "run S c1", files, want)
 }
 
 #[test]
-fn a_call_of_the_sink_that_fails_leaves_a_prefix(rt: HostRuntime) -> Result<(), Fail> {
-    check(&rt, rt.alloc(), &ann(6, ""), None, Some(1))?;
-    check(&rt, rt.alloc(), &ann(6, "client "), None, Some(2))?;
-    check(&rt, rt.alloc(), &ann(6, "client 1 c1\n1:"), None, Some(3))?;
-    check(&rt, rt.alloc(), &ann(0, ANN_OUT), None, Some(15))
-}
-
-/// A schema, and a client's file of this many bytes, which is no script.
-fn long_client(alloc: Global, schema: &str, bytes: usize) -> Result<MemFiles, AllocError> {
-    let mut files = FileList::new(alloc);
-    files.push((
-        Text::of(alloc, "S")?,
-        Vec::from_slice(alloc, schema.as_bytes())?,
-    ))?;
-    files.push((Text::of(alloc, "c1")?, vec![in alloc; b'#'; bytes]?))?;
-    Ok(MemFiles::of(files, CallList::new(alloc)))
+fn a_client_past_the_limit_is_told(rt: HostRuntime) -> Result<(), Fail> {
+    let at = is_long(&rt, rt.alloc(), "c1", 1_048_576, (8, "not yet\n"))?;
+    assert!(rt; at);
+    let past = is_long(&rt, rt.alloc(), "c1", 1_048_577, (7, "too large c1\n"))?;
+    assert!(rt; past);
+    Ok(())
 }
 
 #[test]
-fn a_file_past_the_limit_is_told(rt: HostRuntime) -> Result<(), Fail> {
-    let alloc = rt.alloc();
-    // The files come first, then the schema, and the script last.
-    for (schema, bytes, status, text) in [
-        (SCHEMA, 1_048_576, 8, "not yet\n"),
-        (SCHEMA, 1_048_577, 7, "too large c1\n"),
-        ("{", 1_048_576, 2, "schema syntax\n"),
-        ("{", 1_048_577, 7, "too large c1\n"),
-    ] {
-        let mut files = long_client(alloc, schema, bytes)?;
-        let mut out = MemSink::of(alloc, 64, 64, CallList::new(alloc))?;
-        let words = words_of(alloc, "run S c1")?;
-        assert_eq!(rt;
-            run::run(&rt, alloc, &words, &mut files, &mut out, &OpenGate),
-            status
-        );
-        assert_eq!(rt; out.bytes(), text.as_bytes());
-    }
+fn a_schema_past_the_limit_is_told(rt: HostRuntime) -> Result<(), Fail> {
+    let past = is_long(&rt, rt.alloc(), "S", 1_048_577, (7, "too large S\n"))?;
+    assert!(rt; past);
+    Ok(())
+}
+
+// With an allocation that is refused the status is 4 and nothing is written, and else it is 0.
+#[test]
+fn a_run_that_wants_memory_writes_nothing(rt: HostRuntime) -> Result<(), Fail> {
+    let (status, out) = run_ann(&rt, rt.alloc(), (0, 0))?;
+    let held = out.bytes();
+    let holds = status == 4 && held.is_empty() || status == 0 && held == ANN_OUT.as_bytes();
+    assert!(rt; holds);
     Ok(())
 }

@@ -1,8 +1,9 @@
-pub mod Compared
-pub mod Counts
-pub mod Filters
-pub mod OnPath
-pub mod Places
-pub mod Rows
-pub mod Sizes
-pub mod Steps
+pub mod EdgeSlices
+pub mod EndSteps
+pub mod KeyFilters
+pub mod KeySteps
+pub mod NodeCount
+pub mod RowsGathered
+pub mod ShapeCounts
+pub mod SliceCompare
+pub mod WalkSteps

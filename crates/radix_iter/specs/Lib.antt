@@ -1,4 +1,1 @@
-pub mod Beside
-pub mod Counted
-pub mod Walk
-pub mod Walks
+pub mod inner

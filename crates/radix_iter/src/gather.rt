@@ -1,20 +1,20 @@
 //! Rows of a part of a tree, added to a list in the order of their keys or against it.
-ghost use Rattle.std.specs.Prelude.{◌≡◌, ◌++◌, ◌-◌, ◌≤◌, IfOk, length, take, drop, reverse, option_map};
-ghost use Rattle.radix_node.specs.Edge.{EdgesRise};
-ghost use Rattle.radix_node.specs.Node.{nodes_in, edges_of, plain_node, node_of, below_prefix, edge_of};
-ghost use Rattle.radix_node.specs.Nodes.{pairs_of_leaf, pairs_of_nodes, pairs_of_plain};
-ghost use Rattle.radix_iter.specs.Beside.{higher, lower};
-ghost use Rattle.radix_iter.specs.Walk.{rows_in};
-ghost use Rattle.radix_iter.specs.Walks.{rows_of};
+ghost use Rattle.std.specs.Prelude.{◌≡◌, ◌++◌, [], IfOk, if◌then◌else◌, map, reverse};
+ghost use Rattle.std.specs.Ordering.{is_gt, is_lt};
+ghost use Rattle.mdb_datum.specs.Bytes.{byte_order};
+ghost use Rattle.mdb_datum.specs.Pairs.{rows_of};
+ghost use Rattle.radix_node.specs.Node.{below_prefix, edge_node, nodes_in, plain_node};
+ghost use Rattle.radix_node.specs.Nodes.{pairs_of, pairs_of_leaf, pairs_of_nodes};
 
+use crate::edges::edges_under;
 use mdb_datum::Row;
-use radix_node::{Edges, Node, NodeRef};
+use radix_node::{Edge, Node};
 use std::alloc::AllocError;
 
-// Adds the row of a node's own leaf, if it has one.
+/// Adds the row of a node's own leaf, if it has one.
 pub fn push_own(rows: &mut Vec<Row>, node: &Node) -> Result<(), AllocError>
-    ensures { let n = plain_node node.now in IfOk result
-        (λ _. rows_in rows.new.items ≡ rows_in rows.old.items ++ rows_of (pairs_of_leaf n.leaf)) }
+    ensures { let n = plain_node node.now in
+        IfOk result (λ _. rows.new.items ≡ rows.old.items ++ rows_of (pairs_of_leaf n.leaf)) }
 {
     if let Some(leaf) = node.leaf() {
         rows.push(leaf.row().share()?)?;
@@ -22,107 +22,68 @@ pub fn push_own(rows: &mut Vec<Row>, node: &Node) -> Result<(), AllocError>
     Ok(())
 }
 
-// Adds the rows under the first `count` edges, in order.
-#[cycle(rising)]
-fn push_rising(rows: &mut Vec<Row>, edges: &Edges, count: usize) -> Result<(), AllocError>
-    requires { count ≤ length (edges_of edges.now) }
-    ensures { IfOk result (λ _. rows_in rows.new.items
-        ≡ rows_in rows.old.items ++ rows_of (pairs_of_nodes (nodes_in (take count (edges_of edges.now))))) }
+/// Adds the rows of the nodes that edges lead to and of those under them, in order.
+pub fn push_rising(rows: &mut Vec<Row>, edges: &[Edge]) -> Result<(), AllocError>
+    ensures { IfOk result (λ _. rows.new.items
+        ≡ rows.old.items ++ rows_of (pairs_of_nodes (nodes_in (map edge_node edges.now)))) }
 {
-    for at in 0..count {
-        if let Some(edge) = edges.get(at) {
-            push_all_rising(rows, edge.node())?;
-        }
+    for edge in edges {
+        let node = edge.node();
+        push_own(rows, node)?;
+        push_rising(rows, edges_under(node))?;
     }
     Ok(())
 }
 
-// Adds the rows of a node and of those under it, in order.
-#[cycle(rising)]
+/// Adds the rows of a node and of those under it, in order.
 pub fn push_all_rising(rows: &mut Vec<Row>, node: &Node) -> Result<(), AllocError>
-    ensures { IfOk result (λ _. rows_in rows.new.items
-        ≡ rows_in rows.old.items ++ rows_of (pairs_of_plain (below_prefix node.now))) }
+    ensures { IfOk result
+        (λ _. rows.new.items ≡ rows.old.items ++ rows_of (pairs_of (below_prefix node.now))) }
 {
     push_own(rows, node)?;
-    let edges = node.edges();
-    Ok(push_rising(rows, edges, edges.len())?)
+    push_rising(rows, edges_under(node))
 }
 
-// Adds the rows under the last `count` edges, the last first.
-#[cycle(falling)]
-fn push_falling(rows: &mut Vec<Row>, edges: &Edges, count: usize) -> Result<(), AllocError>
-    requires { count ≤ length (edges_of edges.now) }
-    ensures { IfOk result (λ _. let start = length (edges_of edges.now) - count in rows_in rows.new.items
-        ≡ rows_in rows.old.items
-        ++ reverse (rows_of (pairs_of_nodes (nodes_in (drop start (edges_of edges.now)))))) }
+/// Adds the rows of the nodes that edges lead to and of those under them, the last first.
+pub fn push_falling(rows: &mut Vec<Row>, edges: &[Edge]) -> Result<(), AllocError>
+    ensures { IfOk result (λ _. rows.new.items
+        ≡ rows.old.items ++ reverse (rows_of (pairs_of_nodes (nodes_in (map edge_node edges.now))))) }
 {
-    for at in (edges.len() - count..edges.len()).rev() {
-        if let Some(edge) = edges.get(at) {
-            push_all_falling(rows, edge.node())?;
-        }
+    for edge in edges.iter().rev() {
+        let node = edge.node();
+        push_falling(rows, edges_under(node))?;
+        push_own(rows, node)?;
     }
     Ok(())
 }
 
-// Adds the rows of a node and of those under it, the last first.
-#[cycle(falling)]
+/// Adds the rows of a node and of those under it, the last first.
 pub fn push_all_falling(rows: &mut Vec<Row>, node: &Node) -> Result<(), AllocError>
-    ensures { IfOk result (λ _. rows_in rows.new.items
-        ≡ rows_in rows.old.items ++ reverse (rows_of (pairs_of_plain (below_prefix node.now)))) }
+    ensures { IfOk result (λ _. rows.new.items
+        ≡ rows.old.items ++ reverse (rows_of (pairs_of (below_prefix node.now)))) }
 {
-    let edges = node.edges();
-    push_falling(rows, edges, edges.len())?;
-    Ok(push_own(rows, node)?)
+    push_falling(rows, edges_under(node))?;
+    push_own(rows, node)
 }
 
-// Adds the rows under the edges of higher first bytes, the last first, and gives the edge of the
-// byte itself.
-pub fn push_higher<'a>(
-    rows: &mut Vec<Row>,
-    edges: &'a Edges,
-    first: u8,
-) -> Result<Option<&'a NodeRef>, AllocError>
-    requires rising { EdgesRise (nodes_in (edges_of edges.now)) }
-    ensures edge { IfOk result
-        (λ r. option_map (λ e. node_of e.now) r ≡ edge_of first (nodes_in (edges_of edges.now))) }
-    ensures rows { IfOk result (λ _. rows_in rows.new.items
-        ≡ rows_in rows.old.items
-        ++ reverse (rows_of (pairs_of_nodes (higher first (nodes_in (edges_of edges.now)))))) }
+/// Adds the rows of a node and of those under it, in order, if its prefix is below `rest`.
+pub fn push_if_lower(rows: &mut Vec<Row>, node: &Node, rest: &[u8]) -> Result<(), AllocError>
+    ensures { let n = plain_node node.now in IfOk result (λ _. rows.new.items ≡ rows.old.items ++ rows_of
+        (if is_gt (byte_order rest.now n.prefix) then pairs_of (below_prefix node.now) else [])) }
 {
-    match edges.place(first) {
-        Ok(at) => {
-            push_falling(rows, edges, edges.len() - at - 1)?;
-            Ok(edges.get(at))
-        }
-        Err(at) => {
-            push_falling(rows, edges, edges.len() - at)?;
-            Ok(None)
-        }
+    if node.prefix() < rest {
+        push_all_rising(rows, node)?;
     }
+    Ok(())
 }
 
-// Adds the rows under the edges of lower first bytes, in order, and gives the edge of the byte
-// itself.
-pub fn push_lower<'a>(
-    rows: &mut Vec<Row>,
-    edges: &'a Edges,
-    first: u8,
-) -> Result<Option<&'a NodeRef>, AllocError>
-    requires rising { EdgesRise (nodes_in (edges_of edges.now)) }
-    ensures edge { IfOk result
-        (λ r. option_map (λ e. node_of e.now) r ≡ edge_of first (nodes_in (edges_of edges.now))) }
-    ensures rows { IfOk result (λ _. rows_in rows.new.items
-        ≡ rows_in rows.old.items
-        ++ rows_of (pairs_of_nodes (lower first (nodes_in (edges_of edges.now))))) }
+/// Adds the rows of a node and of those under it, the last first, if its prefix is above `rest`.
+pub fn push_if_higher(rows: &mut Vec<Row>, node: &Node, rest: &[u8]) -> Result<(), AllocError>
+    ensures { let n = plain_node node.now in IfOk result (λ _. rows.new.items ≡ rows.old.items ++ reverse
+        (rows_of (if is_lt (byte_order rest.now n.prefix) then pairs_of (below_prefix node.now) else []))) }
 {
-    match edges.place(first) {
-        Ok(at) => {
-            push_rising(rows, edges, at)?;
-            Ok(edges.get(at))
-        }
-        Err(at) => {
-            push_rising(rows, edges, at)?;
-            Ok(None)
-        }
+    if rest < node.prefix() {
+        push_all_falling(rows, node)?;
     }
+    Ok(())
 }

@@ -1,37 +1,43 @@
-ghost use Rattle.std.specs.Prelude.{◌≡◌, IfOk};
-ghost use Rattle.radix_node.specs.Tree.{pairs_of};
-ghost use Rattle.radix_iter.specs.Walk.{rows_left};
-ghost use Rattle.radix_iter.specs.Walks.{at_least, rows_of};
+ghost use Rattle.std.specs.Prelude.{◌≡◌, ◌++◌, IfOk, reverse};
+ghost use Rattle.mdb_datum.specs.Pairs.{at_least, rows_of};
+ghost use Rattle.radix_node.specs.Nodes.{pairs_of};
 
-use crate::gather::{push_all_falling, push_higher};
+use crate::edges::edges_above;
+use crate::gather::{push_all_falling, push_falling, push_if_higher};
 use crate::walk::Walk;
+use mdb_datum::Row;
 use radix_node::Tree;
 use std::alloc::{AllocError, Global};
 
 /// A walk over the rows of keys that are at least `key`, in the order of the keys. It takes memory
 /// for the list of the rows, and is refused only for want of it, or of room to count one more owner
 /// of a row. It takes time in the length of the key and in the nodes that hold the rows.
-#[tactic(auto, unfolding(crate::specs::Walk::rows_left))]
 pub fn from_key(alloc: Global, tree: &Tree, key: &[u8]) -> Result<Walk, AllocError>
-    ensures { IfOk result (λ w. rows_left w ≡ rows_of (at_least key.now (pairs_of tree.now))) }
+    ensures { IfOk result (λ w. w ≡ rows_of (at_least key.now (pairs_of tree.now))) }
 {
     let mut rows = Vec::new(alloc);
-    let mut node = tree.root().node();
+    push_at_least(&mut rows, tree, key)?;
+    Ok(Walk { rows })
+}
+
+// Adds the rows of keys that are at least `key`, the last first: on the way down along the key those
+// beside it, which are higher, and at its end those under it.
+fn push_at_least(rows: &mut Vec<Row>, tree: &Tree, key: &[u8]) -> Result<(), AllocError>
+    ensures { IfOk result (λ _. rows.new.items
+        ≡ rows.old.items ++ reverse (rows_of (at_least key.now (pairs_of tree.now)))) }
+{
+    let mut node = tree.root();
     let mut rest = key;
-    while let Some(first) = rest.first() {
-        let Some(edge) = push_higher(&mut rows, node.edges(), *first)? else {
-            return Ok(Walk { rows });
+    while let Some((first, after)) = rest.split_first() {
+        push_falling(rows, edges_above(node, *first))?;
+        let Some(child) = node.child(*first) else {
+            return Ok(());
         };
-        let below = edge.node();
-        let Some(left) = below.left(rest) else {
-            if rest < below.prefix() {
-                push_all_falling(&mut rows, below)?;
-            }
-            return Ok(Walk { rows });
+        let Some(left) = child.strip_prefix(after) else {
+            return push_if_higher(rows, child, after);
         };
-        node = below;
+        node = child;
         rest = left;
     }
-    push_all_falling(&mut rows, node)?;
-    Ok(Walk { rows })
+    push_all_falling(rows, node)
 }

@@ -1,80 +1,111 @@
 // What a walk must give is worked out by hand, or is the sorted list of the keys, filtered.
 mod built;
+mod drawn;
 
-use crate::{Walk, ascend, descend, down_from, from_key};
-use built::{Entry, tree_of};
-use mdb_datum::{Datum, Row, read_doc};
+use crate::{Walk, ascend, descend, down_from, first, from_key, last};
+use built::{Entry, chain, entries_of, tree_of, tree_of_keys};
+use drawn::{drawn_entries, drawn_key};
+use mdb_datum::{Datum, Row};
 use radix_node::Tree;
-use std::alloc::Global;
-use std::process::Abort;
+use std::alloc::{AllocError, Global};
 use std::test::Fail;
+use std::thread;
 
-// A row that tells its number.
-fn row(alloc: Global, number: usize) -> Result<Row, Fail> {
-    let text = format!(in alloc; "{{\"n\":{number}}}")?;
-    match read_doc(alloc, text.as_bytes())? {
-        Datum::Members(members) => Ok(Row::of(alloc, members)?),
-        _ => Err(Fail::from("no object")),
+/// The four walks.
+#[derive(Clone, Copy)]
+enum Kind {
+    Ascend,
+    Descend,
+    FromKey,
+    DownFrom,
+}
+
+const KINDS: [Kind; 4] = [Kind::Ascend, Kind::Descend, Kind::FromKey, Kind::DownFrom];
+
+fn walk(alloc: Global, tree: &Tree, kind: Kind, key: &[u8]) -> Result<Walk, AllocError> {
+    match kind {
+        Kind::Ascend => ascend(alloc, tree, key),
+        Kind::Descend => descend(alloc, tree, key),
+        Kind::FromKey => from_key(alloc, tree, key),
+        Kind::DownFrom => down_from(alloc, tree, key),
     }
 }
 
-// The keys, each with a row that tells its place among them.
-fn entries_of(alloc: Global, keys: &[&[u8]]) -> Result<Vec<Entry>, Fail> {
-    let mut entries = Vec::new(alloc);
-    for (place, key) in keys.iter().enumerate() {
-        entries.push(Entry {
-            key: Vec::from_slice(alloc, key)?,
-            row: row(alloc, place)?,
-        })?;
+/// The number that a row tells.
+fn number_of(row: Option<&Row>) -> Option<i128> {
+    match row?.get("n") {
+        Some(Datum::Whole(number)) => Some(*number),
+        _ => None,
     }
-    Ok(entries)
 }
 
-// The walk gives the rows of these places, and then the end twice.
-fn assert_gives(rt: &impl Abort, alloc: Global, walk: Walk, places: &[usize]) -> Result<(), Fail> {
-    let mut walk = walk;
-    for place in places {
-        let row = walk.next()?.ok_or("too few rows")?;
-        let text = row.doc()?;
-        let want = format!(in alloc; "{{\"n\":{place}}}")?;
-        assert_eq!(rt; text.as_slice(), want.as_bytes());
-    }
-    assert!(rt; walk.next()?.is_none());
-    assert!(rt; walk.next()?.is_none());
-    Ok(())
+/// The number of the next row, and `None` at the end.
+fn next_number(walk: &mut Walk) -> Result<Option<i128>, AllocError> {
+    let row = walk.next()?;
+    Ok(number_of(row.as_ref()))
 }
 
-// The tree finds the row of this place for the longest prefix of the key, or none.
-fn assert_longest(
-    rt: &impl Abort,
+/// Whether a walk gives the rows of these numbers, and then the end twice.
+fn gives(walk: &mut Walk, numbers: &[i128]) -> Result<bool, AllocError> {
+    for number in numbers {
+        if next_number(walk)? != Some(*number) {
+            return Ok(false);
+        }
+    }
+    Ok(next_number(walk)?.is_none() && next_number(walk)?.is_none())
+}
+
+fn walk_gives(
     alloc: Global,
     tree: &Tree,
+    kind: Kind,
     key: &[u8],
-    place: Option<usize>,
-) -> Result<(), Fail> {
-    match (tree.longest(key), place) {
-        (None, None) => {}
-        (Some(row), Some(place)) => {
-            let text = row.doc()?;
-            let want = format!(in alloc; "{{\"n\":{place}}}")?;
-            assert_eq!(rt; text.as_slice(), want.as_bytes());
+    numbers: &[i128],
+) -> Result<bool, AllocError> {
+    let mut walk = walk(alloc, tree, kind, key)?;
+    Ok(gives(&mut walk, numbers)?)
+}
+
+/// A walk, and the numbers of the rows that it must give.
+type Case = (Kind, &'static [u8], &'static [i128]);
+
+/// The place of the first case that is not so.
+fn first_wrong(alloc: Global, tree: &Tree, cases: &[Case]) -> Result<Option<usize>, AllocError> {
+    for (at, (kind, key, numbers)) in cases.iter().enumerate() {
+        if !walk_gives(alloc, tree, *kind, key, numbers)? {
+            return Ok(Some(at));
         }
-        (found, _) => assert!(rt; false, "{key:?}: found {}", found.is_some()),
     }
-    Ok(())
+    Ok(None)
+}
+
+/// The place of the first case that is not so, in the tree of these keys.
+fn first_wrong_of(alloc: Global, keys: &[&[u8]], cases: &[Case]) -> Result<Option<usize>, Fail> {
+    let tree = tree_of_keys(alloc, keys)?;
+    Ok(first_wrong(alloc, &tree, cases)?)
+}
+
+const NOTHING: [Case; 8] = [
+    (Kind::Ascend, b"", &[]),
+    (Kind::Descend, b"", &[]),
+    (Kind::FromKey, b"", &[]),
+    (Kind::DownFrom, b"", &[]),
+    (Kind::Ascend, b"a", &[]),
+    (Kind::Descend, b"a", &[]),
+    (Kind::FromKey, b"a", &[]),
+    (Kind::DownFrom, b"a", &[]),
+];
+
+fn has_no_ends(alloc: Global) -> Result<bool, AllocError> {
+    let tree = Tree::empty(alloc)?;
+    Ok(first(&tree, b"").is_none() && last(&tree, b"").is_none())
 }
 
 #[test]
 fn an_empty_tree_gives_the_end_at_once(rt: HostRuntime) -> Result<(), Fail> {
-    let alloc = rt.alloc();
-    let tree = Tree::empty(alloc)?;
-    for key in [b"".as_slice(), b"a"] {
-        assert_gives(&rt, alloc, ascend(alloc, &tree, key)?, &[])?;
-        assert_gives(&rt, alloc, descend(alloc, &tree, key)?, &[])?;
-        assert_gives(&rt, alloc, from_key(alloc, &tree, key)?, &[])?;
-        assert_gives(&rt, alloc, down_from(alloc, &tree, key)?, &[])?;
-        assert_longest(&rt, alloc, &tree, key, None)?;
-    }
+    let wrong = first_wrong_of(rt.alloc(), &[], &NOTHING)?;
+    assert!(rt; wrong.is_none(), "{wrong:?}");
+    assert!(rt; has_no_ends(rt.alloc())?);
     Ok(())
 }
 
@@ -90,224 +121,259 @@ const STORED: [&[u8]; 8] = [
     b"east\x00web\x00",
 ];
 
-#[test]
-fn rows_come_in_the_order_of_their_keys(rt: HostRuntime) -> Result<(), Fail> {
-    let alloc = rt.alloc();
-    let tree = tree_of(alloc, &entries_of(alloc, &STORED)?)?;
-    assert_gives(
-        &rt,
-        alloc,
-        ascend(alloc, &tree, b"")?,
-        &[0, 1, 2, 3, 4, 5, 6, 7],
-    )?;
-    assert_gives(
-        &rt,
-        alloc,
-        descend(alloc, &tree, b"")?,
-        &[7, 6, 5, 4, 3, 2, 1, 0],
-    )?;
-    assert_gives(
-        &rt,
-        alloc,
-        from_key(alloc, &tree, b"bob\x00")?,
-        &[4, 5, 6, 7],
-    )?;
-    assert_gives(
-        &rt,
-        alloc,
-        down_from(alloc, &tree, b"bob\x00")?,
-        &[4, 3, 2, 1, 0],
-    )
-}
-
-#[test]
-fn an_end_byte_tells_a_whole_text_from_a_prefix(rt: HostRuntime) -> Result<(), Fail> {
-    let alloc = rt.alloc();
-    let tree = tree_of(alloc, &entries_of(alloc, &STORED)?)?;
-    assert_gives(&rt, alloc, ascend(alloc, &tree, b"ann\x00")?, &[2])?;
-    assert_gives(&rt, alloc, ascend(alloc, &tree, b"ann")?, &[2, 3])?;
-    assert_gives(&rt, alloc, ascend(alloc, &tree, b"an\x00")?, &[])?;
-    assert_gives(&rt, alloc, descend(alloc, &tree, b"ann\x00")?, &[2])?;
-    assert_gives(&rt, alloc, descend(alloc, &tree, b"an")?, &[3, 2])
-}
-
-#[test]
-fn a_bound_is_compared_with_whole_keys(rt: HostRuntime) -> Result<(), Fail> {
-    let alloc = rt.alloc();
-    let tree = tree_of(alloc, &entries_of(alloc, &STORED)?)?;
-    assert_gives(
-        &rt,
-        alloc,
-        from_key(alloc, &tree, b"\x00\xff")?,
-        &[0, 1, 2, 3, 4, 5, 6, 7],
-    )?;
-    assert_gives(
-        &rt,
-        alloc,
-        from_key(alloc, &tree, b"\x01\x00")?,
-        &[1, 2, 3, 4, 5, 6, 7],
-    )?;
-    assert_gives(&rt, alloc, down_from(alloc, &tree, b"\x01\x00")?, &[0])?;
-    assert_gives(&rt, alloc, down_from(alloc, &tree, b"\x01\x01")?, &[1, 0])
-}
-
-#[test]
-fn the_longest_stored_prefix_is_found(rt: HostRuntime) -> Result<(), Fail> {
-    let alloc = rt.alloc();
-    let tree = tree_of(alloc, &entries_of(alloc, &STORED)?)?;
-    assert_longest(&rt, alloc, &tree, b"east\x00db", Some(6))?;
-    assert_longest(&rt, alloc, &tree, b"east\x00web", Some(6))?;
-    assert_longest(&rt, alloc, &tree, b"west", None)?;
-    assert_longest(&rt, alloc, &tree, b"east", None)?;
-    assert_longest(&rt, alloc, &tree, b"east\x00", Some(6))?;
-    assert_longest(&rt, alloc, &tree, b"east\x00web\x00", Some(7))?;
-    assert_longest(&rt, alloc, &tree, b"east\x00web\x00x", Some(7))?;
-    assert_longest(&rt, alloc, &tree, b"", None)
-}
-
-// Each bound with how many keys are lower, and whether it is a key itself.
-const BOUNDS: [(&[u8], usize, bool); 14] = [
-    (b"", 0, true),
-    (b"\x00", 1, false),
-    (b"a", 1, true),
-    (b"a\x00", 2, true),
-    (b"a\x00\x00", 3, false),
-    (b"aa", 3, false),
-    (b"ab", 3, true),
-    (b"aba", 4, false),
-    (b"abc", 4, true),
-    (b"abcd", 5, false),
-    (b"b", 5, true),
-    (b"c", 6, false),
-    (b"\xff", 6, true),
-    (b"\xff\x00", 7, false),
+// A prefix tells a whole text by the end byte, and a bound is compared with whole keys.
+const WALKS: [Case; 13] = [
+    (Kind::Ascend, b"", &[0, 1, 2, 3, 4, 5, 6, 7]),
+    (Kind::Ascend, b"ann\x00", &[2]),
+    (Kind::Ascend, b"ann", &[2, 3]),
+    (Kind::Ascend, b"an\x00", &[]),
+    (Kind::Descend, b"", &[7, 6, 5, 4, 3, 2, 1, 0]),
+    (Kind::Descend, b"ann\x00", &[2]),
+    (Kind::Descend, b"an", &[3, 2]),
+    (Kind::FromKey, b"bob\x00", &[4, 5, 6, 7]),
+    (Kind::FromKey, b"\x00\xff", &[0, 1, 2, 3, 4, 5, 6, 7]),
+    (Kind::FromKey, b"\x01\x00", &[1, 2, 3, 4, 5, 6, 7]),
+    (Kind::DownFrom, b"bob\x00", &[4, 3, 2, 1, 0]),
+    (Kind::DownFrom, b"\x01\x00", &[0]),
+    (Kind::DownFrom, b"\x01\x01", &[1, 0]),
 ];
 
 #[test]
-fn bounds_hold_between_keys_and_at_prefixes_of_them(rt: HostRuntime) -> Result<(), Fail> {
-    let alloc = rt.alloc();
-    let keys: [&[u8]; 7] = [b"", b"a", b"a\x00", b"ab", b"abc", b"b", b"\xff"];
-    let tree = tree_of(alloc, &entries_of(alloc, &keys)?)?;
-    for (bound, lower, stored) in BOUNDS {
-        let mut from = Vec::new(alloc);
-        let mut down = Vec::new(alloc);
-        for place in 0..7 {
-            if place >= lower {
-                from.push(place)?;
-            }
-            if place < lower || stored && place == lower {
-                down.push(place)?;
-            }
-        }
-        down.reverse();
-        assert_gives(&rt, alloc, from_key(alloc, &tree, bound)?, &from)?;
-        assert_gives(&rt, alloc, down_from(alloc, &tree, bound)?, &down)?;
-    }
+fn rows_come_in_the_order_of_their_keys(rt: HostRuntime) -> Result<(), Fail> {
+    let wrong = first_wrong_of(rt.alloc(), &STORED, &WALKS)?;
+    assert!(rt; wrong.is_none(), "{wrong:?}");
     Ok(())
 }
 
 // The two keys part after `fooba`, the bytes of one edge.
+const PARTED: [&[u8]; 2] = [b"foobar", b"foobaz"];
+
+const WITHIN: [Case; 12] = [
+    (Kind::Ascend, b"f", &[0, 1]),
+    (Kind::Ascend, b"foob", &[0, 1]),
+    (Kind::Ascend, b"fooba", &[0, 1]),
+    (Kind::Ascend, b"foobaz", &[1]),
+    (Kind::Ascend, b"fox", &[]),
+    (Kind::Ascend, b"foobas", &[]),
+    (Kind::Ascend, b"foobarx", &[]),
+    (Kind::Ascend, b"goo", &[]),
+    (Kind::Descend, b"f", &[1, 0]),
+    (Kind::Descend, b"fooba", &[1, 0]),
+    (Kind::Descend, b"foobas", &[]),
+    (Kind::Descend, b"fox", &[]),
+];
+
 #[test]
 fn a_prefix_may_end_within_an_edge(rt: HostRuntime) -> Result<(), Fail> {
-    let alloc = rt.alloc();
-    let keys: [&[u8]; 2] = [b"foobar", b"foobaz"];
-    let tree = tree_of(alloc, &entries_of(alloc, &keys)?)?;
-    for prefix in [b"".as_slice(), b"f", b"foob", b"fooba"] {
-        assert_gives(&rt, alloc, ascend(alloc, &tree, prefix)?, &[0, 1])?;
-        assert_gives(&rt, alloc, descend(alloc, &tree, prefix)?, &[1, 0])?;
+    let wrong = first_wrong_of(rt.alloc(), &PARTED, &WITHIN)?;
+    assert!(rt; wrong.is_none(), "{wrong:?}");
+    Ok(())
+}
+
+/// Whether these are the numbers of the first and of the last row under a prefix.
+fn ends_are(tree: &Tree, prefix: &[u8], low: Option<i128>, high: Option<i128>) -> bool {
+    number_of(first(tree, prefix)) == low && number_of(last(tree, prefix)) == high
+}
+
+const ENDS: [(&[u8], Option<i128>, Option<i128>); 9] = [
+    (b"", Some(0), Some(7)),
+    (b"\x00", Some(0), Some(0)),
+    (b"an", Some(2), Some(3)),
+    (b"ann\x00", Some(2), Some(2)),
+    (b"east", Some(6), Some(7)),
+    (b"east\x00", Some(6), Some(7)),
+    (b"east\x00w", Some(7), Some(7)),
+    (b"east\x00web\x00x", None, None),
+    (b"d", None, None),
+];
+
+/// The place of the first prefix whose ends are others.
+fn first_wrong_ends(alloc: Global) -> Result<Option<usize>, Fail> {
+    let tree = tree_of_keys(alloc, &STORED)?;
+    Ok(ENDS.iter().position(|(prefix, low, high)| !ends_are(&tree, prefix, *low, *high)))
+}
+
+#[test]
+fn the_first_and_the_last_row_under_a_prefix_are_lent(rt: HostRuntime) -> Result<(), Fail> {
+    let wrong = first_wrong_ends(rt.alloc())?;
+    assert!(rt; wrong.is_none(), "{wrong:?}");
+    Ok(())
+}
+
+/// Whether a key is one that a walk gives.
+fn is_asked(kind: Kind, asked: &[u8], key: &[u8]) -> bool {
+    match kind {
+        Kind::Ascend | Kind::Descend => key.starts_with(asked),
+        Kind::FromKey => key >= asked,
+        Kind::DownFrom => key <= asked,
     }
-    assert_gives(&rt, alloc, ascend(alloc, &tree, b"foobaz")?, &[1])?;
-    for prefix in [b"fox".as_slice(), b"foobas", b"foobarx", b"goo"] {
-        assert_gives(&rt, alloc, ascend(alloc, &tree, prefix)?, &[])?;
-        assert_gives(&rt, alloc, descend(alloc, &tree, prefix)?, &[])?;
+}
+
+/// The numbers of the entries that a walk must give.
+fn numbers_of(
+    alloc: Global,
+    entries: &[Entry],
+    kind: Kind,
+    asked: &[u8],
+) -> Result<Vec<i128>, AllocError> {
+    let mut numbers = Vec::new(alloc);
+    for entry in entries {
+        if is_asked(kind, asked, &entry.key) {
+            numbers.push(entry.number as i128)?;
+        }
+    }
+    if matches!(kind, Kind::Descend | Kind::DownFrom) {
+        numbers.reverse();
+    }
+    Ok(numbers)
+}
+
+/// Whether a walk gives the rows of the entries that it is to give, and for a prefix in order the
+/// first and the last of them are found.
+fn is_filter(
+    alloc: Global,
+    tree: &Tree,
+    entries: &[Entry],
+    kind: Kind,
+    asked: &[u8],
+) -> Result<bool, AllocError> {
+    let numbers = numbers_of(alloc, entries, kind, asked)?;
+    let (low, high) = (numbers.first().copied(), numbers.last().copied());
+    let ends = !matches!(kind, Kind::Ascend) || ends_are(tree, asked, low, high);
+    Ok(walk_gives(alloc, tree, kind, asked, &numbers)? && ends)
+}
+
+/// Whether all walks give what the entries give.
+fn are_filters(
+    alloc: Global,
+    tree: &Tree,
+    entries: &[Entry],
+    asked: &[u8],
+) -> Result<bool, AllocError> {
+    for kind in &KINDS {
+        if !is_filter(alloc, tree, entries, *kind, asked)? {
+            return Ok(false);
+        }
+    }
+    Ok(true)
+}
+
+const NESTED: [&[u8]; 7] = [b"", b"a", b"a\x00", b"ab", b"abc", b"b", b"\xff"];
+
+// Keys, keys between them, and prefixes of them.
+const BOUNDS: [&[u8]; 14] = [
+    b"",
+    b"\x00",
+    b"a",
+    b"a\x00",
+    b"a\x00\x00",
+    b"aa",
+    b"ab",
+    b"aba",
+    b"abc",
+    b"abcd",
+    b"b",
+    b"c",
+    b"\xff",
+    b"\xff\x00",
+];
+
+#[test]
+fn bounds_hold_between_keys_and_at_prefixes_of_them(rt: HostRuntime) -> Result<(), Fail> {
+    let entries = entries_of(rt.alloc(), &NESTED)?;
+    let tree = tree_of(rt.alloc(), &entries)?;
+    for bound in &BOUNDS {
+        assert!(rt;
+            are_filters(rt.alloc(), &tree, &entries, bound)?,
+            "{bound:?}"
+        );
     }
     Ok(())
 }
 
-// A key of up to five bytes, each one of four, drawn from a fixed sequence.
-fn drawn_key(alloc: Global, seed: &mut u32) -> Result<Vec<u8>, Fail> {
-    let mut key = Vec::new(alloc);
-    for _ in 0..5 {
-        *seed = seed.wrapping_mul(1_664_525).wrapping_add(1_013_904_223);
-        match *seed >> 29 {
-            0 | 1 => key.push(b'a')?,
-            2 => key.push(b'b')?,
-            3 | 4 => key.push(0)?,
-            5 => key.push(0xff)?,
-            _ => {}
-        }
-    }
-    Ok(key)
-}
-
-// The places of the keys that a walk must give.
-fn places_of(
+/// Whether all walks from a drawn key or prefix give what the entries give.
+fn are_filters_at_a_draw(
     alloc: Global,
+    tree: &Tree,
     entries: &[Entry],
-    kind: usize,
-    asked: &[u8],
-) -> Result<Vec<usize>, Fail> {
-    let mut places = Vec::new(alloc);
-    for (place, entry) in entries.iter().enumerate() {
-        let key = entry.key.as_slice();
-        let given = match kind {
-            0 | 1 => key.starts_with(asked),
-            2 => key >= asked,
-            _ => key <= asked,
-        };
-        if given {
-            places.push(place)?;
-        }
-    }
-    if kind % 2 == 1 {
-        places.reverse();
-    }
-    Ok(places)
+    seed: &mut u32,
+) -> Result<bool, AllocError> {
+    let asked = drawn_key(alloc, seed)?;
+    Ok(are_filters(alloc, tree, entries, &asked)?)
 }
 
-// The place of the longest key that the one asked begins with.
-fn longest_place(entries: &[Entry], asked: &[u8]) -> Option<usize> {
-    let mut best: Option<(usize, usize)> = None;
-    for (place, entry) in entries.iter().enumerate() {
-        let len = entry.key.len();
-        if asked.starts_with(&entry.key) && best.is_none_or(|(_, most)| len > most) {
-            best = Some((place, len));
+/// The first of 500 draws at which a walk gives other rows.
+fn first_wrong_draw(alloc: Global, entries: &[Entry], seed: &mut u32) -> Result<Option<u16>, Fail> {
+    if entries.len() < 80 {
+        return Err(Fail::from("few keys"));
+    }
+    let tree = tree_of(alloc, entries)?;
+    for draw in 0..500 {
+        if !are_filters_at_a_draw(alloc, &tree, entries, seed)? {
+            return Ok(Some(draw));
         }
     }
-    best.map(|(place, _)| place)
+    Ok(None)
 }
 
 #[test]
 fn two_thousand_walks_give_what_the_sorted_keys_give(rt: HostRuntime) -> Result<(), Fail> {
-    let alloc = rt.alloc();
     let mut seed = 1;
-    let mut keys = Vec::new(alloc);
-    for _ in 0..160 {
-        keys.push(drawn_key(alloc, &mut seed)?)?;
+    let entries = drawn_entries(rt.alloc(), &mut seed)?;
+    let wrong = first_wrong_draw(rt.alloc(), &entries, &mut seed)?;
+    assert!(rt; wrong.is_none(), "{wrong:?}");
+    Ok(())
+}
+
+// The longest key that the layers above make, whose prefixes are the deepest tree.
+const LONGEST: [u8; 2048] = [b'a'; 2048];
+
+fn numbers_to(alloc: Global, last: u16) -> Result<Vec<i128>, AllocError> {
+    let mut numbers = Vec::new(alloc);
+    for number in 0..=last {
+        numbers.push(i128::from(number))?;
     }
-    keys.sort()?;
-    keys.dedup();
-    let mut entries = Vec::new(alloc);
-    for (place, key) in keys.into_iter().enumerate() {
-        entries.push(Entry {
-            key,
-            row: row(alloc, place)?,
-        })?;
-    }
-    assert!(rt; entries.len() > 80);
-    let tree = tree_of(alloc, &entries)?;
-    for at in 0..2000 {
-        let asked = drawn_key(alloc, &mut seed)?;
-        let kind = at % 4;
-        let walk = match kind {
-            0 => ascend(alloc, &tree, &asked)?,
-            1 => descend(alloc, &tree, &asked)?,
-            2 => from_key(alloc, &tree, &asked)?,
-            _ => down_from(alloc, &tree, &asked)?,
-        };
-        assert_gives(&rt, alloc, walk, &places_of(alloc, &entries, kind, &asked)?)?;
-        assert_longest(&rt, alloc, &tree, &asked, longest_place(&entries, &asked))?;
-    }
+    Ok(numbers)
+}
+
+fn goes_up(alloc: Global, tree: &Tree) -> Result<bool, AllocError> {
+    let numbers = numbers_to(alloc, 2048)?;
+    Ok(
+        walk_gives(alloc, tree, Kind::Ascend, b"", &numbers)?
+            && walk_gives(alloc, tree, Kind::FromKey, b"", &numbers)?,
+    )
+}
+
+fn goes_down(alloc: Global, tree: &Tree) -> Result<bool, AllocError> {
+    let mut numbers = numbers_to(alloc, 2048)?;
+    numbers.reverse();
+    Ok(
+        walk_gives(alloc, tree, Kind::Descend, b"", &numbers)?
+            && walk_gives(alloc, tree, Kind::DownFrom, &LONGEST, &numbers)?,
+    )
+}
+
+/// Whether the four walks, the first and the last go through 2,049 nodes, each under the one before.
+fn goes_deep(alloc: Global, tree: &Tree) -> Result<bool, AllocError> {
+    Ok(goes_up(alloc, tree)? && goes_down(alloc, tree)? && ends_are(tree, b"", Some(0), Some(2048)))
+}
+
+#[test]
+fn walks_go_deep_on_the_main_stack(rt: HostRuntime) -> Result<(), Fail> {
+    let tree = chain(rt.alloc(), &LONGEST)?;
+    assert!(rt; goes_deep(rt.alloc(), &tree)?);
+    Ok(())
+}
+
+// The thread is the only owner of the tree, and lets go of its nodes.
+#[test]
+fn walks_go_deep_in_a_thread(rt: HostRuntime) -> Result<(), Fail> {
+    let alloc = rt.alloc();
+    let tree = chain(alloc, &LONGEST)?;
+    let Ok(child) = thread::spawn(&rt, move || goes_deep(alloc, &tree)) else {
+        return Err(Fail::from("no thread"));
+    };
+    assert!(rt; child.join(&rt)?);
     Ok(())
 }
 

@@ -1,38 +1,56 @@
-ghost use Rattle.std.specs.Prelude.{◌≡◌, IfOk, reverse};
-ghost use Rattle.radix_node.specs.Tree.{pairs_of};
-ghost use Rattle.radix_iter.specs.Walk.{rows_left};
-ghost use Rattle.radix_iter.specs.Walks.{at_most, rows_of};
+ghost use Rattle.std.specs.Prelude.{◌≡◌, ◌++◌, IfOk, reverse};
+ghost use Rattle.mdb_datum.specs.Pairs.{at_most, rows_of};
+ghost use Rattle.radix_node.specs.Edges.{EdgesRise};
+ghost use Rattle.radix_node.specs.Node.{plain_node};
+ghost use Rattle.radix_node.specs.Nodes.{pairs_of, pairs_of_leaf, pairs_of_nodes};
+ghost use Rattle.radix_iter.specs.inner.Beside.{lower};
 
-use crate::gather::{push_all_rising, push_lower, push_own};
+use crate::edges::edges_below;
+use crate::gather::{push_if_lower, push_own, push_rising};
 use crate::walk::Walk;
-use radix_node::Tree;
+use mdb_datum::Row;
+use radix_node::{Node, Tree};
 use std::alloc::{AllocError, Global};
 
 /// A walk over the rows of keys that are at most `key`, against the order of the keys. It takes
 /// memory and time as [`crate::from_key`] does.
-#[tactic(auto, unfolding(crate::specs::Walk::rows_left))]
 pub fn down_from(alloc: Global, tree: &Tree, key: &[u8]) -> Result<Walk, AllocError>
-    ensures { IfOk result
-        (λ w. rows_left w ≡ reverse (rows_of (at_most key.now (pairs_of tree.now)))) }
+    ensures { IfOk result (λ w. w ≡ reverse (rows_of (at_most key.now (pairs_of tree.now)))) }
 {
     let mut rows = Vec::new(alloc);
-    let mut node = tree.root().node();
+    push_at_most(&mut rows, tree, key)?;
+    Ok(Walk { rows })
+}
+
+// Adds the rows of keys that are at most `key`, in order: on the way down along the key those of
+// prefixes of it and those beside it, which are lower.
+fn push_at_most(rows: &mut Vec<Row>, tree: &Tree, key: &[u8]) -> Result<(), AllocError>
+    ensures { IfOk result (λ _. rows.new.items
+        ≡ rows.old.items ++ rows_of (at_most key.now (pairs_of tree.now))) }
+{
+    let mut node = tree.root();
     let mut rest = key;
-    push_own(&mut rows, node)?;
-    while let Some(first) = rest.first() {
-        let Some(edge) = push_lower(&mut rows, node.edges(), *first)? else {
-            return Ok(Walk { rows });
+    while let Some((first, after)) = rest.split_first() {
+        push_before(rows, node, *first)?;
+        let Some(child) = node.child(*first) else {
+            return Ok(());
         };
-        let below = edge.node();
-        let Some(left) = below.left(rest) else {
-            if below.prefix() < rest {
-                push_all_rising(&mut rows, below)?;
-            }
-            return Ok(Walk { rows });
+        let Some(left) = child.strip_prefix(after) else {
+            return push_if_lower(rows, child, after);
         };
-        push_own(&mut rows, below)?;
-        node = below;
+        node = child;
         rest = left;
     }
-    Ok(Walk { rows })
+    push_own(rows, node)
+}
+
+// Adds the rows that come before those at the edge of a label: the node's own, and those under the
+// lower edges.
+fn push_before(rows: &mut Vec<Row>, node: &Node, label: u8) -> Result<(), AllocError>
+    requires { let n = plain_node node.now in EdgesRise n.under }
+    ensures { let n = plain_node node.now in IfOk result (λ _. rows.new.items
+        ≡ rows.old.items ++ rows_of (pairs_of_leaf n.leaf ++ pairs_of_nodes (lower label n.under))) }
+{
+    push_own(rows, node)?;
+    push_rising(rows, edges_below(node, label))
 }

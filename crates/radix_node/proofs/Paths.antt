@@ -1,15 +1,15 @@
 -- The paths of the nodes of a shaped tree are those that its keys tell.
 use Rattle.std.proofs.Common.{◌≡◌, ◌≢◌, ◌<◌, ◌≤◌, ◌⊎◌, inl, inr, ◌++◌, ◌∷◌, ◌∙◌, ℕ, List, [], Option, Some, None, refl, sym, ap, subst, arith, append_assoc, Less, is_eq}
 use Rattle.std.proofs.lemmas.Bool.{false≢true}
-use Rattle.radix_node.specs.Pairs.{Pair}
+use Rattle.mdb_datum.specs.Row.{Pair}
 use Rattle.radix_node.specs.Nodes.{Nodes, no_nodes, node, pairs_of_leaf, pairs_of_nodes, common}
 use Rattle.radix_node.specs.Shape.{width, IsKeyed, IsShaped}
 use Rattle.radix_node.specs.Paths.{Has, HasKey, paths_of_nodes}
-use Rattle.radix_node.specs.Bytes.{byte_order}
-use Rattle.radix_node.proofs.Laws.{byte_order_itself}
-use Rattle.radix_node.proofs.Orders.{Each, lower_byte}
-use Rattle.radix_node.proofs.Under.{Any, Past, leaf_past, keys_past, below_past, under_past}
-use Rattle.radix_node.proofs.Commons.{common_two, common_first, common_second}
+use Rattle.mdb_datum.specs.Bytes.{byte_order}
+use Rattle.radix_node.proofs.PairLaws.{byte_order_itself}
+use Rattle.radix_node.proofs.KeyOrder.{Each, lower_byte}
+use Rattle.radix_node.proofs.KeysUnder.{Any, Past, leaf_past, keys_past, below_past, under_past}
+use Rattle.radix_node.proofs.CommonPrefix.{common_two, common_first, common_second}
 
 -- ---- membership
 

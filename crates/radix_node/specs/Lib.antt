@@ -1,12 +1,8 @@
-pub mod Bytes
-pub mod Edge
+pub mod Edges
 pub mod Longest
 pub mod Node
 pub mod Nodes
 pub mod Pairs
 pub mod Paths
-pub mod Seek
 pub mod Shape
-pub mod ShapeProp
-pub mod Tree
-pub mod Without
+pub mod inner

@@ -3,7 +3,7 @@ use Rattle.std.specs.Prelude.{ℕ, List, [], ◌∷◌, ◌++◌, Option, Some, 
 use Rattle.std.specs.declared.cmp.Ordering.{Ordering}
 use Rattle.std.specs.declared.cmp.Ordering.TheVariants.{Less, Equal, Greater}
 use Rattle.std.specs.Ordering.{nat_cmp}
-use Rattle.radix_node.specs.Pairs.{Pair}
+use Rattle.mdb_datum.specs.Row.{Pair}
 
 -- the nodes under one node, in the order of their edges: the prefix of the first, its leaf if it has one, the nodes
 -- under it, and its later siblings
@@ -26,8 +26,8 @@ pairs_of_nodes no_nodes = []
 pairs_of_nodes (node prefix leaf under later) = pairs_of_leaf leaf ++ (pairs_of_nodes under ++ pairs_of_nodes later)
 
 -- the pairs of a tree
-abbrev pub pairs_of_plain : Plain → List Pair
-pairs_of_plain t = pairs_of_leaf t.leaf ++ pairs_of_nodes t.nodes
+abbrev pub pairs_of : Plain → List Pair
+pairs_of t = pairs_of_leaf t.leaf ++ pairs_of_nodes t.nodes
 
 -- two byte strings as what they begin with together, what the first has after it, and what the second has
 abbrev pub part : List ℕ → List ℕ → List ℕ × List ℕ × List ℕ

@@ -1,6 +1,6 @@
 -- The paths of a tree's nodes, told by its keys alone.
 use Rattle.std.specs.Prelude.{◌≡◌, ◌≢◌, ℕ, List, [], ◌∷◌, ◌++◌, ◌⊎◌}
-use Rattle.radix_node.specs.Pairs.{Pair}
+use Rattle.mdb_datum.specs.Row.{Pair}
 use Rattle.radix_node.specs.Nodes.{Nodes, no_nodes, node, Plain, common}
 
 -- a path is in a list of paths
@@ -23,7 +23,8 @@ pub data IsPath (pairs : List Pair) (path : List ℕ) : Type 0 where
 -- the paths of the nodes under a path: the joined prefixes
 abbrev pub paths_of_nodes : List ℕ → Nodes → List (List ℕ)
 paths_of_nodes path no_nodes = []
-paths_of_nodes path (node prefix leaf under later) = (path ++ prefix) ∷ (paths_of_nodes (path ++ prefix) under ++ paths_of_nodes path later)
+paths_of_nodes path (node prefix leaf under later) =
+    (path ++ prefix) ∷ (paths_of_nodes (path ++ prefix) under ++ paths_of_nodes path later)
 
 -- the paths of a tree's nodes
 abbrev pub paths_of_plain : Plain → List (List ℕ)

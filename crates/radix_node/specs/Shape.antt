@@ -1,6 +1,6 @@
 -- The shape of a radix tree, in which a list of pairs has one tree.
 use Rattle.std.specs.Prelude.{◌≡◌, ℕ, suc, ◌<◌, ◌≤◌, List, [], ◌∷◌, ◌++◌, Option, Some, None}
-use Rattle.radix_node.specs.Pairs.{Pair}
+use Rattle.mdb_datum.specs.Row.{Pair}
 use Rattle.radix_node.specs.Nodes.{Nodes, no_nodes, node, Plain}
 
 -- how many edges lead to the nodes

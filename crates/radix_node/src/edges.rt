@@ -1,100 +1,122 @@
-ghost use Rattle.std.specs.Prelude.{◌≡◌, ◌≢◌, ◌++◌, ◌∷◌, ◌+◌, ◌≤◌, ◌<◌, [], IfOk, OnOk, OnErr, length, take, drop, map, option_map, slice_index};
+ghost use Rattle.std.specs.Prelude.{◌≡◌, ◌++◌, ◌∷◌, ◌+◌, ◌≤◌, ◌<◌, [], IfOk, IfErr, OnOk, OnErr, Some, Ok, Err, length, take, drop, map, option_map};
+ghost use Rattle.std.specs.Slice.Iter.{iter_rest};
 ghost use Rattle.std.specs.List.{slice_get};
-ghost use Rattle.radix_node.specs.Edge.{EdgesRise, place_of, edge_put};
-ghost use Rattle.radix_node.specs.Node.{nodes_in, edges_of, node_of, edge_of};
+ghost use Rattle.radix_node.specs.Edges.{EdgesRise, place_of, edge_put};
+ghost use Rattle.radix_node.specs.Node.{nodes_in, edges_of, edge_node, edge_of, plain_edge};
 
-use crate::node_ref::NodeRef;
+use crate::edge::Edge;
 use std::alloc::{AllocError, Global};
 use std::mem;
+use std::slice::Iter;
 
-/// The edges of a node, as the nodes that they lead to, rising by the first bytes of their
-/// prefixes.
+/// The edges of a node, in one array, whose labels rise.
 #[cycle(node)]
 #[derive(Drop)]
 pub struct Edges {
-    pub(crate) nodes: Vec<NodeRef>,
+    pub(crate) edges: Vec<Edge>,
 }
 
-#[tactic(auto, using(crate::proofs::Level::edges_out, crate::proofs::Level::edges_roll))]
+#[tactic(auto, using(crate::proofs::Levels::edges_out, crate::proofs::Levels::edges_roll))]
 impl Edges {
     /// No edges. It takes no memory; later ones are put where `alloc` says.
     pub fn new(alloc: Global) -> Edges
         ensures { edges_of result ≡ [] }
     {
         Edges {
-            nodes: Vec::new(alloc),
+            edges: Vec::new(alloc),
         }
     }
 
     /// The allocator of the edges.
     pub fn allocator(&self) -> Global {
-        *self.nodes.allocator()
+        *self.edges.allocator()
     }
 
     /// How many edges there are.
     pub fn len(&self) -> usize
         ensures { result ≡ length (edges_of self.now) }
     {
-        self.nodes.len()
+        self.edges.len()
     }
 
-    /// The node at a place, if there is such a place.
-    pub fn get(&self, at: usize) -> Option<&NodeRef>
-        ensures { option_map (λ e. node_of e.now) result ≡ slice_get (edges_of self.now) at }
+    /// The edges, in the order of their labels.
+    pub fn iter(&self) -> Iter<'_, Edge>
+        ensures { map edge_node (iter_rest result) ≡ edges_of self.now }
     {
-        if at < self.nodes.len() {
-            Some(&self.nodes[at])
+        self.edges.iter()
+    }
+
+    /// The edge at a place, counted from 0, if there is such a place.
+    pub fn get(&self, at: usize) -> Option<&Edge>
+        ensures { option_map (λ e. edge_node e.now) result ≡ slice_get (edges_of self.now) at }
+    {
+        if at < self.edges.len() {
+            Some(&self.edges[at])
         } else {
             None
         }
     }
 
-    /// The place of the edge whose prefix begins with a byte, or else the place where it would go.
-    /// It takes time in the logarithm of the number of edges.
-    pub fn place(&self, first: u8) -> Result<usize, usize>
+    /// The place of the edge of a label, or else the place where it would go. It takes time in the
+    /// logarithm of the number of edges.
+    pub fn find(&self, label: u8) -> Result<usize, usize>
         requires rising { EdgesRise (nodes_in (edges_of self.now)) }
-        ensures { result ≡ place_of first (edges_of self.now) }
+        ensures { result ≡ place_of label (edges_of self.now) }
     {
-        self.nodes.binary_search_by(|e| e.first_cmp(first))
+        self.edges.binary_search_by(|edge| edge.label().cmp(&label))
     }
 
-    /// Puts a node in the place of its first byte, and gives the node that stood there. It takes
-    /// memory where there is no room for one edge more, and only for want of it, it is refused.
-    pub fn put(&mut self, node: NodeRef) -> Result<Option<NodeRef>, AllocError>
-        requires some { let n = node_of node in n.prefix ≢ [] }
+    /// The edge of a label with its place, or else the place where it would go. It takes time in
+    /// the logarithm of the number of edges.
+    pub fn find_edge(&self, label: u8) -> Result<(usize, &Edge), usize>
+        requires rising { EdgesRise (nodes_in (edges_of self.now)) }
+        ensures edge { IfOk result
+            (λ r. slice_get (edges_of self.now) r.0 ≡ Some (edge_node r.1.now)) }
+        ensures place { IfOk result (λ r. Ok r.0 ≡ place_of label (edges_of self.now)) }
+        ensures gap { IfErr result (λ at. Err at ≡ place_of label (edges_of self.now)) }
+    {
+        match self.find(label) {
+            Ok(at) => Ok((at, &self.edges[at])),
+            Err(at) => Err(at),
+        }
+    }
+
+    /// Puts an edge in the place of its label, and gives the one that was there. It takes memory
+    /// where there is no room for one edge more, and only for want of it, it is refused.
+    pub fn put(&mut self, edge: Edge) -> Result<Option<Edge>, AllocError>
         requires rising { EdgesRise (nodes_in (edges_of self.old)) }
 
-        ensures put { OnOk result (edges_of self.new ≡ edge_put (node_of node) (edges_of self.old)) }
-        ensures stood { IfOk result (λ old. let n = node_of node in
-            option_map node_of old ≡ edge_of (slice_index n.prefix 0) (nodes_in (edges_of self.old))) }
+        ensures put { OnOk result
+            (edges_of self.new ≡ edge_put (edge_node edge) (edges_of self.old)) }
+        ensures old { IfOk result (λ old. let e = plain_edge edge in
+            option_map edge_node old ≡ edge_of e.label (nodes_in (edges_of self.old))) }
         ensures rising { EdgesRise (nodes_in (edges_of self.new)) }
 
         ensures unchanged { OnErr result (edges_of self.new ≡ edges_of self.old) }
     {
-        let first = node.node().prefix()[0];
-        match self.place(first) {
-            Ok(at) => Ok(Some(mem::replace(&mut self.nodes[at], node))),
+        match self.find(edge.label()) {
+            Ok(at) => Ok(Some(mem::replace(&mut self.edges[at], edge))),
             Err(at) => {
-                self.nodes.insert(at, node)?;
+                self.edges.insert(at, edge)?;
                 Ok(None)
             }
         }
     }
 
-    /// A copy of the edges, which shares the nodes, with `node` in place of those from `start` to
+    /// A copy of the edges, which shares the nodes, with `edge` in place of those from `start` to
     /// `end`. It takes the memory for the list once, and is refused only for want of it, or of room
     /// to count one more owner of a node.
-    pub fn spliced(&self, start: usize, end: usize, node: NodeRef) -> Result<Edges, AllocError>
+    pub fn spliced(&self, start: usize, end: usize, edge: Edge) -> Result<Edges, AllocError>
         requires ordered { start ≤ end }
         requires in_range { end ≤ length (edges_of self.now) }
         ensures { IfOk result (λ e. edges_of e
-            ≡ take start (edges_of self.now) ++ node_of node ∷ drop end (edges_of self.now)) }
+            ≡ take start (edges_of self.now) ++ edge_node edge ∷ drop end (edges_of self.now)) }
     {
-        let mut nodes = Vec::with_capacity(self.allocator(), self.nodes.len() - (end - start) + 1)?;
-        push_shared(&mut nodes, &self.nodes[..start])?;
-        nodes.push(node)?;
-        push_shared(&mut nodes, &self.nodes[end..])?;
-        Ok(Edges { nodes })
+        let mut edges = Vec::with_capacity(self.allocator(), self.edges.len() - (end - start) + 1)?;
+        push_shared(&mut edges, &self.edges[..start])?;
+        edges.push(edge)?;
+        push_shared(&mut edges, &self.edges[end..])?;
+        Ok(Edges { edges })
     }
 
     /// A copy of the edges, which shares the nodes, without the one at a place. It takes the memory
@@ -104,10 +126,10 @@ impl Edges {
         ensures { IfOk result (λ e. edges_of e
             ≡ take at (edges_of self.now) ++ drop (at + 1) (edges_of self.now)) }
     {
-        let mut nodes = Vec::with_capacity(self.allocator(), self.nodes.len() - 1)?;
-        push_shared(&mut nodes, &self.nodes[..at])?;
-        push_shared(&mut nodes, &self.nodes[at + 1..])?;
-        Ok(Edges { nodes })
+        let mut edges = Vec::with_capacity(self.allocator(), self.edges.len() - 1)?;
+        push_shared(&mut edges, &self.edges[..at])?;
+        push_shared(&mut edges, &self.edges[at + 1..])?;
+        Ok(Edges { edges })
     }
 
     /// A copy of the edges, which shares the nodes. It takes the memory for the list once, and is
@@ -115,19 +137,19 @@ impl Edges {
     pub fn share(&self) -> Result<Edges, AllocError>
         ensures { IfOk result (λ e. edges_of e ≡ edges_of self.now) }
     {
-        let mut nodes = Vec::with_capacity(self.allocator(), self.nodes.len())?;
-        push_shared(&mut nodes, &self.nodes)?;
-        Ok(Edges { nodes })
+        let mut edges = Vec::with_capacity(self.allocator(), self.edges.len())?;
+        push_shared(&mut edges, &self.edges)?;
+        Ok(Edges { edges })
     }
 }
 
-// Adds second owners of the nodes at the end.
-fn push_shared(into: &mut Vec<NodeRef>, nodes: &[NodeRef]) -> Result<(), AllocError>
-    ensures { IfOk result
-        (λ _. map node_of into.new.items ≡ map node_of into.old.items ++ map node_of nodes.now) }
+// Adds second owners of the edges' nodes at the end.
+fn push_shared(into: &mut Vec<Edge>, edges: &[Edge]) -> Result<(), AllocError>
+    ensures { IfOk result (λ _. map edge_node into.new.items
+        ≡ map edge_node into.old.items ++ map edge_node edges.now) }
 {
-    for node in nodes {
-        into.push(node.share()?)?;
+    for edge in edges {
+        into.push(edge.share()?)?;
     }
     Ok(())
 }

@@ -7,9 +7,9 @@
 //! being found by binary search.
 #![tactic(auto)]
 
+mod edge;
 mod edges;
 mod leaf;
-mod longest;
 mod node;
 mod node_ref;
 #[cfg(test)]
@@ -17,6 +17,7 @@ mod tests;
 mod tree;
 pub mod tree_laws;
 
+pub use edge::Edge;
 pub use edges::Edges;
 pub use leaf::Leaf;
 pub use node::Node;

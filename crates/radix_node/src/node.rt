@@ -1,8 +1,11 @@
-ghost use Rattle.std.specs.Prelude.{◌≡◌, ◌<◌, ◌^◌, IfOk, length, option_map};
-ghost use Rattle.std.specs.List.{slice_get};
-ghost use Rattle.radix_node.specs.Nodes.{pairs_of_plain};
-ghost use Rattle.radix_node.specs.Node.{PlainNode, shared_pair, nodes_in, nodes_list, plain_node, node_of, edges_of, below_prefix, edge_of, rest_past};
-ghost use Rattle.radix_node.specs.Edge.{EdgesRise};
+mod copies;
+
+ghost use Rattle.std.specs.Prelude.{◌≡◌, ◌==◌, ◌<◌, ◌^◌, IfOk, length, option_map, option_copied};
+ghost use Rattle.std.specs.List.{take_while, zip};
+ghost use Rattle.std.specs.Arc.{arc_value};
+ghost use Rattle.radix_node.specs.Nodes.{pairs_of, common};
+ghost use Rattle.radix_node.specs.Node.{plain_node, node_of, nodes_in, edges_of, below_prefix, edge_of, labelled, rest_past};
+ghost use Rattle.radix_node.specs.Edges.{EdgesRise};
 
 use crate::edges::Edges;
 use crate::leaf::Leaf;
@@ -11,9 +14,9 @@ use smallvec::SmallVec;
 use std::alloc::{AllocError, Global};
 use std::sync::Arc;
 
-/// A node of the tree, which never changes once it is made: the bytes that lead to it from the
-/// node above, perhaps a leaf, and the edges to the nodes under it. A prefix of up to 16 bytes lies
-/// in the node itself.
+/// A node of the tree, which never changes once it is made: its prefix, which are the bytes that
+/// come after the label of the edge to it, perhaps a leaf, and the edges to the nodes under it. A
+/// prefix of up to 16 bytes lies in the node itself.
 #[cycle(node)]
 #[derive(Drop)]
 pub struct Node {
@@ -22,7 +25,7 @@ pub struct Node {
     edges: Edges,
 }
 
-#[tactic(auto, using(crate::proofs::Level::out_prefix, crate::proofs::Level::out_leaf, crate::proofs::Level::out_under, crate::proofs::Level::out_list, crate::proofs::Level::node_roll, crate::proofs::Level::ref_roll))]
+#[tactic(auto, using(crate::proofs::Levels::out_prefix, crate::proofs::Levels::out_leaf, crate::proofs::Levels::out_under, crate::proofs::Levels::node_roll, crate::proofs::Levels::ref_roll))]
 impl Node {
     /// A shared node of its parts. It takes memory for the node, and for a copy of the prefix where
     /// that has more than 16 bytes.
@@ -34,7 +37,7 @@ impl Node {
     ) -> Result<NodeRef, AllocError>
         ensures { IfOk result (λ r. node_of r ≡ record {
           prefix = prefix.now;
-          leaf = option_map shared_pair leaf;
+          leaf = option_map arc_value leaf;
           under = nodes_in (edges_of edges);
         }) }
     {
@@ -48,78 +51,76 @@ impl Node {
         })
     }
 
-    /// The bytes that lead to the node from the one above.
+    /// The bytes that lead to the node, after the label of the edge to it.
     pub fn prefix(&self) -> &[u8]
-        ensures { let p = plain_node self.now in result.now ≡ p.prefix }
+        ensures { let n = plain_node self.now in result.now ≡ n.prefix }
     {
         self.prefix.as_slice()
     }
 
     /// The leaf, if the node's path is a key.
-    pub fn leaf(&self) -> Option<&Arc<Leaf, Global>>
-        ensures { let p = plain_node self.now in
-            option_map (λ a. shared_pair a.now) result ≡ p.leaf }
+    pub fn leaf(&self) -> Option<&Leaf>
+        ensures { let n = plain_node self.now in option_copied result ≡ n.leaf }
     {
-        self.leaf.as_ref()
+        match &self.leaf {
+            None => None,
+            Some(leaf) => Some(leaf),
+        }
     }
 
     /// The edges to the nodes under it.
     pub fn edges(&self) -> &Edges
-        ensures { let p = plain_node self.now in nodes_in (edges_of result.now) ≡ p.under }
+        ensures { let n = plain_node self.now in nodes_in (edges_of result.now) ≡ n.under }
     {
         &self.edges
     }
 
-    /// How many edges there are.
-    pub fn len(&self) -> usize
-        ensures { let p = plain_node self.now in result ≡ length (nodes_list p.under) }
+    /// The node at the edge of a label, if there is one. It takes time in the logarithm of the
+    /// number of edges.
+    pub fn child(&self, label: u8) -> Option<&Node>
+        requires { let n = plain_node self.now in EdgesRise n.under }
+        ensures { let n = plain_node self.now in
+            option_map (λ m. labelled (record { label = label; node = plain_node m.now })) result
+            ≡ edge_of label n.under }
     {
-        self.edges.len()
-    }
-
-    /// The node at a place among those under it, if there is such a place.
-    pub fn edge(&self, at: usize) -> Option<&NodeRef>
-        ensures { let p = plain_node self.now in
-            option_map (λ e. node_of e.now) result ≡ slice_get (nodes_list p.under) at }
-    {
-        self.edges.get(at)
-    }
-
-    /// The node under it whose prefix begins with a byte, if there is one. It takes time in the
-    /// logarithm of the number of edges.
-    pub fn edge_of(&self, first: u8) -> Option<&NodeRef>
-        requires { let p = plain_node self.now in EdgesRise p.under }
-        ensures { let p = plain_node self.now in
-            option_map (λ e. node_of e.now) result ≡ edge_of first p.under }
-    {
-        match self.edges.place(first) {
-            Ok(at) => self.edges.get(at),
+        match self.edges.find_edge(label) {
+            Ok((_, edge)) => Some(edge.node()),
             Err(_) => None,
         }
     }
 
     /// What is left of a key after the prefix, if the key begins with it.
-    pub fn left<'a>(&self, rest: &'a [u8]) -> Option<&'a [u8]>
-        ensures { let p = plain_node self.now in
-            option_map (λ r. r.now) result ≡ rest_past p.prefix rest.now }
+    pub fn strip_prefix<'a>(&self, key: &'a [u8]) -> Option<&'a [u8]>
+        ensures { let n = plain_node self.now in
+            option_map (λ r. r.now) result ≡ rest_past n.prefix key.now }
     {
-        if rest.starts_with(self.prefix()) {
-            Some(&rest[self.prefix().len()..])
-        } else {
-            None
-        }
+        key.strip_prefix(self.prefix())
+    }
+
+    /// How many bytes the prefix and a key have in common at their start.
+    pub fn common_prefix_len(&self, key: &[u8]) -> usize
+        ensures { let n = plain_node self.now in result ≡ length (common n.prefix key.now) }
+    {
+        common_len(self.prefix(), key)
     }
 
     /// How many leaves there are at the node and under it. It takes no memory, and time in the
     /// number of nodes.
     pub fn count(&self) -> u64
-        requires { length (pairs_of_plain (below_prefix self.now)) < 2 ^ 64 }
-        ensures { result ≡ length (pairs_of_plain (below_prefix self.now)) }
+        requires { length (pairs_of (below_prefix self.now)) < 2 ^ 64 }
+        ensures { result ≡ length (pairs_of (below_prefix self.now)) }
     {
         let mut count = u64::from(self.leaf.is_some());
-        for edge in &self.edges.nodes {
-            count += edge.node.count();
+        for edge in &self.edges.edges {
+            count += edge.node.node.count();
         }
         count
     }
+}
+
+// How many bytes two byte strings have in common at their start.
+fn common_len(a: &[u8], b: &[u8]) -> usize
+    ensures { result ≡ length (take_while (λ p. p.0 == p.1) (zip a.now b.now)) }
+{
+    a.iter().zip(b).take_while(|(a, b)| a == b).count()
 }

@@ -1,10 +1,8 @@
-ghost use Rattle.std.specs.Prelude.{◌≡◌, ◌∷◌, [], IfOk};
-ghost use Rattle.radix_node.specs.Nodes.{first_order};
+ghost use Rattle.std.specs.Prelude.{◌≡◌, IfOk};
 ghost use Rattle.radix_node.specs.Node.{plain_node, node_of};
 
 use crate::node::Node;
 use std::alloc::{AllocError, Global};
-use std::cmp::Ordering;
 use std::sync::Arc;
 
 /// A shared owner of a node, which never changes.
@@ -14,7 +12,7 @@ pub struct NodeRef {
     pub(crate) node: Arc<Node, Global>,
 }
 
-#[tactic(auto, using(crate::proofs::Level::ref_out, crate::proofs::Level::ref_roll, crate::proofs::Level::out_prefix))]
+#[tactic(auto, using(crate::proofs::Levels::ref_out, crate::proofs::Levels::ref_roll))]
 impl NodeRef {
     /// The node.
     pub fn node(&self) -> &Node
@@ -31,15 +29,5 @@ impl NodeRef {
         Ok(NodeRef {
             node: Arc::try_clone(&self.node)?,
         })
-    }
-
-    // The order of the prefix's first byte and another. A prefix without one is lower.
-    pub(crate) fn first_cmp(&self, first: u8) -> Ordering
-        ensures { let n = node_of self.now in result ≡ first_order n.prefix (first ∷ []) }
-    {
-        match self.node().prefix().first() {
-            None => Ordering::Less,
-            Some(byte) => byte.cmp(&first),
-        }
     }
 }

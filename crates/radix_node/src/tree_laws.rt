@@ -1,36 +1,48 @@
-//! What is known of every tree, as laws of the definitions. Each function does nothing: its contract
-//! is the law.
-ghost use Rattle.std.specs.Prelude.{◌≡◌, ◌↔◌, ℕ, List};
+//! What is known of every tree, as laws of the definitions. Each function does nothing: its
+//! contract is the law.
+ghost use Rattle.std.specs.Prelude.{◌≡◌, ◌↔◌, List};
 ghost use Rattle.std.specs.List.Sorted.{IsStrictlySortedBy};
-ghost use Rattle.radix_node.specs.Bytes.{byte_order};
+ghost use Rattle.mdb_datum.specs.Bytes.{Bytes, byte_order};
+ghost use Rattle.radix_node.specs.Nodes.{pairs_of};
 ghost use Rattle.radix_node.specs.Pairs.{IsRising, find};
 ghost use Rattle.radix_node.specs.Paths.{Has, IsPath, paths_of_plain};
-ghost use Rattle.radix_node.specs.Tree.{plain_of, pairs_of};
 
 use crate::tree::Tree;
 
 /// The pairs of a tree rise by key, so that no key comes twice.
 pub fn pairs_rise(tree: &Tree)
     ensures { IsRising (pairs_of tree.now) }
-{}
+{
+    let _ = tree.root();
+}
 
 /// The nodes of a tree lie at exactly the paths that its keys tell: the empty string, each key, and
-/// the longest common prefix of each two keys. Each node comes before those under it, the paths rise
-/// in byte order, and so no two nodes have one path.
+/// the longest common prefix of each two keys. Each node comes before those under it, the paths
+/// rise in byte order, and so no two nodes have one path.
 pub fn paths_are_told_by_the_keys(tree: &Tree)
-    ensures told { (path : List ℕ) → Has path (paths_of_plain (plain_of tree.now)) ↔ IsPath (pairs_of tree.now) path }
-    ensures rising { IsStrictlySortedBy byte_order (paths_of_plain (plain_of tree.now)) }
-{}
+    ensures told { (path : Bytes) →
+        Has path (paths_of_plain tree.now) ↔ IsPath (pairs_of tree.now) path }
+    ensures rising { IsStrictlySortedBy byte_order (paths_of_plain tree.now) }
+{
+    let _ = tree.root();
+}
 
-/// Trees of the same pairs have the same nodes, whatever was written before: one shape for each map.
+/// Trees of the same pairs have the same nodes, whatever was written before: one shape for each
+/// map.
 pub fn pairs_have_one_tree(first: &Tree, second: &Tree)
     requires { pairs_of first.now ≡ pairs_of second.now }
-    ensures { plain_of first.now ≡ plain_of second.now }
-{}
+    ensures { first.now ≡ second.now }
+{
+    let _ = first.root();
+    let _ = second.root();
+}
 
 /// Trees in which each key finds the same row, or none, have the same pairs and the same nodes.
 pub fn look_ups_tell_the_tree(first: &Tree, second: &Tree)
-    requires { (key : List ℕ) → find key (pairs_of first.now) ≡ find key (pairs_of second.now) }
+    requires { (key : Bytes) → find key (pairs_of first.now) ≡ find key (pairs_of second.now) }
     ensures pairs { pairs_of first.now ≡ pairs_of second.now }
-    ensures nodes { plain_of first.now ≡ plain_of second.now }
-{}
+    ensures nodes { first.now ≡ second.now }
+{
+    let _ = first.root();
+    let _ = second.root();
+}

@@ -1,12 +1,8 @@
--- One write after another, and the nodes that stand after them.
-use Rattle.std.proofs.Common.{◌≡◌, ◌<◌, ◌+◌, ◌↔◌, ◌++◌, ◌∷◌, ◌∙◌, ℕ, List, [], length, take, get_or, refl, sym, ap}
+-- One write after another.
+use Rattle.std.proofs.Common.{◌≡◌, ◌<◌, ◌+◌, ◌++◌, ◌∷◌, ◌∙◌, ℕ, List, [], length, take, get_or, refl, sym, ap}
 use Rattle.std.proofs.lemmas.List.{take_more}
-use Rattle.radix_node.specs.Pairs.{Pair}
-use Rattle.radix_node.specs.Paths.{Has, IsPath, paths_of_plain}
-use Rattle.radix_node.proofs.Trees.{paths_plain}
-use Rattle.radix_txn.specs.Txn.{txn_pairs, txn_tree}
+use Rattle.mdb_datum.specs.Row.{Pair}
 use Rattle.radix_txn.specs.Write.{after_write, after_writes}
-use Rattle.radix_txn.specs.declared.txn.TreeTxn.{TreeTxn}
 use Rattle.radix_txn.specs.declared.write.Write.{Write}
 
 after_last : (ws : List Write) (w : Write) (ps : List Pair) → after_writes (ws ++ w ∷ []) ps ≡ after_write w (after_writes ws ps)
@@ -18,7 +14,3 @@ after_more ws i w ps qs rs lt read before here =
     here ∙ ap (after_write w) before ∙ sym (after_last (take i ws) w ps)
     ∙ ap (λ (z : Write). after_writes (take i ws ++ z ∷ []) ps) read
     ∙ ap (λ (z : List Write). after_writes z ps) (sym (take_more ws i w lt))
-
--- the nodes lie at exactly the paths that the keys tell
-pub paths_stand : (t : TreeTxn) (path : List ℕ) → Has path (paths_of_plain (txn_tree t)) ↔ IsPath (txn_pairs t) path
-paths_stand t path = paths_plain (txn_tree t) t.tree.shape path

@@ -1,6 +1,4 @@
-pub mod Below
-pub mod Edits
-pub mod PutAt
-pub mod Remains
 pub mod Txn
 pub mod Write
+pub mod inner
+pub mod worked

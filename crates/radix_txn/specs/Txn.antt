@@ -1,18 +1,13 @@
 -- What a transaction stands for.
 use Rattle.std.specs.Prelude.{Bool, List}
-use Rattle.radix_node.specs.Pairs.{Pair}
-use Rattle.radix_node.specs.Nodes.{Plain}
-use Rattle.radix_node.specs.Tree.{plain_of, pairs_of}
-use Rattle.radix_txn.specs.declared.txn.TreeTxn.{TreeTxn}
+use Rattle.mdb_datum.specs.Row.{Pair}
+use Rattle.radix_node.specs.Nodes.{Plain, pairs_of}
+
+-- the nodes of its tree, and whether an earlier write found no memory
+pub record Txn : Type 0 where
+  pub tree : Plain
+  pub spoiled : Bool
 
 -- its keys with their rows, in the byte order of the keys
-abbrev pub txn_pairs : TreeTxn → List Pair
+abbrev pub txn_pairs : Txn → List Pair
 txn_pairs t = pairs_of t.tree
-
--- its nodes as plain data
-abbrev pub txn_tree : TreeTxn → Plain
-txn_tree t = plain_of t.tree
-
--- an earlier write found no memory
-abbrev pub is_spoiled : TreeTxn → Bool
-is_spoiled t = t.spoiled

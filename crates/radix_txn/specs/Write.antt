@@ -1,14 +1,13 @@
 -- What a list of writes makes of a sorted map.
 use Rattle.std.specs.Prelude.{◌≤◌, List, [], ◌∷◌, length}
-use Rattle.mdb_datum.specs.Row.{row_of}
-use Rattle.radix_node.specs.Pairs.{Pair, put}
-use Rattle.radix_node.specs.Without.{without, without_prefix}
+use Rattle.mdb_datum.specs.Row.{Pair}
+use Rattle.radix_node.specs.Pairs.{put, without, without_prefix}
 use Rattle.radix_txn.specs.declared.write.Write.{Write}
 use Rattle.radix_txn.specs.declared.write.Write.TheVariants.{Insert, Delete, DeletePrefix}
 
 -- the pairs after a write
 abbrev pub after_write : Write → List Pair → List Pair
-after_write (Insert key row) pairs = put key.items (row_of row) pairs
+after_write (Insert key row) pairs = put key.items row pairs
 after_write (Delete key) pairs = without key.items pairs
 after_write (DeletePrefix prefix) pairs = without_prefix prefix.items pairs
 

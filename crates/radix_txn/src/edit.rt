@@ -1,7 +1,5 @@
 ghost use Rattle.std.specs.Prelude.{◌≡◌, false, IfOk};
 ghost use Rattle.radix_node.specs.Nodes.{Plain};
-ghost use Rattle.radix_node.specs.Tree.{plain_of};
-ghost use Rattle.radix_txn.specs.Txn.{is_spoiled, txn_tree};
 
 use crate::txn::TreeTxn;
 use radix_node::Tree;
@@ -16,12 +14,11 @@ pub trait Edit {
     /// began with stays as it is. It takes no memory, and may be refused as for want of it, which
     /// the kit does where the root has 2^63 - 1 owners.
     fn txn(&self) -> Result<TreeTxn, AllocError>
-        ensures begun { IfOk result (λ t. txn_tree t ≡ nodes self.now) }
-        ensures sound { IfOk result (λ t. is_spoiled t ≡ false) };
+        ensures { IfOk result (λ t. t ≡ record { tree = nodes self.now; spoiled = false }) };
 }
 
 impl Edit for Tree {
-    ghost nodes = { plain_of };
+    ghost nodes = { λ t. t };
 
     fn txn(&self) -> Result<TreeTxn, AllocError> {
         Ok(TreeTxn::of(self.share()?))

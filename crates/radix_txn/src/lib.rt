@@ -8,12 +8,11 @@
 //! pairs that it held before that write.
 #![tactic(auto)]
 
-mod delete;
-mod delete_prefix;
 mod edit;
 mod insert;
-mod leaf;
 mod remains;
+mod remove;
+mod target;
 #[cfg(test)]
 mod tests;
 mod txn;

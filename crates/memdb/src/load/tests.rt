@@ -1,9 +1,9 @@
-// What no clause says: that each call can succeed, and how many calls a file takes.
+//! How many bytes a file may have, and how many calls it takes.
 use super::*;
 use mdb_ports::{CallList, FileList, MemFiles};
 use std::test::Fail;
 
-// A file of so many bytes, no two pieces of which are the same.
+/// A file of so many bytes, no two pieces of which are the same.
 fn file_bytes(alloc: Global, length: usize) -> Result<Vec<u8>, AllocError> {
     let mut bytes = Vec::with_capacity(alloc, length)?;
     for at in 0..length {
@@ -12,79 +12,61 @@ fn file_bytes(alloc: Global, length: usize) -> Result<Vec<u8>, AllocError> {
     Ok(bytes)
 }
 
-// One file `a` of so many bytes, and the call that fails.
-fn one_file(alloc: Global, length: usize, fails: u64) -> Result<MemFiles, AllocError> {
+/// One file `a` of these bytes, and the call that fails, counted from 1: at 0 none does.
+fn one_file(alloc: Global, bytes: Vec<u8>, fails: u64) -> Result<MemFiles, AllocError> {
     let mut list = FileList::new(alloc);
-    list.push((Text::of(alloc, "a")?, file_bytes(alloc, length)?))?;
+    list.push((Text::of(alloc, "a")?, bytes))?;
     let mut calls = CallList::new(alloc);
     calls.push(fails)?;
     Ok(MemFiles::of(list, calls))
 }
 
-// How many bytes `a` of these files gave, where they are those of the file.
-fn loaded(alloc: Global, files: &mut MemFiles) -> Result<Option<usize>, LoadError> {
-    let bytes = load(alloc, files, &Text::of(alloc, "a")?)?;
-    let want = file_bytes(alloc, bytes.len())?;
-    Ok(if bytes == want {
-        Some(bytes.len())
-    } else {
-        None
-    })
+/// What the reading of a file of so many bytes comes to, where a call may fail.
+fn outcome(alloc: Global, length: usize, fails: u64) -> Result<&'static str, AllocError> {
+    let bytes = file_bytes(alloc, length)?;
+    let mut files = one_file(alloc, file_bytes(alloc, length)?, fails)?;
+    let mut piece = new_piece(alloc)?;
+    let name = Text::of(alloc, "a")?;
+    Ok(word_of(load(alloc, &mut files, &name, &mut piece), &bytes))
 }
 
-#[test]
-fn a_file_is_read_whole_up_to_the_limit(rt: HostRuntime) -> Result<(), Fail> {
-    let alloc = rt.alloc();
-    for length in [0, 1, 65_535, 65_536, 65_537, 1_048_575, 1_048_576] {
-        let mut files = one_file(alloc, length, 0)?;
-        assert_eq!(rt; loaded(alloc, &mut files), Ok(Some(length)), "at {length}");
+/// A word for what was read, beside the bytes that the file has.
+fn word_of(found: Result<Vec<u8>, LoadError<'_>>, bytes: &[u8]) -> &'static str {
+    match found {
+        Ok(found) if found.as_slice() == bytes => "whole",
+        Ok(_found) => "other bytes",
+        Err(LoadError::Memory) => "no memory",
+        Err(LoadError::Read(_name)) => "unread",
+        Err(LoadError::TooLarge(_name)) => "too large",
     }
-    for length in [1_048_577, 1_048_578, 1_200_000] {
-        let mut files = one_file(alloc, length, 0)?;
-        assert_eq!(rt;
-            loaded(alloc, &mut files),
-            Err(LoadError::TooLarge),
-            "at {length}"
-        );
-    }
-    Ok(())
 }
 
-#[test]
-fn a_call_that_fails_ends_the_reading(rt: HostRuntime) -> Result<(), Fail> {
-    let alloc = rt.alloc();
-    // A file, how many calls it takes, and what it gives where none of them fails.
-    let cases = [
-        (0, 1, Ok(Some(0))),
-        (65_536, 2, Ok(Some(65_536))),
-        (65_537, 3, Ok(Some(65_537))),
-        (1_048_576, 17, Ok(Some(1_048_576))),
-        (1_048_577, 17, Err(LoadError::TooLarge)),
-    ];
-    for (length, calls, whole) in cases {
-        for fails in 1..=calls {
-            let mut files = one_file(alloc, length, fails)?;
-            assert_eq!(rt;
-                loaded(alloc, &mut files),
-                Err(LoadError::Read),
-                "{length}, call {fails}"
-            );
-        }
-        let mut files = one_file(alloc, length, calls + 1)?;
-        assert_eq!(rt;
-            loaded(alloc, &mut files),
-            whole,
-            "{length}, past its calls"
-        );
-    }
-    Ok(())
-}
+/// A file's length, the call that fails, and what its reading comes to.
+const CASES: [(usize, u64, &str); 17] = [
+    (0, 0, "whole"),
+    (1, 0, "whole"),
+    (65_535, 0, "whole"),
+    (65_536, 0, "whole"),
+    (65_537, 0, "whole"),
+    (1_048_575, 0, "whole"),
+    (1_048_576, 0, "whole"),
+    (1_048_577, 0, "too large"),
+    (1_200_000, 0, "too large"),
+    (0, 1, "unread"),
+    (65_536, 1, "unread"),
+    (65_536, 2, "unread"),
+    (65_536, 3, "whole"),
+    (1_048_576, 17, "unread"),
+    (1_048_576, 18, "whole"),
+    (1_048_577, 17, "unread"),
+    (1_048_577, 18, "too large"),
+];
 
 #[test]
-fn an_absent_file_is_not_read(rt: HostRuntime) -> Result<(), Fail> {
-    let alloc = rt.alloc();
-    let mut files = one_file(alloc, 3, 0)?;
-    let result = load(alloc, &mut files, &Text::of(alloc, "b")?);
-    assert_eq!(rt; result.err(), Some(LoadError::Read));
+fn a_file_is_read_by_pieces_up_to_the_limit(rt: HostRuntime) -> Result<(), Fail> {
+    for (length, fails, want) in &CASES {
+        let found = outcome(rt.alloc(), *length, *fails)?;
+        assert!(rt; found == *want, "{length} bytes, call {fails}: {found}");
+    }
     Ok(())
 }

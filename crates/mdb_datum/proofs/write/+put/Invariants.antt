@@ -1,8 +1,7 @@
 use Rattle.std.proofs.Common.{◌≡◌, ◌++◌, drop, map}
 use Rattle.mdb_datum.specs.Doc.{doc_list, field_list}
-use Rattle.mdb_datum.specs.Datum.{doc_of, items_of, members_of}
-use Rattle.mdb_datum.specs.Tokens.{docs_tokens, fields_tokens}
-use Rattle.mdb_datum.proofs.Levels.{field_of}
+use Rattle.mdb_datum.specs.Datum.{field_of, doc_of, items_of, members_of}
+use Rattle.mdb_datum.specs.inner.Tokens.{docs_tokens, fields_tokens}
 use Rattle.mdb_datum.proofs.write.+put.Given as goal
 
 -- with the tokens of the items that are left, it has those of all

@@ -1,7 +1,7 @@
 use Rattle.std.proofs.Common.{◌≡◌, [], ◌++◌, ap, ◌∙◌, rules}
 use Rattle.json.specs.Print.{print}
 use Rattle.mdb_datum.specs.Datum.{doc_of}
-use Rattle.mdb_datum.specs.Tokens.{doc_tokens}
+use Rattle.mdb_datum.specs.inner.Tokens.{doc_tokens}
 use Rattle.mdb_datum.specs.Reading.{reading}
 use Rattle.mdb_datum.proofs.RoundTrip.{reading-compact}
 use Rattle.mdb_datum.proofs.Writing.{print_doc_tokens}

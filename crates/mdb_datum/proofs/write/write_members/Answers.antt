@@ -1,17 +1,14 @@
-use Rattle.std.proofs.Common.{◌≡◌, [], ◌++◌, ap, ◌∙◌, rules}
-use Rattle.json.specs.Print.{print}
+-- The text of a canonical object reads as that object.
+use Rattle.std.proofs.Common.{◌≡◌, ap, ◌∙◌, rules}
+use Rattle.mdb_datum.specs.Reading.{reading}
 use Rattle.mdb_datum.specs.Doc.{object, field_list}
 use Rattle.mdb_datum.specs.Datum.{members_of}
-use Rattle.mdb_datum.specs.Tokens.{doc_tokens}
-use Rattle.mdb_datum.specs.Reading.{reading}
+use Rattle.mdb_datum.specs.Written.{row_text}
 use Rattle.mdb_datum.proofs.RoundTrip.{reading-compact}
-use Rattle.mdb_datum.proofs.Writing.{print_doc_tokens}
 use Rattle.mdb_datum.proofs.write.write_members.Goals as goal
 
-pub returns : goal.returns
-returns c =
-    let d = object (field_list (members_of c.args.members.now)) in
-    let none : c.put_members.new.out.before ≡ [] = search rules in
-    let all : c.put_members.new.out.tokens ≡ doc_tokens d = search rules in
-    let text = c.into_inner.ensures.items ∙ ap (λ b. b ++ print c.put_members.new.out.tokens) none ∙ ap print all ∙ print_doc_tokens d in
-    record { text = text; reads_back = λ canonical. ap reading text ∙ reading-compact d canonical }
+pub returns-clause-reads_back : goal.returns-clause-reads_back
+returns-clause-reads_back c =
+    let fs = members_of c.args.members.now in
+    let text : c.append_members.new.out.items ≡ row_text fs = search rules in
+    λ canonical. ap reading text ∙ reading-compact (object (field_list fs)) canonical

@@ -1,5 +1,5 @@
 use Rattle.std.proofs.Common.{◌≡◌, ◌==◌, ◌<◌, false, length, arith, tests, rules, ap}
-use Rattle.mdb_encode.specs.UuidStart.{half_count}
+use Rattle.mdb_encode.specs.inner.UuidStart.{half_count}
 use Rattle.mdb_encode.proofs.HexRuns.{high_digit, low_digit}
 use Rattle.mdb_encode.proofs.identifier.with_byte.Goals as goal
 

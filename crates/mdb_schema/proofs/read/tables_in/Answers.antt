@@ -1,12 +1,7 @@
-use Rattle.std.specs.declared.vec.Vec.{Vec}
-use Rattle.std.specs.declared.alloc.Global.{Global}
-use Rattle.mdb_schema.specs.declared.table_def.TableDef.{TableDef}
 use Rattle.mdb_datum.specs.Datum.{doc_of, members_of}
-use Rattle.mdb_schema.specs.Definition.{table_view}
 use Rattle.mdb_schema.specs.Reading.{table_in}
 use Rattle.mdb_schema.proofs.Each.{each_pushed, named_refusal_at}
-use Rattle.mdb_schema.proofs.Rising.{regular_at}
-use Rattle.std.proofs.Common.{map}
+use Rattle.mdb_schema.proofs.Listed.{regular_at}
 use Rattle.mdb_schema.proofs.read.tables_in.Goals as goal
 
 pub table_in-requires : goal.table_in-requires
@@ -15,8 +10,8 @@ table_in-requires c =
 
 pub returns-in-Err : goal.returns-in-Err
 returns-in-Err c =
-    named_refusal_at table_view (λ (v : Vec TableDef Global). map table_view v.items) table_in (map table_view c.loop-at.tables.items) (members_of c.args.members.now) c.loop-at.at (c.in-Some.name.now, doc_of c.in-Some.document.now) c.in-Err.error c.in-Some.ensures c.loop-at.invariant c.in-Err.ensures
+    named_refusal_at table_in c.loop-at.tables.items (members_of c.args.members.now) c.loop-at.at (c.in-Some.name.now, doc_of c.in-Some.document.now) c.in-Err.error c.in-Some.ensures c.loop-at.invariant c.in-Err.ensures
 
 pub loop-at-preserved : goal.loop-at-preserved
 loop-at-preserved c =
-    each_pushed table_in table_view c.loop-at.tables.items c.push.new.self.items (members_of c.args.members.now) c.loop-at.at (c.in-Some.name.now, doc_of c.in-Some.document.now) c.in-Ok.table c.in-Some.ensures c.in-Ok.ensures c.loop-at.invariant c.in_ok-push-in-Ok.ensures.items
+    each_pushed table_in c.loop-at.tables.items c.push.new.self.items (members_of c.args.members.now) c.loop-at.at (c.in-Some.name.now, doc_of c.in-Some.document.now) c.in-Ok.table c.in-Some.ensures c.in-Ok.ensures c.loop-at.invariant c.in_ok-push-in-Ok.ensures.items

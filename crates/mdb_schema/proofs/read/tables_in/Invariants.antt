@@ -1,11 +1,10 @@
-use Rattle.std.proofs.Common.{◌≡◌, drop, map}
+use Rattle.std.proofs.Common.{◌≡◌, drop}
 use Rattle.mdb_datum.specs.Datum.{members_of}
 use Rattle.mdb_schema.specs.Broken.{each}
-use Rattle.mdb_schema.specs.Definition.{table_view}
 use Rattle.mdb_schema.specs.Reading.{table_in}
 use Rattle.mdb_schema.proofs.Each.{behind}
 use Rattle.mdb_schema.proofs.read.tables_in.Given as goal
 
 abbrev pub invariant-loop-at : goal.invariant-loop-at
 invariant-loop-at l =
-    each table_in (members_of l.members) ≡ behind (map table_view l.tables.items) (each table_in (drop l.at (members_of l.members)))
+    each table_in (members_of l.members) ≡ behind l.tables.items (each table_in (drop l.at (members_of l.members)))

@@ -1,7 +1,7 @@
 use Rattle.std.proofs.Common.{◌≡◌, ◌+◌, ◌++◌, map, drop}
-use Rattle.radix_node.specs.Tree.{pairs_of}
-use Rattle.memdb.specs.QuestionOf.{asked_text}
-use Rattle.memdb.specs.Single.{question_replies, replies_text}
+use Rattle.radix_node.specs.Nodes.{pairs_of}
+use Rattle.memdb.specs.inner.QuestionOf.{asked_text}
+use Rattle.memdb.specs.inner.Single.{question_replies, replies_text}
 use Rattle.memdb.proofs.answers.ask_all.Given as goal
 
 abbrev pub invariant-loop-question : goal.invariant-loop-question

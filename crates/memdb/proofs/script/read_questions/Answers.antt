@@ -4,19 +4,19 @@ use Rattle.std.proofs.lemmas.Bool.Decides.{nat_tests}
 use Rattle.std.proofs.lemmas.List.{map-append}
 use Rattle.std.proofs.lemmas.List.Elements.{All-push}
 use Rattle.std.proofs.lemmas.Result.{err_from_is_err_and}
-use Rattle.memdb.specs.Lines.{first_line, part_of, put_before}
-use Rattle.memdb.specs.QuestionOf.{asked_text}
+use Rattle.memdb.specs.inner.Lines.{first_line, part_of, put_before}
+use Rattle.memdb.specs.inner.QuestionOf.{asked_text}
 use Rattle.memdb.specs.Script.{question, first_by_id, questions_in, question_in, text_limit}
-use Rattle.memdb.specs.Single.{questions}
+use Rattle.memdb.specs.inner.Single.{questions}
 use Rattle.memdb.proofs.ScriptLines.{questions_step, questions_more, put_more, questions_cut}
 use Rattle.memdb.proofs.script.read_questions.Goals as goal
 
-pub returns-in_err-read_question-clause-unbuilt : goal.returns-in_err-read_question-clause-unbuilt
-returns-in_err-read_question-clause-unbuilt c e =
+pub returns-in_err-read_question-clause-unsupported : goal.returns-in_err-read_question-clause-unsupported
+returns-in_err-read_question-clause-unsupported c e =
     let l = c.loop-line in
     let t = c.args.table.now in
     let gives = err_from_is_err_and c.from_residual.result c.from_residual.ensures.1 in
-    let none : question_in t c.in-Some.line.now ≡ None = c.in_err-read_question.ensures.unbuilt (cc) in
+    let none : question_in t c.in-Some.line.now ≡ None = c.in_err-read_question.ensures.unsupported (cc) in
     let rest : part_of (questions_in t) l.rest.now ≡ None = questions_step t l.rest.now (c.in-Some.line.now, c.in-Some.next.now) (sym c.in-Some.ensures) ∙ rw none refl in
     l.invariant.so_far ∙ ap (put_before (questions t (map asked_text l.questions.items))) rest
 
@@ -36,8 +36,8 @@ loop-line-preserved c =
       short = rw all (All-push (λ s. length s ≤ text_limit) (map asked_text l.questions.items) (asked_text q) l.invariant.short c.in_ok-read_question.ensures.short);
     }
 
-pub returns-else-is_empty-clause-unbuilt : goal.returns-else-is_empty-clause-unbuilt
-returns-else-is_empty-clause-unbuilt c _ =
+pub returns-else-is_empty-clause-unsupported : goal.returns-else-is_empty-clause-unsupported
+returns-else-is_empty-clause-unsupported c _ =
     let l = c.loop-line in
     let t = c.args.table.now in
     let none : first_line l.rest.now ≡ None = search rules in

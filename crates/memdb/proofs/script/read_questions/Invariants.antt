@@ -1,8 +1,8 @@
 use Rattle.std.proofs.Common.{◌≡◌, ◌≤◌, length, map, All}
-use Rattle.memdb.specs.Lines.{part_of, put_before}
-use Rattle.memdb.specs.QuestionOf.{asked_text}
+use Rattle.memdb.specs.inner.Lines.{part_of, put_before}
+use Rattle.memdb.specs.inner.QuestionOf.{asked_text}
 use Rattle.memdb.specs.Script.{questions_in, text_limit}
-use Rattle.memdb.specs.Single.{questions}
+use Rattle.memdb.specs.inner.Single.{questions}
 use Rattle.memdb.proofs.script.read_questions.Given as goal
 
 -- the questions so far, and then what the rest reads as, are what all reads as

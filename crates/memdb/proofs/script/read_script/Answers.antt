@@ -2,55 +2,54 @@
 use Rattle.std.proofs.Common.{◌≡◌, ap, sym, ◌∙◌, map, None}
 use Rattle.std.specs.Prelude.{option_map}
 use Rattle.std.proofs.lemmas.Result.{err_from_is_err_and}
-use Rattle.mdb_datum.specs.Row.{row_of}
-use Rattle.memdb.specs.Lines.{part_of}
-use Rattle.memdb.specs.QuestionOf.{asked_text}
+use Rattle.memdb.specs.inner.Lines.{part_of}
+use Rattle.memdb.specs.inner.QuestionOf.{asked_text}
 use Rattle.memdb.specs.Script.{questions_in, inserts_in, numbered}
 use Rattle.memdb.proofs.ScriptWhole.{script_whole, script_within, script_beyond, script_few, script_without_write, script_without_inserts, script_without_read, script_without_questions}
 use Rattle.memdb.proofs.script.read_script.Goals as goal
 
-pub returns-then-not-has_few_lines-clause-unbuilt : goal.returns-then-not-has_few_lines-clause-unbuilt
-returns-then-not-has_few_lines-clause-unbuilt c _ =
+pub returns-then-not-has_few_lines-clause-unsupported : goal.returns-then-not-has_few_lines-clause-unsupported
+returns-then-not-has_few_lines-clause-unsupported c _ =
     script_beyond c.args.table.now c.args.field.now c.args.bytes.now (sym c.has_few_lines.ensures ∙ c.if-not-has_few_lines.true)
 
-pub returns-in_default-clause-unbuilt : goal.returns-in_default-clause-unbuilt
-returns-in_default-clause-unbuilt c _ =
+pub returns-in_default-clause-unsupported : goal.returns-in_default-clause-unsupported
+returns-in_default-clause-unsupported c _ =
     let t = c.args.table.now in
     let f = c.args.field.now in
     let bytes = c.args.bytes.now in
     script_within t f bytes (sym c.has_few_lines.ensures ∙ c.if-not-has_few_lines.false)
     ∙ ap (option_map (numbered 1)) (script_without_write t f bytes c.in_default.ensures)
 
-pub returns-in_err-inserts-clause-unbuilt : goal.returns-in_err-inserts-clause-unbuilt
-returns-in_err-inserts-clause-unbuilt c e =
+pub returns-in_err-inserts-clause-unsupported : goal.returns-in_err-inserts-clause-unsupported
+returns-in_err-inserts-clause-unsupported c e =
     let t = c.args.table.now in
     let f = c.args.field.now in
     let bytes = c.args.bytes.now in
     let gives = err_from_is_err_and c.from_residual.result c.from_residual.ensures.1 in
-    let none : part_of (inserts_in t f) c.in-Some.first.now ≡ None = c.in_err-inserts.ensures.unbuilt (cc) in
+    let none : part_of (inserts_in t f) c.in-Some.first.now ≡ None = c.in_err-inserts.ensures.unsupported (cc) in
     script_within t f bytes (sym c.has_few_lines.ensures ∙ c.if-not-has_few_lines.false)
     ∙ ap (option_map (numbered 1)) (script_without_inserts t f bytes c.in-Some.first.now c.in-Some.ensures none)
 
-pub returns-in_default-after_word-clause-unbuilt : goal.returns-in_default-after_word-clause-unbuilt
-returns-in_default-after_word-clause-unbuilt c _ =
+pub returns-in_default-after_word-clause-unsupported : goal.returns-in_default-after_word-clause-unsupported
+returns-in_default-after_word-clause-unsupported c _ =
     let t = c.args.table.now in
     let f = c.args.field.now in
     let bytes = c.args.bytes.now in
     let i = c.in_ok-inserts.inserts in
     script_within t f bytes (sym c.has_few_lines.ensures ∙ c.if-not-has_few_lines.false)
-    ∙ ap (option_map (numbered 1)) (script_without_read t f bytes c.in-Some.first.now i.rest.now (map row_of i.rows.items) c.in-Some.ensures c.in_ok-inserts.ensures.ok c.in_default-after_word.ensures)
+    ∙ ap (option_map (numbered 1)) (script_without_read t f bytes c.in-Some.first.now i.rest.now i.rows.items c.in-Some.ensures c.in_ok-inserts.ensures.ok c.in_default-after_word.ensures)
 
-pub returns-in_err-questions-clause-unbuilt : goal.returns-in_err-questions-clause-unbuilt
-returns-in_err-questions-clause-unbuilt c e =
+pub returns-in_err-questions-clause-unsupported : goal.returns-in_err-questions-clause-unsupported
+returns-in_err-questions-clause-unsupported c e =
     let t = c.args.table.now in
     let f = c.args.field.now in
     let bytes = c.args.bytes.now in
     let i = c.in_ok-inserts.inserts in
     let last = c.in-Some-after_word.last.now in
     let gives = err_from_is_err_and c.from_residual-in_err-questions.result c.from_residual-in_err-questions.ensures.1 in
-    let none : part_of (questions_in t) last ≡ None = c.in_err-questions.ensures.unbuilt (cc) in
+    let none : part_of (questions_in t) last ≡ None = c.in_err-questions.ensures.unsupported (cc) in
     script_within t f bytes (sym c.has_few_lines.ensures ∙ c.if-not-has_few_lines.false)
-    ∙ ap (option_map (numbered 1)) (script_without_questions t f bytes c.in-Some.first.now i.rest.now last (map row_of i.rows.items) c.in-Some.ensures c.in_ok-inserts.ensures.ok c.in-Some-after_word.ensures none)
+    ∙ ap (option_map (numbered 1)) (script_without_questions t f bytes c.in-Some.first.now i.rest.now last i.rows.items c.in-Some.ensures c.in_ok-inserts.ensures.ok c.in-Some-after_word.ensures none)
 
 pub returns-clause-ok : goal.returns-clause-ok
 returns-clause-ok c =
@@ -59,7 +58,7 @@ returns-clause-ok c =
     let bytes = c.args.bytes.now in
     let i = c.in_ok-inserts.inserts in
     script_within t f bytes (sym c.has_few_lines.ensures ∙ c.if-not-has_few_lines.false)
-    ∙ ap (option_map (numbered 1)) (script_whole t f bytes c.in-Some.first.now i.rest.now c.in-Some-after_word.last.now (map row_of i.rows.items) (map asked_text c.in_ok-questions.questions.items) c.in-Some.ensures c.in_ok-inserts.ensures.ok c.in-Some-after_word.ensures c.in_ok-questions.ensures.ok)
+    ∙ ap (option_map (numbered 1)) (script_whole t f bytes c.in-Some.first.now i.rest.now c.in-Some-after_word.last.now i.rows.items (map asked_text c.in_ok-questions.questions.items) c.in-Some.ensures c.in_ok-inserts.ensures.ok c.in-Some-after_word.ensures c.in_ok-questions.ensures.ok)
 
 pub returns-clause-few : goal.returns-clause-few
 returns-clause-few c =
@@ -68,5 +67,5 @@ returns-clause-few c =
     let bytes = c.args.bytes.now in
     let i = c.in_ok-inserts.inserts in
     let few = sym c.has_few_lines.ensures ∙ c.if-not-has_few_lines.false in
-    script_few t f bytes (map row_of i.rows.items) (map asked_text c.in_ok-questions.questions.items) few
-    (script_whole t f bytes c.in-Some.first.now i.rest.now c.in-Some-after_word.last.now (map row_of i.rows.items) (map asked_text c.in_ok-questions.questions.items) c.in-Some.ensures c.in_ok-inserts.ensures.ok c.in-Some-after_word.ensures c.in_ok-questions.ensures.ok)
+    script_few t f bytes i.rows.items (map asked_text c.in_ok-questions.questions.items) few
+    (script_whole t f bytes c.in-Some.first.now i.rest.now c.in-Some-after_word.last.now i.rows.items (map asked_text c.in_ok-questions.questions.items) c.in-Some.ensures c.in_ok-inserts.ensures.ok c.in-Some-after_word.ensures c.in_ok-questions.ensures.ok)

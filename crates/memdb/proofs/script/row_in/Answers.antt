@@ -12,8 +12,8 @@ returns-in_ok-of-clause-ok c =
     let found : has_id (member c.args.field.now (members_of m)) ≡ true = sym (c.has_id.ensures ∙ ap has_id c.get.ensures) ∙ c.if-has_id.true in
     row_of_members c.args.field.now c.args.document m c.in-Members.is ∙ rw found (ap Some (sym c.in_ok-of.ensures))
 
-pub returns-else-has_id-clause-unbuilt : goal.returns-else-has_id-clause-unbuilt
-returns-else-has_id-clause-unbuilt c _ =
+pub returns-else-has_id-clause-unsupported : goal.returns-else-has_id-clause-unsupported
+returns-else-has_id-clause-unsupported c _ =
     let m = c.in-Members.members in
     let found : has_id (member c.args.field.now (members_of m)) ≡ false = sym (c.has_id.ensures ∙ ap has_id c.get.ensures) ∙ c.if-has_id.false in
     row_of_members c.args.field.now c.args.document m c.in-Members.is ∙ rw found refl

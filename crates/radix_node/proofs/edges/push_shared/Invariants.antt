@@ -1,7 +1,7 @@
 use Rattle.std.proofs.Common.{◌≡◌, ◌++◌, map, take}
-use Rattle.radix_node.specs.Node.{node_of}
+use Rattle.radix_node.specs.Node.{edge_node}
 use Rattle.radix_node.proofs.edges.push_shared.Given as goal
 
--- the first nodes stand at the end
-abbrev pub invariant-loop-node : goal.invariant-loop-node
-invariant-loop-node l = map node_of l.into.items ≡ map node_of l.initial.into.items ++ map node_of (take l.node-index l.nodes)
+-- the first edges stand at the end
+abbrev pub invariant-loop-edge : goal.invariant-loop-edge
+invariant-loop-edge l = map edge_node l.into.items ≡ map edge_node l.initial.into.items ++ map edge_node (take l.edge-index l.edges)

@@ -1,36 +1,40 @@
 -- The parts of the prefix and of the key, and the edges of the upper node.
-use Rattle.std.proofs.Common.{◌∙◌, drop, ap, arith}
+use Rattle.std.proofs.Common.{◌+◌, ◌∙◌, refl, drop, ap, arith}
+use Rattle.std.specs.Arc.{arc_value}
 use Rattle.std.proofs.lemmas.Grind.{common_steps}
 use Rattle.std.proofs.lemmas.List.{take_rest}
-use Rattle.radix_node.specs.Node.{nodes_in, edges_of, node_of, plain_node, shared_pair}
-use Rattle.radix_txn.specs.Below.{leaf_node}
-use Rattle.radix_txn.proofs.Parting.{lower_node, second_long, split_short, split_long, lowered, one_edge, two_edges, with_edges, freshened, some_left}
+use Rattle.radix_node.specs.Node.{edge_node, edges_of, labelled, node_of, plain_node}
+use Rattle.radix_txn.specs.inner.Below.{leaf_node}
+use Rattle.radix_txn.proofs.Split.{lower_node, split_short, split_long, lower_edge, beside_edge, one_edge, two_edges, with_edges, not_over}
 use Rattle.radix_txn.proofs.insert.split.Goals as goal
 
-pub slice_bounds-of-count-2 : goal.slice_bounds-of-count-2
-slice_bounds-of-count-2 c = let m = plain_node c.args.node.now in second_long m.prefix c.args.rest.now c.args.shared c.requires.shared
+pub bounds-rest-shared : goal.bounds-rest-shared
+bounds-rest-shared c = let m = plain_node c.args.node.now in not_over m.prefix c.args.rest.now c.args.shared c.requires.shared c.if-shared-rest.false
 
-pub slice_bounds-of-start-2 : goal.slice_bounds-of-start-2
-slice_bounds-of-start-2 c = let m = plain_node c.args.node.now in second_long m.prefix c.args.rest.now c.args.shared c.requires.shared
+pub slice_bounds-childless-count : goal.slice_bounds-childless-count
+slice_bounds-childless-count c = let m = plain_node c.args.node.now in omega (arith, not_over m.prefix c.args.rest.now c.args.shared c.requires.shared c.if-shared-rest.false)
 
-pub put-requires-2-clause-some : goal.put-requires-2-clause-some
-put-requires-2-clause-some c =
-    let m = plain_node c.args.node.now in
-    some_left _ (shared_pair c.args.leaf) c.args.rest.now _ c.args.shared (freshened (node_of c.in_ok-fresh.fresh) _ (shared_pair c.args.leaf) _ c.in_ok-fresh.ensures c.new.ensures) (second_long m.prefix c.args.rest.now c.args.shared c.requires.shared) c.if-shared-rest.false (take_rest c.args.rest.now c.args.shared)
+pub slice_bounds-childless-start : goal.slice_bounds-childless-start
+slice_bounds-childless-start c = let m = plain_node c.args.node.now in omega (arith, not_over m.prefix c.args.rest.now c.args.shared c.requires.shared c.if-shared-rest.false)
+
+pub slice_bounds-of-end : goal.slice_bounds-of-end
+slice_bounds-of-end c = let m = plain_node c.args.node.now in let lt = not_over m.prefix c.args.rest.now c.args.shared c.requires.shared c.if-shared-rest.false in grind (arith, common_steps)
 
 pub returns-then-shared-rest : goal.returns-then-shared-rest
 returns-then-shared-rest c =
     let m = plain_node c.args.node.now in
-    let low = lowered m (node_of c.in_ok-lower.lower) _ _ _ c.in_ok-lower.ensures (c.in_ok-old_leaf.ensures ∙ c.leaf.ensures) (ap nodes_in c.in_ok-share.ensures ∙ c.edges-2.ensures) in
-    let es = one_edge (node_of c.in_ok-lower.lower) (lower_node _ m) _ (edges_of c.put.new.self) c.in_ok-put.ensures.put c.new-edges.ensures low in
+    let low = ap labelled c.of.ensures ∙ lower_edge m (node_of c.in_ok-lower.lower) c.prefix-prefix.result.now _ c.args.shared c.prefix-prefix.ensures c.requires.parted (take_rest c.prefix-prefix.result.now (c.args.shared + 1)) c.in_ok-lower.ensures in
+    let es = one_edge (edge_node c.of.result) (lower_node (drop c.args.shared m.prefix) m) _ (edges_of c.put.new.self) c.in_ok-put.ensures.put c.new-edges.ensures low in
     with_edges _ _ _ _ _ c.in_ok-of.ensures es
-    ∙ split_short (shared_pair c.args.leaf) c.args.rest.now m c.args.shared c.requires.shared c.requires.parted c.if-shared-rest.true _ (take_rest c.prefix.result.now c.args.shared ∙ ap (drop c.args.shared) c.prefix.ensures)
+    ∙ split_short (arc_value c.args.leaf) c.args.rest.now m c.args.shared c.requires.shared c.requires.parted c.if-shared-rest.true (drop c.args.shared m.prefix) refl
 
 pub returns : goal.returns
 returns c =
     let m = plain_node c.args.node.now in
-    let low = lowered m (node_of c.in_ok-lower.lower) _ _ _ c.in_ok-lower.ensures (c.in_ok-old_leaf.ensures ∙ c.leaf.ensures) (ap nodes_in c.in_ok-share.ensures ∙ c.edges-2.ensures) in
-    let es = one_edge (node_of c.in_ok-lower.lower) (lower_node _ m) _ (edges_of c.put.new.self) c.in_ok-put.ensures.put c.new-edges.ensures low in
-    let fs = two_edges (node_of c.in_ok-fresh.fresh) (leaf_node _ (shared_pair c.args.leaf)) _ (edges_of c.put.new.self) (edges_of c.put-2.new.self) c.in_ok-put-2.ensures.put es (freshened (node_of c.in_ok-fresh.fresh) _ (shared_pair c.args.leaf) _ c.in_ok-fresh.ensures c.new.ensures) in
+    let low = ap labelled c.of.ensures ∙ lower_edge m (node_of c.in_ok-lower.lower) c.prefix-prefix.result.now _ c.args.shared c.prefix-prefix.ensures c.requires.parted (take_rest c.prefix-prefix.result.now (c.args.shared + 1)) c.in_ok-lower.ensures in
+    let es = one_edge (edge_node c.of.result) (lower_node (drop c.args.shared m.prefix) m) _ (edges_of c.put.new.self) c.in_ok-put.ensures.put c.new-edges.ensures low in
+    let lt = not_over m.prefix c.args.rest.now c.args.shared c.requires.shared c.if-shared-rest.false in
+    let beside = ap labelled c.of-2.ensures ∙ beside_edge (arc_value c.args.leaf) (node_of c.in_ok-beside.beside) c.args.rest.now _ c.args.shared lt (take_rest c.args.rest.now (c.args.shared + 1)) c.in_ok-beside.ensures in
+    let fs = two_edges (edge_node c.of-2.result) (leaf_node (drop c.args.shared c.args.rest.now) (arc_value c.args.leaf)) _ (edges_of c.put.new.self) (edges_of c.put-2.new.self) c.in_ok-put-2.ensures.put es beside in
     with_edges _ _ _ _ _ c.in_ok-of-2.ensures fs
-    ∙ split_long (shared_pair c.args.leaf) c.args.rest.now m c.args.shared c.requires.shared c.requires.parted c.if-shared-rest.false _ _ _ (take_rest c.prefix.result.now c.args.shared ∙ ap (drop c.args.shared) c.prefix.ensures) (take_rest c.args.rest.now c.args.shared) (grind (arith, common_steps))
+    ∙ split_long (arc_value c.args.leaf) c.args.rest.now m c.args.shared c.requires.shared c.requires.parted c.if-shared-rest.false (drop c.args.shared m.prefix) (drop c.args.shared c.args.rest.now) _ refl refl (grind (arith, common_steps))

@@ -1,7 +1,6 @@
 use Rattle.std.proofs.Common.{◌≡◌, drop, map}
 use Rattle.mdb_datum.specs.Doc.{member}
-use Rattle.mdb_datum.specs.Datum.{members_of}
-use Rattle.mdb_datum.proofs.Levels.{field_of}
+use Rattle.mdb_datum.specs.Datum.{field_of, members_of}
 use Rattle.mdb_datum.proofs.datum.Members.get.Given as goal
 
 -- the name stands first among the members that are left just as among all

@@ -1,5 +1,5 @@
 use Rattle.std.proofs.Common.{arith}
-use Rattle.radix_node.proofs.Placed.{get_there, get_past}
+use Rattle.radix_node.proofs.EdgeSearch.{get_there, get_past}
 use Rattle.radix_node.proofs.edges.Edges.get.Goals as goal
 
 pub returns-then-at-len : goal.returns-then-at-len

@@ -1,38 +1,38 @@
--- A node is put at the place of its first byte.
-use Rattle.std.proofs.Common.{◌∙◌, Some, ap}
-use Rattle.radix_node.specs.Node.{PlainNode, node_of}
-use Rattle.radix_node.specs.declared.node_ref.NodeRef.{NodeRef}
-use Rattle.radix_node.proofs.Level.{edges_roll}
-use Rattle.radix_node.proofs.Puts.{replaced, inserted, still_rise, found_in_range, absent_in_range, stood_there, none_stood}
+-- An edge is put at the place of its label.
+use Rattle.std.proofs.Common.{◌∙◌, Ok, Err, Some, ap}
+use Rattle.radix_node.specs.Node.{edge_node}
+use Rattle.radix_node.specs.declared.edge.Edge.{Edge}
+use Rattle.radix_node.proofs.EdgePut.{replaced, inserted, still_rise, old_there, old_none}
+use Rattle.radix_node.proofs.EdgeSearch.{in_range}
+use Rattle.radix_node.proofs.Levels.{edges_roll}
 use Rattle.radix_node.proofs.edges.Edges.put.Goals as goal
 
 pub index_mut-requires : goal.index_mut-requires
-index_mut-requires c = found_in_range c.args.self.now c.args.node c.prefix.result.now (c.prefix.ensures ∙ ap (λ (n : PlainNode). n.prefix) c.node.ensures) c.requires.some c.in-Ok.at c.in-Ok.ensures
+index_mut-requires c = in_range c.label.result c.args.self.now (Ok c.in-Ok.at) c.in-Ok.ensures
 
 pub insert-requires : goal.insert-requires
-insert-requires c = absent_in_range c.args.self.now c.args.node c.prefix.result.now (c.prefix.ensures ∙ ap (λ (n : PlainNode). n.prefix) c.node.ensures) c.requires.some c.in-Err.at c.in-Err.ensures
+insert-requires c = in_range c.label.result c.args.self.now (Err c.in-Err.at) c.in-Err.ensures
 
 pub returns-in-Ok-clause-put : goal.returns-in-Ok-clause-put
-returns-in-Ok-clause-put c = edges_roll _ ∙ replaced c.args.self.now c.args.node c.prefix.result.now (c.prefix.ensures ∙ ap (λ (n : PlainNode). n.prefix) c.node.ensures) c.requires.some c.in-Ok.at c.replace.new.dest c.replace.ensures.after c.in-Ok.ensures
+returns-in-Ok-clause-put c = edges_roll _ ∙ replaced c.args.self.now c.args.edge c.label.result c.label.ensures c.in-Ok.at c.replace.new.dest c.replace.ensures.after c.in-Ok.ensures
 
-pub returns-in-Ok-clause-stood : goal.returns-in-Ok-clause-stood
-returns-in-Ok-clause-stood c =
-    ap (λ (r : NodeRef). Some (node_of r)) c.replace.ensures.value
-    ∙ stood_there c.args.self.now c.args.node c.prefix.result.now (c.prefix.ensures ∙ ap (λ (n : PlainNode). n.prefix) c.node.ensures) c.requires.some c.in-Ok.at c.index_mut.result.now c.index_mut.ensures.value c.in-Ok.ensures
+pub returns-in-Ok-clause-old : goal.returns-in-Ok-clause-old
+returns-in-Ok-clause-old c =
+    ap (λ (r : Edge). Some (edge_node r)) c.replace.ensures.value
+    ∙ old_there c.args.self.now c.args.edge c.label.result c.label.ensures c.in-Ok.at c.index_mut.result.now c.index_mut.ensures.value c.in-Ok.ensures
 
 pub returns-in-Ok-clause-rising : goal.returns-in-Ok-clause-rising
 returns-in-Ok-clause-rising c =
-    still_rise c.args.self.now c.args.node c.prefix.result.now (c.prefix.ensures ∙ ap (λ (n : PlainNode). n.prefix) c.node.ensures) c.requires.some _ c.requires.rising
-    (edges_roll _ ∙ replaced c.args.self.now c.args.node c.prefix.result.now (c.prefix.ensures ∙ ap (λ (n : PlainNode). n.prefix) c.node.ensures) c.requires.some c.in-Ok.at c.replace.new.dest c.replace.ensures.after c.in-Ok.ensures)
+    still_rise c.args.self.now c.args.edge c.label.result c.label.ensures _ c.requires.rising
+    (edges_roll _ ∙ replaced c.args.self.now c.args.edge c.label.result c.label.ensures c.in-Ok.at c.replace.new.dest c.replace.ensures.after c.in-Ok.ensures)
 
 pub returns-in_ok-insert-in-Err-clause-put : goal.returns-in_ok-insert-in-Err-clause-put
-returns-in_ok-insert-in-Err-clause-put c =
-    edges_roll _ ∙ inserted c.args.self.now c.args.node c.prefix.result.now (c.prefix.ensures ∙ ap (λ (n : PlainNode). n.prefix) c.node.ensures) c.requires.some c.in-Err.at c.insert.new.self.items c.in_ok-insert-in-Err.ensures.items c.in-Err.ensures
+returns-in_ok-insert-in-Err-clause-put c = edges_roll _ ∙ inserted c.args.self.now c.args.edge c.label.result c.label.ensures c.in-Err.at c.insert.new.self.items c.in_ok-insert-in-Err.ensures.items c.in-Err.ensures
 
-pub returns-in_ok-insert-in-Err-clause-stood : goal.returns-in_ok-insert-in-Err-clause-stood
-returns-in_ok-insert-in-Err-clause-stood c = none_stood c.args.self.now c.args.node c.prefix.result.now (c.prefix.ensures ∙ ap (λ (n : PlainNode). n.prefix) c.node.ensures) c.requires.some c.in-Err.at c.in-Err.ensures
+pub returns-in_ok-insert-in-Err-clause-old : goal.returns-in_ok-insert-in-Err-clause-old
+returns-in_ok-insert-in-Err-clause-old c = old_none c.args.self.now c.args.edge c.label.result c.label.ensures c.in-Err.at c.in-Err.ensures
 
 pub returns-in_ok-insert-in-Err-clause-rising : goal.returns-in_ok-insert-in-Err-clause-rising
 returns-in_ok-insert-in-Err-clause-rising c =
-    still_rise c.args.self.now c.args.node c.prefix.result.now (c.prefix.ensures ∙ ap (λ (n : PlainNode). n.prefix) c.node.ensures) c.requires.some _ c.requires.rising
-    (edges_roll _ ∙ inserted c.args.self.now c.args.node c.prefix.result.now (c.prefix.ensures ∙ ap (λ (n : PlainNode). n.prefix) c.node.ensures) c.requires.some c.in-Err.at c.insert.new.self.items c.in_ok-insert-in-Err.ensures.items c.in-Err.ensures)
+    still_rise c.args.self.now c.args.edge c.label.result c.label.ensures _ c.requires.rising
+    (edges_roll _ ∙ inserted c.args.self.now c.args.edge c.label.result c.label.ensures c.in-Err.at c.insert.new.self.items c.in_ok-insert-in-Err.ensures.items c.in-Err.ensures)

@@ -1,17 +1,17 @@
 use Rattle.std.proofs.Common.{◌≡◌, ◌++◌, ◌∷◌, ◌∙◌, List, map, take, drop, subst, sym, arith}
 use Rattle.std.proofs.lemmas.Grind.{common_steps}
 use Rattle.std.proofs.lemmas.List.{take_rest}
-use Rattle.radix_node.specs.Node.{PlainNode, edges_of, node_of}
+use Rattle.radix_node.specs.Node.{PlainNode, edges_of, edge_node}
 use Rattle.radix_node.specs.declared.edges.Edges.{out-Edges, roll-Edges}
-use Rattle.radix_node.proofs.Joined.{spliced_map}
-use Rattle.radix_node.proofs.Level.{edges_out, edges_roll}
+use Rattle.radix_node.proofs.Splices.{spliced_map}
+use Rattle.radix_node.proofs.Levels.{edges_out, edges_roll}
 use Rattle.radix_node.proofs.edges.Edges.spliced.Goals as goal
 
 pub returns : goal.returns
 returns c =
-    let es = (out-Edges c.args.self.now).nodes.items in
-    let front : map node_of c.push_shared.new.into.items ≡ map node_of (take c.args.start es) = grind (arith, common_steps) in
-    let back : map node_of c.push_shared-2.new.into.items ≡ map node_of c.push.new.self.items ++ map node_of (drop c.args.end es) = grind (arith, common_steps, take_rest) in
-    subst (λ (ns : List PlainNode). edges_of (roll-Edges (record { nodes = c.push_shared-2.new.into })) ≡ take c.args.start ns ++ node_of c.args.node ∷ drop c.args.end ns) (sym (edges_out c.args.self.now))
-    (edges_roll (record { nodes = c.push_shared-2.new.into })
-    ∙ spliced_map node_of es c.push_shared.new.into.items c.push.new.self.items c.push_shared-2.new.into.items c.args.node c.args.start c.args.end front c.in_ok-push.ensures.items back)
+    let es = (out-Edges c.args.self.now).edges.items in
+    let front : map edge_node c.push_shared.new.into.items ≡ map edge_node (take c.args.start es) = grind (arith, common_steps) in
+    let back : map edge_node c.push_shared-2.new.into.items ≡ map edge_node c.push.new.self.items ++ map edge_node (drop c.args.end es) = grind (arith, common_steps, take_rest) in
+    subst (λ (ns : List PlainNode). edges_of (roll-Edges (record { edges = c.push_shared-2.new.into })) ≡ take c.args.start ns ++ edge_node c.args.edge ∷ drop c.args.end ns) (sym (edges_out c.args.self.now))
+    (edges_roll (record { edges = c.push_shared-2.new.into })
+    ∙ spliced_map edge_node es c.push_shared.new.into.items c.push.new.self.items c.push_shared-2.new.into.items c.args.edge c.args.start c.args.end front c.in_ok-push.ensures.items back)

@@ -1,45 +1,39 @@
 -- The steps of the walk down, which keeps the last leaf that it met.
-use Rattle.std.proofs.Common.{◌≡◌, ◌∙◌, Option, Some, None, option_map, refl, ap}
-use Rattle.std.specs.Option.{option_or}
-use Rattle.radix_node.specs.Node.{below, plain_node, shared_pair}
-use Rattle.radix_node.specs.Pairs.{Pair}
-use Rattle.radix_node.specs.Tree.{plain_of}
-use Rattle.radix_node.proofs.LastLeaf.{or_else, best_begins, best_end, best_no_edge, best_parted, best_edge, best_shorter}
-use Rattle.radix_node.proofs.Placed.{rise_from_shape}
+use Rattle.std.proofs.Common.{◌≡◌, ◌∙◌, Option, Some, None, refl, ap}
+use Rattle.std.specs.Option.{option_copied, option_or}
+use Rattle.std.specs.Borrow.{Bor}
+use Rattle.mdb_datum.specs.Row.{Pair}
+use Rattle.radix_node.specs.Node.{plain_node}
+use Rattle.radix_node.proofs.EdgeSearch.{rise_from_shape}
+use Rattle.radix_node.proofs.LongestPrefix.{or_else, best_root, best_no_edge, best_parted, best_edge}
+use Rattle.radix_node.proofs.LookupSteps.{left_shorter}
 use Rattle.radix_node.proofs.tree.Tree.last_on_path.Goals as goal
 
-or_mapped : {A : Type 0} (f : A → Pair) (x y : Option A) → option_map f (option_or x y) ≡ or_else (option_map f x) (option_map f y)
-or_mapped f None y = refl
-or_mapped f (Some a) y = refl
+or_copied : (x y : Option (Bor Pair)) → option_copied (option_or x y) ≡ or_else (option_copied x) (option_copied y)
+or_copied None y = refl
+or_copied (Some a) y = refl
 
 pub loop-first-init : goal.loop-first-init
-loop-first-init c =
-    best_begins c.args.key.now (plain_of c.args.self.now) (plain_node c.node-node.result.now) _ c.root.ensures.shape
-    (ap below c.node-node.ensures ∙ c.root.ensures.root) c.leaf-best.ensures
+loop-first-init c = best_root c.args.key.now c.args.self.now (plain_node c.root-node.result.now) _ c.root-node.ensures.shape c.root-node.ensures.root c.leaf-best.ensures
 
-pub edge_of-requires : goal.edge_of-requires
-edge_of-requires c = rise_from_shape c.loop-first.invariant.path _ c.loop-first.invariant.shaped
+pub child-requires : goal.child-requires
+child-requires c = rise_from_shape c.loop-first.invariant.path _ c.loop-first.invariant.shaped
 
-pub returns-in_default-edge_of : goal.returns-in_default-edge_of
-returns-in_default-edge_of c =
-    best_no_edge _ _ c.loop-first.rest.now (plain_node c.loop-first.node.now) c.loop-first.invariant c.in-Some.first.now c.in-Some.ensures.value c.in_default-edge_of.ensures
+pub returns-in_default-child : goal.returns-in_default-child
+returns-in_default-child c =
+    best_no_edge _ _ c.loop-first.rest.now (plain_node c.loop-first.node.now) c.loop-first.invariant c.in-Some.first.now c.in-Some.after.now c.in-Some.ensures.cases.0 c.in_default-child.ensures
 
-pub returns-in_default-left : goal.returns-in_default-left
-returns-in_default-left c =
-    best_parted _ _ c.loop-first.rest.now (plain_node c.loop-first.node.now) c.loop-first.invariant c.in-Some.first.now c.in-Some.ensures.value
-    (plain_node c.node-node-in-Some.result.now) (ap Some c.node-node-in-Some.ensures ∙ c.in-Some-edge_of.ensures) c.in_default-left.ensures
+pub returns-in_default-strip_prefix : goal.returns-in_default-strip_prefix
+returns-in_default-strip_prefix c =
+    best_parted _ _ c.loop-first.rest.now (plain_node c.loop-first.node.now) c.loop-first.invariant c.in-Some.first.now c.in-Some.after.now c.in-Some.ensures.cases.0
+    (plain_node c.in-Some-child.child.now) c.in-Some-child.ensures c.in_default-strip_prefix.ensures
 
 pub loop-first-smaller : goal.loop-first-smaller
-loop-first-smaller c =
-    best_shorter _ _ c.loop-first.rest.now (plain_node c.loop-first.node.now) c.loop-first.invariant c.in-Some.first.now c.in-Some.ensures.value
-    (plain_node c.node-node-in-Some.result.now) (ap Some c.node-node-in-Some.ensures ∙ c.in-Some-edge_of.ensures) c.in-Some-left.left.now c.in-Some-left.ensures
+loop-first-smaller c = left_shorter c.in-Some.first.now _ c.loop-first.rest.now c.in-Some.after.now c.in-Some-strip_prefix.left.now c.in-Some.ensures.cases.0 c.in-Some-strip_prefix.ensures
 
 pub loop-first-preserved : goal.loop-first-preserved
 loop-first-preserved c =
-    best_edge _ _ c.loop-first.rest.now (plain_node c.loop-first.node.now) c.loop-first.invariant c.in-Some.first.now c.in-Some.ensures.value
-    (plain_node c.node-node-in-Some.result.now) (ap Some c.node-node-in-Some.ensures ∙ c.in-Some-edge_of.ensures) c.in-Some-left.left.now
-    (option_map (λ a. shared_pair a.now) c.or-best.result) c.in-Some-left.ensures
-    (ap (option_map _) c.or-best.ensures ∙ or_mapped _ c.leaf.result c.loop-first.best ∙ ap (λ (o : Option Pair). or_else o (option_map (λ a. shared_pair a.now) c.loop-first.best)) c.leaf.ensures)
-
-pub returns : goal.returns
-returns c = best_end _ _ c.loop-first.rest.now (plain_node c.loop-first.node.now) c.loop-first.invariant c.in_default.ensures.value
+    best_edge _ _ c.loop-first.rest.now (plain_node c.loop-first.node.now) c.loop-first.invariant c.in-Some.first.now c.in-Some.after.now c.in-Some.ensures.cases.0
+    (plain_node c.in-Some-child.child.now) c.in-Some-child.ensures c.in-Some-strip_prefix.left.now
+    (option_copied c.or-best.result) c.in-Some-strip_prefix.ensures
+    (ap option_copied c.or-best.ensures ∙ or_copied c.leaf.result c.loop-first.best ∙ ap (λ (o : Option Pair). or_else o (option_copied c.loop-first.best)) c.leaf.ensures)

@@ -1,40 +1,48 @@
--- The steps of the walk down.
-use Rattle.std.proofs.Common.{◌∙◌, [], Some, option_map, refl, sym, ap, subst}
-use Rattle.radix_node.specs.Node.{plain_node, node_of}
-use Rattle.radix_node.specs.Seek.{seek_plain}
-use Rattle.radix_node.specs.Tree.{plain_of}
-use Rattle.radix_node.proofs.Placed.{rise_from_shape}
-use Rattle.radix_node.proofs.Steps.{IsOn, on_end, on_no_edge, on_parted, on_edge, on_shorter}
+-- The steps of the walk down to the node that a prefix leads to.
+use Rattle.std.proofs.Common.{◌++◌, ◌∷◌, ◌∙◌, ℕ, List, Option, option_map, sym, ap}
+use Rattle.std.specs.Borrow.{Bor}
+use Rattle.std.specs.Prelude.{nat_eq}
+use Rattle.std.specs.List.{starts_with}
+use Rattle.radix_node.specs.declared.node.Node.{Node}
+use Rattle.radix_node.specs.Node.{pairs_at, plain_node}
+use Rattle.radix_node.proofs.EdgeSearch.{rise_from_shape}
+use Rattle.radix_node.proofs.LookupSteps.{child_shaped, left_shorter}
+use Rattle.radix_node.proofs.PrefixSeek.{prefix_root, prefix_no_edge, prefix_within, prefix_outside, prefix_edge}
 use Rattle.radix_node.proofs.tree.Tree.seek.Goals as goal
 
 pub loop-first-init : goal.loop-first-init
-loop-first-init c =
-    let at_root : IsOn (seek_plain c.args.key.now (plain_of c.args.self.now)) c.args.key.now (node_of c.args.self.now.root) = record { path = []; shaped = c.args.self.now.shape.nodes; same = refl } in
-    subst (IsOn (seek_plain c.args.key.now (plain_of c.args.self.now)) c.args.key.now) (sym c.node-node.ensures) at_root
+loop-first-init c = prefix_root c.args.prefix.now c.args.self.now (plain_node c.root-node.result.now) c.root-node.ensures.shape c.root-node.ensures.root
 
-pub edge_of-requires : goal.edge_of-requires
-edge_of-requires c = rise_from_shape c.loop-first.invariant.path _ c.loop-first.invariant.shaped
+pub child-requires : goal.child-requires
+child-requires c = rise_from_shape c.loop-first.invariant.path _ c.loop-first.invariant.shaped
 
-pub returns-in_err-edge_of : goal.returns-in_err-edge_of
-returns-in_err-edge_of c =
-    ap (option_map _) c.from_residual.ensures
-    ∙ on_no_edge _ c.loop-first.rest.now (plain_node c.loop-first.node.now) c.loop-first.invariant c.in-Some.first.now c.in-Some.ensures.value c.in_err-edge_of.ensures
-
-pub returns-in_err-rest : goal.returns-in_err-rest
-returns-in_err-rest c =
-    ap (option_map _) c.from_residual-in_err-rest.ensures
-    ∙ on_parted _ c.loop-first.rest.now (plain_node c.loop-first.node.now) c.loop-first.invariant c.in-Some.first.now c.in-Some.ensures.value
-    (plain_node c.node-node-in-Some.result.now) (ap Some c.node-node-in-Some.ensures ∙ c.in_ok-edge_of.ensures) c.in_err-rest.ensures
+pub returns-in_err-node-clause-pairs : goal.returns-in_err-node-clause-pairs
+returns-in_err-node-clause-pairs c =
+    ap (λ (r : Option (Bor Node)). pairs_at (option_map (λ n. plain_node n.now) r)) c.from_residual.ensures
+    ∙ prefix_no_edge _ c.loop-first.rest.now (plain_node c.loop-first.node.now) c.loop-first.invariant c.in-Some.first.now c.in-Some.after.now c.in-Some.ensures.cases.0 c.in_err-node.ensures
 
 pub loop-first-smaller : goal.loop-first-smaller
-loop-first-smaller c =
-    on_shorter _ c.loop-first.rest.now (plain_node c.loop-first.node.now) c.loop-first.invariant c.in-Some.first.now c.in-Some.ensures.value
-    (plain_node c.node-node-in-Some.result.now) (ap Some c.node-node-in-Some.ensures ∙ c.in_ok-edge_of.ensures) c.in_ok-rest.rest.now c.in_ok-rest.ensures
+loop-first-smaller c = left_shorter c.in-Some.first.now _ c.loop-first.rest.now c.in-Some.after.now c.in-Some-strip_prefix.left.now c.in-Some.ensures.cases.0 c.in-Some-strip_prefix.ensures
 
 pub loop-first-preserved : goal.loop-first-preserved
 loop-first-preserved c =
-    on_edge _ c.loop-first.rest.now (plain_node c.loop-first.node.now) c.loop-first.invariant c.in-Some.first.now c.in-Some.ensures.value
-    (plain_node c.node-node-in-Some.result.now) (ap Some c.node-node-in-Some.ensures ∙ c.in_ok-edge_of.ensures) c.in_ok-rest.rest.now c.in_ok-rest.ensures
+    prefix_edge _ c.loop-first.rest.now (plain_node c.loop-first.node.now) c.loop-first.invariant c.in-Some.first.now c.in-Some.after.now c.in-Some.ensures.cases.0
+    (plain_node c.in_ok-node.node.now) c.in_ok-node.ensures c.in-Some-strip_prefix.left.now c.in-Some-strip_prefix.ensures
 
-pub returns : goal.returns
-returns c = c.leaf.ensures ∙ on_end _ c.loop-first.rest.now (plain_node c.loop-first.node.now) c.loop-first.invariant c.in_default.ensures.value
+pub returns-in-None-clause-pairs : goal.returns-in-None-clause-pairs
+returns-in-None-clause-pairs c =
+    prefix_within _ c.loop-first.rest.now (plain_node c.loop-first.node.now) c.loop-first.invariant c.in-Some.first.now c.in-Some.after.now c.in-Some.ensures.cases.0
+    (plain_node c.in_ok-node.node.now) c.in_ok-node.ensures c.in-None.ensures
+    (ap (λ (p : List ℕ). starts_with nat_eq p c.in-Some.after.now) (sym c.prefix.ensures) ∙ sym c.starts_with.ensures.value ∙ c.if-starts_with.true)
+
+pub returns-in-None-clause-shape : goal.returns-in-None-clause-shape
+returns-in-None-clause-shape c = (
+  c.loop-first.invariant.path ++ c.in-Some.first.now ∷ (plain_node c.in_ok-node.node.now).prefix,
+  child_shaped c.loop-first.invariant.path c.in-Some.first.now _ (plain_node c.in_ok-node.node.now) c.loop-first.invariant.shaped c.in_ok-node.ensures,
+)
+
+pub returns-in-None-2-clause-pairs : goal.returns-in-None-2-clause-pairs
+returns-in-None-2-clause-pairs c =
+    prefix_outside _ c.loop-first.rest.now (plain_node c.loop-first.node.now) c.loop-first.invariant c.in-Some.first.now c.in-Some.after.now c.in-Some.ensures.cases.0
+    (plain_node c.in_ok-node.node.now) c.in_ok-node.ensures c.in-None-2.ensures
+    (ap (λ (p : List ℕ). starts_with nat_eq p c.in-Some.after.now) (sym c.prefix.ensures) ∙ sym c.starts_with.ensures.value ∙ c.if-starts_with.false)

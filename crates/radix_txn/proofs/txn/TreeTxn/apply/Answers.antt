@@ -1,16 +1,12 @@
--- One write more, and the paths that the keys tell.
-use Rattle.radix_txn.specs.Txn.{txn_pairs}
-use Rattle.radix_txn.proofs.Writes.{after_more, paths_stand}
+-- The law of all trees, for the tree that the transaction has now.
+use Rattle.std.proofs.Common.{◌↔◌, ap, subst}
+use Rattle.mdb_datum.specs.Bytes.{Bytes}
+use Rattle.radix_node.specs.Nodes.{Plain, pairs_of}
+use Rattle.radix_node.specs.Paths.{Has, IsPath, paths_of_plain}
+use Rattle.radix_txn.specs.Txn.{Txn}
 use Rattle.radix_txn.proofs.txn.TreeTxn.apply.Goals as goal
 
 pub returns-clause-paths : goal.returns-clause-paths
-returns-clause-paths c = paths_stand c.loop-write.self
-
-pub returns-in_err-make-clause-paths : goal.returns-in_err-make-clause-paths
-returns-in_err-make-clause-paths c = paths_stand c.make.new.self
-
-pub loop-write-preserved : goal.loop-write-preserved
-loop-write-preserved c = record {
-  pairs = after_more c.args.writes.now c.loop-write.write-index c.write-item.result _ (txn_pairs c.loop-write.self) (txn_pairs c.make.new.self) c.loop-write-test.true c.write-item.is c.loop-write.invariant.pairs c.in_ok-make.ensures.pairs;
-  sound = c.in_ok-make.ensures.spoiled;
-}
+returns-clause-paths c =
+    subst (λ (t : Plain). (path : Bytes) → Has path (paths_of_plain t) ↔ IsPath (pairs_of t) path) (ap (λ (t : Txn). t.tree) c.self.view_is)
+    c.paths_are_told_by_the_keys.ensures.told

@@ -1,0 +1,3 @@
+pub mod RowView
+pub mod Stored
+pub mod Tokens

@@ -1,0 +1,9 @@
+pub mod ArgReading
+pub mod KeyLength
+pub mod Piece
+pub mod Refusals
+pub mod RowReading
+pub mod Stored
+pub mod Tally
+pub mod Texts
+pub mod UuidStart

@@ -1,0 +1,4 @@
+pub mod ArgKeys
+pub mod RowKeys
+pub mod Samples
+pub mod UuidKeys

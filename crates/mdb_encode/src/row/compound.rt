@@ -1,0 +1,95 @@
+//! The key of a row under several parts, joined.
+ghost use Rattle.std.specs.Prelude.{◌≡◌, ◌∷◌, [], IfOk, Ok, OnOk};
+ghost use Rattle.mdb_encode.specs.Answers.{AnswersKeys};
+ghost use Rattle.mdb_encode.specs.Keys.{joined_keys, limited};
+ghost use Rattle.mdb_encode.specs.Kind.{parts_of};
+ghost use Rattle.mdb_encode.specs.Lawful.{AreParts};
+ghost use Rattle.mdb_encode.specs.inner.KeyLength.{MeasuresKey, HasOneKey};
+
+use super::part::read_part;
+use crate::limit::LONGEST_KEY;
+use crate::refusal::KeyRefusal;
+use crate::{Key, KeyError, Keys, Kinds};
+use mdb_datum::Row;
+use std::alloc::{AllocError, Global};
+
+/// The key of a row under several parts. It takes memory once it is known that no part is refused.
+pub(crate) fn compound_keys(
+    alloc: Global,
+    parts: &Kinds,
+    allow_missing: bool,
+    row: &Row,
+) -> Result<Keys, KeyError>
+    requires { AreParts (parts_of parts.now) }
+    ensures { AnswersKeys
+        (limited (joined_keys allow_missing [] (parts_of parts.now) row.now)) result }
+{
+    match compound_len(parts, allow_missing, row)? {
+        None => Ok(Keys::new(alloc)),
+        Some(len) if len > LONGEST_KEY => Err(KeyError::TooLong),
+        Some(len) => {
+            let key = compound_key(alloc, parts, allow_missing, row, len)?;
+            Ok(Keys::of(alloc, key)?)
+        }
+    }
+}
+
+/// How many bytes the key has, or the greatest count that there is; nothing where the row has no
+/// key.
+fn compound_len(parts: &Kinds, allow_missing: bool, row: &Row) -> Result<Option<usize>, KeyRefusal>
+    requires { AreParts (parts_of parts.now) }
+    ensures { MeasuresKey
+        (joined_keys allow_missing [] (parts_of parts.now) row.now) result }
+{
+    let mut len: usize = 0;
+    for part in parts.iter() {
+        match read_part(part, row)? {
+            Some(piece) => len = len.saturating_add(piece.len()),
+            None if allow_missing => return Ok(Some(len)),
+            None => return Ok(None),
+        }
+    }
+    Ok(Some(len))
+}
+
+/// The key of a row that has one, in memory for so many bytes.
+fn compound_key(
+    alloc: Global,
+    parts: &Kinds,
+    allow_missing: bool,
+    row: &Row,
+    len: usize,
+) -> Result<Key, AllocError>
+    requires parts { AreParts (parts_of parts.now) }
+    requires one { HasOneKey (joined_keys allow_missing [] (parts_of parts.now) row.now) }
+    ensures { IfOk result (λ key.
+        joined_keys allow_missing [] (parts_of parts.now) row.now ≡ Ok (key ∷ [])) }
+{
+    let mut bytes = Vec::with_capacity(alloc, len)?;
+    write_parts(parts, allow_missing, row, &mut bytes)?;
+    Ok(Key::of(bytes))
+}
+
+/// Writes the key of a row that has one into an empty buffer.
+fn write_parts(
+    parts: &Kinds,
+    allow_missing: bool,
+    row: &Row,
+    bytes: &mut Vec<u8>,
+) -> Result<(), AllocError>
+    requires parts { AreParts (parts_of parts.now) }
+    requires one { HasOneKey (joined_keys allow_missing [] (parts_of parts.now) row.now) }
+    requires empty { bytes.old.items ≡ [] }
+    ensures { OnOk result (joined_keys allow_missing [] (parts_of parts.now) row.now
+        ≡ Ok (bytes.new.items ∷ [])) }
+{
+    for part in parts.iter() {
+        match read_part(part, row) {
+            Ok(Some(piece)) => piece.write(bytes)?,
+            // A row that has a key lacks a part only where the key may end there.
+            Ok(None) => return Ok(()),
+            Err(_) => unreachable!(),
+        }
+    }
+    Ok(())
+}

@@ -1,0 +1,9 @@
+pub mod Edits
+pub mod IndexView
+pub mod IndexerAnswer
+pub mod ListAnswer
+pub mod QueryView
+pub mod Regular
+pub mod Stored
+pub mod StoredQuery
+pub mod TableView

@@ -1,0 +1,12 @@
+pub mod Apart
+pub mod DeclaredNames
+pub mod Documents
+pub mod EachKind
+pub mod OneRule
+pub mod Sample
+pub mod TwoRules
+pub mod WholeSchemas
+pub mod WorkedKinds
+pub mod WorkedQuestions
+pub mod WorkedRefusals
+pub mod WorkedWrites

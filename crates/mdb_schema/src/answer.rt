@@ -1,0 +1,11 @@
+//! The answer to a question.
+use crate::rows::Rows;
+use mdb_datum::Row;
+
+/// What a question is answered: `First`, `Last` and `Longest` by one row at most, the others by a
+/// list.
+#[derive(Drop)]
+pub enum Answer {
+    One(Option<Row>),
+    Many(Rows),
+}

@@ -1,0 +1,24 @@
+//! What is known of every state, as laws of the definitions. Each function does nothing: its contract
+//! is the law.
+ghost use Rattle.mdb_schema.specs.Laws.{StepKeeps, HistoryKeeps, EachKeyIsAnEntry, EachEntryIsAKey, EntriesRise, WipeLeaves, WipeOfNothing};
+
+/// A write that is accepted keeps a lawful state lawful, and so the state after any commits is lawful.
+pub fn writes_keep_states_lawful()
+    ensures step { StepKeeps }
+    ensures history { HistoryKeeps }
+{}
+
+/// In lawful rows the entries of an index are the full keys of the rows, each with its row, and no
+/// two entries have one key.
+pub fn entries_are_the_full_keys()
+    ensures keys { EachKeyIsAnEntry }
+    ensures entries { EachEntryIsAKey }
+    ensures rising { EntriesRise }
+{}
+
+/// A wipe leaves in its table the rows that it doesn't list, and the other tables as they are. One
+/// that lists no row changes nothing.
+pub fn wipes_take_out_what_they_list()
+    ensures leaves { WipeLeaves }
+    ensures nothing { WipeOfNothing }
+{}

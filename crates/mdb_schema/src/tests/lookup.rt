@@ -1,0 +1,76 @@
+//! The places of tables and indexes by their names.
+use super::*;
+
+const FILE: &str = r#"{"memdb":1,"tables":{
+"keys":{"indexes":{"id":{"unique":true,"indexer":$}}},
+"notes":{"indexes":{"id":{"unique":true,"indexer":$}}},
+"rules":{"indexes":{"id":{"unique":true,"indexer":$},"path":{"indexer":$}}},
+"users":{"indexes":{"age":{"indexer":$},"id":{"unique":true,"indexer":$},
+"mail":{"indexer":$},"tags":{"indexer":$}}}}}"#;
+
+/// Names, and the places of the tables of these names.
+const TABLE_PLACES: [(&str, Option<usize>); 11] = [
+    ("keys", Some(0)),
+    ("notes", Some(1)),
+    ("rules", Some(2)),
+    ("users", Some(3)),
+    ("", None),
+    ("a", None),
+    ("key", None),
+    ("keyss", None),
+    ("m", None),
+    ("user", None),
+    ("z", None),
+];
+
+/// Names, and the places of the indexes of these names in the table `users`.
+const INDEX_PLACES: [(&str, Option<usize>); 10] = [
+    ("age", Some(0)),
+    ("id", Some(1)),
+    ("mail", Some(2)),
+    ("tags", Some(3)),
+    ("", None),
+    ("ID", None),
+    ("i", None),
+    ("idx", None),
+    ("name", None),
+    ("zz", None),
+];
+
+/// Whether tables stand at their places.
+fn have_table_places(schema: &Schema) -> bool {
+    for (name, place) in &TABLE_PLACES {
+        if schema.find(name) != *place {
+            return false;
+        }
+    }
+    true
+}
+
+/// Whether the indexes of the table `users` stand at their places.
+fn have_index_places(users: &TableDef) -> bool {
+    for (name, place) in &INDEX_PLACES {
+        if users.find(name) != *place {
+            return false;
+        }
+    }
+    users.len() == 4 && users.index(4).is_none()
+}
+
+/// Whether the schema's tables and the indexes of `users` stand at their places.
+fn have_places(schema: &Schema) -> bool {
+    match schema.table(3) {
+        Some(users) => have_table_places(schema) && have_index_places(users),
+        None => false,
+    }
+}
+
+#[test]
+fn a_name_is_found_at_its_place(rt: HostRuntime) -> Result<(), AllocError> {
+    let file = file_of(rt.alloc(), FILE, "")?;
+    match read_schema(rt.alloc(), file.as_bytes()) {
+        Ok(schema) => assert!(rt; have_places(&schema)),
+        Err(_) => assert!(rt; false, "no schema"),
+    }
+    Ok(())
+}

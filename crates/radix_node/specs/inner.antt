@@ -1,0 +1,3 @@
+pub mod Seek
+pub mod Stored
+pub mod TreeView

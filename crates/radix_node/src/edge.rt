@@ -1,0 +1,50 @@
+ghost use Rattle.std.specs.Prelude.{◌≡◌, IfOk};
+ghost use Rattle.radix_node.specs.Node.{plain_edge, plain_node, node_of};
+
+use crate::node::Node;
+use crate::node_ref::NodeRef;
+use std::alloc::AllocError;
+
+/// An edge of a node: a byte, its label, and the node that it leads to. The label is kept here
+/// alone, so that a search among edges looks at one array; the node's own prefix comes after it.
+#[cycle(node)]
+#[derive(Drop)]
+pub struct Edge {
+    label: u8,
+    pub(crate) node: NodeRef,
+}
+
+#[tactic(auto, using(crate::proofs::Levels::out_label, crate::proofs::Levels::out_node, crate::proofs::Levels::edge_roll))]
+impl Edge {
+    /// The edge of a byte to a node.
+    pub fn of(label: u8, node: NodeRef) -> Edge
+        ensures { plain_edge result ≡ record { label = label; node = node_of node } }
+    {
+        Edge { label, node }
+    }
+
+    /// The byte that leads to the node.
+    pub fn label(&self) -> u8
+        ensures { let e = plain_edge self.now in result ≡ e.label }
+    {
+        self.label
+    }
+
+    /// The node.
+    pub fn node(&self) -> &Node
+        ensures { let e = plain_edge self.now in plain_node result.now ≡ e.node }
+    {
+        self.node.node()
+    }
+
+    /// An edge of the same byte to the same node, which has one owner more. It takes no memory, and
+    /// is refused as [`NodeRef::share`] is.
+    pub fn share(&self) -> Result<Edge, AllocError>
+        ensures { IfOk result (λ e. plain_edge e ≡ plain_edge self.now) }
+    {
+        Ok(Edge {
+            label: self.label,
+            node: self.node.share()?,
+        })
+    }
+}

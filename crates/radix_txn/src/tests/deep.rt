@@ -1,0 +1,64 @@
+// A tree as deep as keys are long: one key for each number of letters from none to 2,048.
+use super::written::{put, row, stand, take, take_all};
+use crate::{Edit, TreeTxn};
+use mdb_datum::Row;
+use radix_node::Tree;
+use std::alloc::{AllocError, Global};
+use std::test::Fail;
+use std::thread;
+
+const LETTERS: [u8; 2048] = [b'a'; 2048];
+
+// Puts all the keys, the shortest or the longest first.
+fn put_all(txn: &mut TreeTxn, row: &Row, longest_first: bool) -> Result<(), AllocError> {
+    for turn in 0..=2048usize {
+        let len = if longest_first { 2048 - turn } else { turn };
+        put(txn, &LETTERS[..len], row)?;
+    }
+    Ok(())
+}
+
+// Takes out the deepest key, and then the 1,024 that have 1,024 letters or more.
+fn take_deep(txn: &mut TreeTxn) -> Result<bool, AllocError> {
+    let deepest = take(txn, &LETTERS)?;
+    let count = take_all(txn, &LETTERS[..1024])?;
+    Ok(deepest.is_some() && count == 1024 && txn.len() == 1024)
+}
+
+fn is_deep(tree: &Tree) -> bool {
+    tree.get(&LETTERS).is_some()
+        && tree.longest(&LETTERS).is_some()
+        && tree.len() == 2049
+        && tree.root().count() == 2049
+}
+
+// Whether the tree is as deep, and its look-ups and deletes are right. Both trees are dropped.
+fn deep_run(alloc: Global, row: &Row, longest_first: bool) -> Result<bool, AllocError> {
+    let mut txn = Tree::empty(alloc)?.txn()?;
+    put_all(&mut txn, row, longest_first)?;
+    let tree = stand(&mut txn)?;
+    let taken = take_deep(&mut txn)?;
+    Ok(taken && is_deep(&tree))
+}
+
+#[test]
+fn a_tree_may_be_2049_nodes_deep(rt: HostRuntime) -> Result<(), Fail> {
+    let row = row(rt.alloc(), 1)?;
+    assert!(rt; deep_run(rt.alloc(), &row, false)?);
+    assert!(rt; deep_run(rt.alloc(), &row, true)?);
+    Ok(())
+}
+
+#[test]
+fn a_deep_tree_may_be_made_in_a_thread(rt: HostRuntime) -> Result<(), Fail> {
+    let alloc = rt.alloc();
+    let row = row(alloc, 1)?;
+    let second = row.share()?;
+    let (lent, moved) = thread::join(
+        &rt,
+        || deep_run(alloc, &row, false),
+        move || deep_run(alloc, &second, true),
+    );
+    assert!(rt; lent? && moved?);
+    Ok(())
+}
