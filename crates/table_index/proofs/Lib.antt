@@ -1,0 +1,9 @@
+pub mod Answered
+pub mod EditSteps
+pub mod FullKeys
+pub mod HeldRows
+pub mod IdRead
+pub mod KeyLoops
+pub mod Removals
+pub mod RowKeys
+pub mod Taken

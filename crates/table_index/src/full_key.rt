@@ -1,0 +1,123 @@
+//! The full keys of a row in one index.
+ghost use Rattle.std.specs.Prelude.{◌≡◌, ◌≤◌, IfOk, All, length, map, option_map, slice_get};
+ghost use Rattle.mdb_encode.specs.Bytes.{Bytes};
+ghost use Rattle.mdb_schema.specs.State.{full_key};
+ghost use Rattle.table_index.specs.inner.Keys.{IsShort};
+
+use crate::id_key::IdKey;
+use mdb_encode::{Key, Keys};
+use mdb_schema::IndexDef;
+use std::alloc::{AllocError, Global};
+use std::marker::Model;
+
+/// The bytes under which a tree holds a row, at most 2,048, seen as the list of these bytes.
+#[derive(Drop)]
+pub(crate) struct FullKey {
+    bytes: Vec<u8>,
+}
+
+impl Model for FullKey {
+    ghost use Rattle.std.specs.Prelude.{List, ℕ, ◌≤◌, length};
+
+    ghost Value = { List ℕ };
+
+    ghost view = { λ k. k.bytes.items };
+
+    ghost invariant = { λ k. length k.bytes.items ≤ 2048 };
+}
+
+impl FullKey {
+    /// The full key of a key: of a unique index the key alone, else the key and behind it the row's
+    /// `id` key. It takes memory for the bytes.
+    fn of(alloc: Global, index: &IndexDef, id: &IdKey, key: &Key) -> Result<FullKey, AllocError>
+        requires { IsShort key.now }
+        ensures { IfOk result (λ k. k ≡ full_key index.now id.now key.now) }
+    {
+        let mut bytes = key.bytes().to_vec(alloc)?;
+        if !index.unique() {
+            bytes.extend_from_slice(id.bytes())?;
+        }
+        Ok(FullKey { bytes })
+    }
+
+    /// The bytes.
+    pub(crate) fn bytes(&self) -> &[u8]
+        ensures bytes { result.now ≡ self.now }
+        ensures short { length result.now ≤ 2048 }
+    {
+        self.bytes.as_slice()
+    }
+}
+
+/// The full keys of one row in one index, seen as a list of byte strings.
+#[derive(Drop)]
+pub(crate) struct FullKeys {
+    keys: Vec<FullKey>,
+}
+
+impl Model for FullKeys {
+    ghost use Rattle.std.specs.Prelude.{List, ℕ};
+
+    ghost Value = { List (List ℕ) };
+
+    ghost view = { λ ks. ks.keys.items };
+}
+
+impl FullKeys {
+    /// The full keys of a row's keys in an index. It takes memory for them.
+    pub(crate) fn of(
+        alloc: Global,
+        index: &IndexDef,
+        id: &IdKey,
+        keys: &Keys,
+    ) -> Result<FullKeys, AllocError>
+        requires { All IsShort keys.now }
+        ensures { IfOk result (λ found. found ≡ map (full_key index.now id.now) keys.now) }
+    {
+        let mut full = Vec::with_capacity(alloc, keys.len())?;
+        for at in 0..keys.len() {
+            let Some(key) = keys.get(at) else {
+                unreachable!();
+            };
+            full.push(FullKey::of(alloc, index, id, key)?)?;
+        }
+        Ok(FullKeys { keys: full })
+    }
+
+    /// The keys.
+    pub(crate) fn keys(&self) -> &[FullKey]
+        ensures { result.now ≡ self.now }
+    {
+        self.keys.as_slice()
+    }
+}
+
+/// The full keys of one row in each index of a table, seen as a list of lists of byte strings.
+#[derive(Drop)]
+pub(crate) struct RowKeys {
+    keys: Vec<FullKeys>,
+}
+
+impl Model for RowKeys {
+    ghost use Rattle.std.specs.Prelude.{List, ℕ};
+
+    ghost Value = { List (List (List ℕ)) };
+
+    ghost view = { λ ks. ks.keys.items };
+}
+
+impl RowKeys {
+    /// These full keys, each at its index's place.
+    pub(crate) fn of(keys: Vec<FullKeys>) -> RowKeys
+        ensures { result ≡ keys.items }
+    {
+        RowKeys { keys }
+    }
+
+    /// The full keys, each at its index's place.
+    pub(crate) fn lists(&self) -> &[FullKeys]
+        ensures { result.now ≡ self.now }
+    {
+        self.keys.as_slice()
+    }
+}

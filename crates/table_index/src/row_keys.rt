@@ -1,0 +1,108 @@
+//! The keys of a row in the indexes of a table, with the refusals that come of them.
+ghost use Rattle.std.specs.Prelude.{◌≡◌, ◌<◌, All, IfOk, length};
+ghost use Rattle.mdb_encode.specs.Keys.{keys};
+ghost use Rattle.mdb_schema.specs.Write.{id_of, indexes_of, keys_at};
+ghost use Rattle.mdb_schema.specs.Tests.{each};
+ghost use Rattle.table_index.specs.inner.Keys.{Answers, IsShort, full_keys_at, told_at};
+
+use crate::full_key::{FullKeys, RowKeys};
+use crate::id_key::IdKey;
+use mdb_datum::Row;
+use mdb_encode::{KeyError, Keys, keys_of};
+use mdb_schema::{IndexDef, TableDef, WriteError};
+use std::alloc::Global;
+
+/// An index's place as errors tell it.
+fn told_place(def: &TableDef, at: usize) -> u32
+    requires { at < length def.now.indexes }
+    ensures { result ≡ at }
+{
+    let count = def.len();
+    prove!(at < count);
+    at as u32
+}
+
+/// Why a row has no keys in the index at a place.
+fn told(place: u32, error: KeyError) -> WriteError
+    ensures { result ≡ told_at place error }
+{
+    match error {
+        KeyError::Memory => WriteError::Memory,
+        KeyError::WrongKind => WriteError::WrongKind { index: place },
+        KeyError::OutOfRange => WriteError::OutOfRange { index: place },
+        KeyError::BadUuid => WriteError::BadUuid { index: place },
+        KeyError::TooMany => WriteError::TooMany { index: place },
+        KeyError::TooLong => WriteError::TooLong { index: place },
+    }
+}
+
+/// The keys of a row in the index at a place.
+fn keys_in(alloc: Global, place: u32, index: &IndexDef, row: &Row) -> Result<Keys, WriteError>
+    ensures answers { Answers (keys_at place (keys index.now.indexer row.now)) result }
+    ensures short { IfOk result (λ found. All IsShort found) }
+{
+    match keys_of(alloc, index.kind(), row) {
+        Ok(found) => Ok(found),
+        Err(error) => Err(told(place, error)),
+    }
+}
+
+/// The `id` key of a row. It takes memory for the row's keys in the index `id`.
+pub(crate) fn id_key_of(alloc: Global, def: &TableDef, row: &Row) -> Result<IdKey, WriteError>
+    ensures { Answers (id_of def.now row.now) result }
+{
+    let Some(place) = def.find("id") else {
+        return Err(WriteError::NoId);
+    };
+    let Some(index) = def.index(place) else {
+        return Err(WriteError::NoId);
+    };
+    let found = match keys_in(alloc, told_place(def, place), index, row) {
+        Ok(found) => found,
+        Err(error) => return Err(error),
+    };
+    let Some(key) = found.get(0) else {
+        return Err(WriteError::NoId);
+    };
+    Ok(IdKey::of(alloc, key)?)
+}
+
+/// The full keys of a row in the index at a place, which has to take the row.
+fn full_keys_in(
+    alloc: Global,
+    place: u32,
+    index: &IndexDef,
+    id: &IdKey,
+    row: &Row,
+) -> Result<FullKeys, WriteError>
+    ensures { Answers (full_keys_at id.now row.now (place, index.now)) result }
+{
+    let found = keys_in(alloc, place, index, row)?;
+    if !index.allow_missing() && found.len() == 0 {
+        return Err(WriteError::Missing { index: place });
+    }
+    Ok(FullKeys::of(alloc, index, id, &found)?)
+}
+
+/// The full keys of a row in each index, if each takes the row. It takes memory for them, and time
+/// in their lengths.
+pub(crate) fn full_keys_of(
+    alloc: Global,
+    def: &TableDef,
+    id: &IdKey,
+    row: &Row,
+) -> Result<RowKeys, WriteError>
+    ensures { Answers (each (full_keys_at id.now row.now) (indexes_of def.now)) result }
+{
+    let mut found = Vec::new(alloc);
+    for at in 0..def.len() {
+        let Some(index) = def.index(at) else {
+            unreachable!();
+        };
+        match full_keys_in(alloc, told_place(def, at), index, id, row) {
+            Ok(keys) => found.push(keys)?,
+            Err(error) => return Err(error),
+        }
+    }
+    Ok(RowKeys::of(found))
+}
