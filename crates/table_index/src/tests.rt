@@ -1,7 +1,7 @@
 // What no clause says: that each call succeeds while there is memory.
 use crate::Table;
-use mdb_datum::{Datum, Row, read_doc};
-use mdb_schema::{WriteError, read_schema};
+use mdb_datum::{Datum, Items, Row, Text, read_doc};
+use mdb_schema::{Ask, Query, Rows, WriteError, read_schema};
 use std::alloc::Global;
 use std::test::Fail;
 
@@ -45,5 +45,39 @@ fn a_row_without_its_key_is_refused(rt: HostRuntime) -> Result<(), Fail> {
     let row = row_of(rt.alloc(), "{\"tags\":[]}")?;
     let mut txn = empty_table(rt.alloc())?.txn()?;
     assert!(rt; matches!(txn.remove(&row), Err(WriteError::NoId)));
+    Ok(())
+}
+
+/// A question of an index, without arguments.
+fn query_of(alloc: Global, table: &str, index: &str) -> Result<Query, Fail> {
+    let table = Text::of(alloc, table)?;
+    let index = Text::of(alloc, index)?;
+    Ok(Query::of(alloc, Ask::Lower, &table, &index, Items::new(alloc))?)
+}
+
+#[test]
+fn a_question_keeps_its_parts(rt: HostRuntime) -> Result<(), Fail> {
+    let query = query_of(rt.alloc(), "t", "id_prefix")?;
+    assert!(rt; query.ask() == Ask::Lower && query.args().len() == 0);
+    assert!(rt; query.table().as_str() == "t");
+    assert!(rt; query.index().as_str() == "id_prefix");
+    Ok(())
+}
+
+/// Whether the row at a place has this name.
+fn is_named(rows: &Rows, at: usize, want: &str) -> bool {
+    match rows.get(at) {
+        Some(row) => matches!(row.get("name"), Some(Datum::Str(name)) if name.as_str() == want),
+        None => false,
+    }
+}
+
+#[test]
+fn rows_are_kept_in_order(rt: HostRuntime) -> Result<(), Fail> {
+    let mut rows = Rows::new(rt.alloc());
+    rows.push(row_of(rt.alloc(), "{\"name\":\"b\"}")?)?;
+    rows.push(row_of(rt.alloc(), "{\"name\":\"a\"}")?)?;
+    assert!(rt; rows.len() == 2 && rows.iter().count() == 2);
+    assert!(rt; is_named(&rows, 0, "b") && is_named(&rows, 1, "a") && rows.get(2).is_none());
     Ok(())
 }
