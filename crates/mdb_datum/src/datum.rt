@@ -1,3 +1,4 @@
+//! Documents as values.
 ghost use Rattle.std.specs.Prelude.{◌≡◌, ◌++◌, ◌∷◌, [], length, is_ok, if◌then◌else◌, slice_get, option_map, map};
 ghost use Rattle.std.specs.Slice.Iter.{iter_rest};
 ghost use Rattle.mdb_datum.specs.Canonical.{NamesRise};

@@ -1,3 +1,4 @@
+//! Why a text is no document.
 ghost use Rattle.std.specs.Prelude.{◌≡◌};
 ghost use Rattle.mdb_datum.specs.declared.error.DocError.TheVariants.{Memory};
 

@@ -1,4 +1,4 @@
-// From a text to a document: `serde_json` reads the value, and what it owns is moved out of it.
+//! From a text to a document: `serde_json` reads the value, and what it owns is moved out of it.
 ghost use Rattle.std.specs.Prelude.{◌≡◌, ◌⊎◌, Some, None, option_map, IfSome, IfOk, IfErr, IsErrOf, IsUtf8, nat_lt};
 ghost use Rattle.serde_json.specs.Data.{depth, items_depth, members_depth};
 ghost use Rattle.serde_json.specs.Read.{read};

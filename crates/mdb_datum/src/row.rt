@@ -1,3 +1,4 @@
+//! Rows: shared objects.
 ghost use Rattle.std.specs.Prelude.{◌≡◌, ◌++◌, IfOk, OnErr, OnOk, option_map};
 ghost use Rattle.mdb_datum.specs.Datum.{doc_of, members_of};
 ghost use Rattle.mdb_datum.specs.Doc.{object, field_list, member};

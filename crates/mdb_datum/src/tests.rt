@@ -1,4 +1,4 @@
-// Texts and what they read as are those of RFC 8259 and of the documentation of `serde_json`.
+//! Texts and what they read as are those of RFC 8259 and of the documentation of `serde_json`.
 ghost use Rattle.std.specs.Prelude.{IfOk};
 ghost use Rattle.mdb_datum.specs.Datum as of;
 ghost use Rattle.mdb_datum.specs.Row.{IsCanonicalRow};
@@ -15,9 +15,14 @@ fn is_rewritten(alloc: Global, text: &str, want: &str) -> Result<bool, DocError>
     Ok(found.as_slice() == want.as_bytes())
 }
 
-/// Whether bytes are refused, and for this cause.
-fn is_refused(alloc: Global, bytes: &[u8], cause: DocError) -> bool {
-    read_doc(alloc, bytes).err() == Some(cause)
+/// Whether bytes are refused for this cause, or read where there is none. Want of memory is an
+/// error.
+fn is_refused(alloc: Global, bytes: &[u8], cause: Option<DocError>) -> Result<bool, DocError> {
+    match read_doc(alloc, bytes) {
+        Ok(_) => Ok(cause.is_none()),
+        Err(DocError::Memory) => Err(DocError::Memory),
+        Err(found) => Ok(cause == Some(found)),
+    }
 }
 
 /// The object that a text is.
@@ -124,23 +129,25 @@ const NO_TEXT: [&[u8]; 9] = [
 ];
 
 #[test]
-fn texts_that_are_no_json_are_refused(rt: HostRuntime) {
+fn texts_that_are_no_json_are_refused(rt: HostRuntime) -> Result<(), Fail> {
     for bytes in &NO_JSON {
         assert!(rt;
-            is_refused(rt.alloc(), bytes, DocError::Syntax),
+            is_refused(rt.alloc(), bytes, Some(DocError::Syntax))?,
             "{bytes:?}"
         );
     }
+    Ok(())
 }
 
 #[test]
-fn bytes_that_are_no_text_are_refused(rt: HostRuntime) {
+fn bytes_that_are_no_text_are_refused(rt: HostRuntime) -> Result<(), Fail> {
     for bytes in &NO_TEXT {
         assert!(rt;
-            is_refused(rt.alloc(), bytes, DocError::Syntax),
+            is_refused(rt.alloc(), bytes, Some(DocError::Syntax))?,
             "{bytes:?}"
         );
     }
+    Ok(())
 }
 
 const NOT_WHOLE: [&str; 11] = [
@@ -158,13 +165,14 @@ const NOT_WHOLE: [&str; 11] = [
 ];
 
 #[test]
-fn numbers_that_are_not_whole_are_refused(rt: HostRuntime) {
+fn numbers_that_are_not_whole_are_refused(rt: HostRuntime) -> Result<(), Fail> {
     for text in &NOT_WHOLE {
         assert!(rt;
-            is_refused(rt.alloc(), text.as_bytes(), DocError::NotWhole),
+            is_refused(rt.alloc(), text.as_bytes(), Some(DocError::NotWhole))?,
             "{text}"
         );
     }
+    Ok(())
 }
 
 /// `depth` lists, one in the other, round a scalar.
@@ -183,9 +191,9 @@ fn is_judged(
     depth: usize,
     scalar: &str,
     cause: Option<DocError>,
-) -> Result<bool, AllocError> {
+) -> Result<bool, DocError> {
     let text = nested(alloc, depth, scalar)?;
-    Ok(read_doc(alloc, &text).err() == cause)
+    is_refused(alloc, &text, cause)
 }
 
 const NESTED: [(usize, &str, Option<DocError>); 11] = [

@@ -1,4 +1,4 @@
-// From a document to its text: one walk, which writes each token once into one buffer.
+//! From a document to its text: one walk, which writes each token once into one buffer.
 ghost use Rattle.std.specs.Prelude.{◌≡◌, ◌++◌, ◌∷◌, [], IfOk, OnOk, OnErr};
 ghost use Rattle.std.specs.Fmt.{signed_decimal};
 ghost use Rattle.json.specs.Token.{number};

@@ -1,3 +1,4 @@
+//! The calls that are to fail.
 ghost use Rattle.std.specs.Prelude.{◌≡◌, ◌↔◌, [], ◌∷◌, ◌++◌, IsTrue, Contains, is_ok, if◌then◌else◌};
 
 use std::alloc::{AllocError, Global};

@@ -1,3 +1,4 @@
+//! The files of the host.
 ghost use Rattle.std.specs.Prelude.{◌≡◌, ◌<◌, ◌≤◌, ◌+◌, ◌-◌, ◌^◌, min, length, false, None, IfOk, IfSome, IsSomeAnd, OnErr};
 ghost use Rattle.std.specs.Io.KnownBytes.{ReadConsumes};
 ghost use Rattle.mdb_ports.specs.Faults.{HasCause};

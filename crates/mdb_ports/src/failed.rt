@@ -1,3 +1,4 @@
+//! A failure of a file or a sink.
 /// A file or a sink failed. Its count of faults rose in the call.
 #[derive(Clone, Copy, Debug, PartialEq, Eq)]
 pub struct Failed;

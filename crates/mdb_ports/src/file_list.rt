@@ -1,3 +1,4 @@
+//! Lists of files.
 ghost use Rattle.std.specs.Prelude.{◌≡◌, [], ◌∷◌, ◌++◌, is_ok, if◌then◌else◌, option_map};
 ghost use Rattle.mdb_ports.specs.MemFiles.{listed};
 

@@ -1,3 +1,4 @@
+//! Files, as a trait.
 ghost use Rattle.std.specs.Prelude.{◌≡◌, ◌<◌, ◌≤◌, ℕ, Bool, Option, length, IfOk, OnErr};
 ghost use Rattle.mdb_ports.specs.Files.{Contents, Fetches, IsAbsentIfReliable};
 ghost use Rattle.mdb_ports.specs.Faults.{HasCause};

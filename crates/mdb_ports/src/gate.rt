@@ -1,3 +1,4 @@
+//! Gates between the lines of scripts.
 /// What a session passes at each line of its script. It promises nothing.
 pub trait Gate {
     /// Called ahead of the command of a line.

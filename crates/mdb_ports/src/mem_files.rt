@@ -1,3 +1,4 @@
+//! Files in memory.
 ghost use Rattle.std.specs.Prelude.{◌≡◌, ◌<◌, ◌≤◌, ◌-◌, ◌↔◌, ◌⊎◌, drop, min, length, IsErr, IfOk, IfSome, OnErr, None, Some};
 ghost use Rattle.mdb_ports.specs.Files.{Fetches, Fetched, IsAbsentIfReliable};
 ghost use Rattle.mdb_ports.specs.Faults.{HasCause};
@@ -85,7 +86,7 @@ impl Files for MemFiles {
     }
 }
 
-// Copies the bytes from an offset on into the front of a buffer, as many as both allow.
+/// Copies the bytes from an offset on into the front of a buffer, as many as both allow.
 fn copy_from(bytes: &[u8], at: u64, into: &mut [u8]) -> usize
     requires { 0 < length into.old }
     ensures fetched { Fetched bytes.now at into.new result }

@@ -1,3 +1,4 @@
+//! A sink in memory.
 ghost use Rattle.std.specs.Prelude.{◌≡◌, ◌<◌, ◌≤◌, ◌-◌, ◌↔◌, ◌⊎◌, [], min, length, take, IsErr, IfOk, OnErr, Some};
 ghost use Rattle.mdb_ports.specs.Sink.{Grows};
 ghost use Rattle.mdb_ports.specs.Faults.{HasCause};

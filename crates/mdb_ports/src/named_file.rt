@@ -1,3 +1,4 @@
+//! The one file that is open, with its name.
 ghost use Rattle.std.specs.Prelude.{◌≡◌, ◌≢◌, ◌≤◌, ◌+◌, ◌-◌, ◌^◌, min, length, None, Ok, Some, IsOk, IsSomeAnd, IfOk, OnOk, OnErr, IfSome};
 ghost use Rattle.std.specs.Io.KnownBytes.{ReadConsumes};
 ghost use Rattle.std.specs.Io.Seek.{MovesTo};
@@ -8,7 +9,7 @@ use std::fs;
 use std::io::{self, ErrorKind, Read, Seek, SeekFrom};
 use std::rt::Files as HostFiles;
 
-// The room for a name, in bytes. The host opens no file by a longer one.
+/// The room for a name, in bytes. The host opens no file by a longer one.
 const NAME_ROOM: usize = 4096;
 
 /// An open file with the name that it was opened by, and the offset of the byte that a read gives
@@ -58,8 +59,8 @@ pub(crate) fn read_piece<R: HostFiles>(
     Ok(n)
 }
 
-// The file of this name: the one that is open, as it stands, where it has the name, or else one
-// that is opened now, at its front. A file that was open under another name is closed.
+/// The file of this name: the one that is open, as it stands, where it has the name, or else one
+/// that is opened now, at its front. A file that was open under another name is closed.
 fn file_named<R: HostFiles>(
     rt: &R,
     opened: Option<NamedFile<R::File>>,
@@ -76,7 +77,7 @@ fn file_named<R: HostFiles>(
     }
 }
 
-// Opens the file of this name.
+/// Opens the file of this name.
 fn open_named<R: HostFiles>(rt: &R, name: &str) -> io::Result<NamedFile<R::File>>
     ensures { IfOk result (λ f. (f.name.bytes ≡ name.now) × (f.place ≡ 0)) }
 {
@@ -102,7 +103,7 @@ impl<F: Read + Seek> NamedFile<F> {
         Ok(n)
     }
 
-    // Goes to an offset, where the file doesn't stand there.
+    /// Goes to an offset, where the file doesn't stand there.
     fn stand_at(&mut self, at: u64) -> io::Result<()>
         ensures stands { OnOk result (self.new.place ≡ at) }
         ensures name { self.new.name ≡ self.old.name }

@@ -1,3 +1,4 @@
+//! Sinks, as a trait.
 ghost use Rattle.std.specs.Prelude.{◌≡◌, ◌<◌, ◌≤◌, ℕ, List, Option, length, take, IfOk, OnErr};
 ghost use Rattle.mdb_ports.specs.Sink.{Grows};
 ghost use Rattle.mdb_ports.specs.Faults.{HasCause};

@@ -1,3 +1,4 @@
+//! The first row and the last one under a prefix.
 ghost use Rattle.std.specs.Prelude.{◌≡◌, option_copied};
 ghost use Rattle.mdb_datum.specs.Bytes.{Bytes};
 ghost use Rattle.mdb_datum.specs.Pairs.{first_item, last_item, rows_of, with_prefix};
@@ -25,8 +26,8 @@ pub fn last<'a>(tree: &'a Tree, prefix: &[u8]) -> Option<&'a Row>
     Some(last_leaf(tree.seek(prefix)?)?.row())
 }
 
-// The leaf of the lowest key at a node and under it: on the way down by the first edges the first
-// leaf.
+/// The leaf of the lowest key at a node and under it: on the way down by the first edges the first
+/// leaf.
 fn first_leaf(top: &Node) -> Option<&Leaf>
     requires { let n = plain_node top.now in (path : Bytes) × IsShaped path n.under }
     ensures { option_copied result ≡ first_item (pairs_of (below_prefix top.now)) }
@@ -38,8 +39,8 @@ fn first_leaf(top: &Node) -> Option<&Leaf>
     node.leaf()
 }
 
-// The leaf of the highest key at a node and under it: that at the end of the way down by the last
-// edges.
+/// The leaf of the highest key at a node and under it: that at the end of the way down by the last
+/// edges.
 fn last_leaf(top: &Node) -> Option<&Leaf>
     requires { let n = plain_node top.now in (path : Bytes) × IsShaped path n.under }
     ensures { option_copied result ≡ last_item (pairs_of (below_prefix top.now)) }

@@ -1,3 +1,4 @@
+//! The walks under a prefix.
 ghost use Rattle.std.specs.Prelude.{◌≡◌, IfOk, reverse};
 ghost use Rattle.mdb_datum.specs.Pairs.{rows_of, with_prefix};
 ghost use Rattle.radix_node.specs.Nodes.{pairs_of};

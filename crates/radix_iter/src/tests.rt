@@ -1,4 +1,4 @@
-// What a walk must give is worked out by hand, or is the sorted list of the keys, filtered.
+//! What a walk must give is worked out by hand, or is the sorted list of the keys, filtered.
 mod built;
 mod drawn;
 
@@ -109,7 +109,7 @@ fn an_empty_tree_gives_the_end_at_once(rt: HostRuntime) -> Result<(), Fail> {
     Ok(())
 }
 
-// The keys of texts end with 00. The first two are those of 255 and 256, each with the text after it.
+/// The keys of texts end with 00. The first two are those of 255 and 256, each with the text after it.
 const STORED: [&[u8]; 8] = [
     b"\x00\xffx\x00",
     b"\x01\x00y\x00",
@@ -121,7 +121,7 @@ const STORED: [&[u8]; 8] = [
     b"east\x00web\x00",
 ];
 
-// A prefix tells a whole text by the end byte, and a bound is compared with whole keys.
+/// A prefix tells a whole text by the end byte, and a bound is compared with whole keys.
 const WALKS: [Case; 13] = [
     (Kind::Ascend, b"", &[0, 1, 2, 3, 4, 5, 6, 7]),
     (Kind::Ascend, b"ann\x00", &[2]),
@@ -145,7 +145,7 @@ fn rows_come_in_the_order_of_their_keys(rt: HostRuntime) -> Result<(), Fail> {
     Ok(())
 }
 
-// The two keys part after `fooba`, the bytes of one edge.
+/// The two keys part after `fooba`, the bytes of one edge.
 const PARTED: [&[u8]; 2] = [b"foobar", b"foobaz"];
 
 const WITHIN: [Case; 12] = [
@@ -260,7 +260,7 @@ fn are_filters(
 
 const NESTED: [&[u8]; 7] = [b"", b"a", b"a\x00", b"ab", b"abc", b"b", b"\xff"];
 
-// Keys, keys between them, and prefixes of them.
+/// Keys, keys between them, and prefixes of them.
 const BOUNDS: [&[u8]; 14] = [
     b"",
     b"\x00",
@@ -325,7 +325,7 @@ fn two_thousand_walks_give_what_the_sorted_keys_give(rt: HostRuntime) -> Result<
     Ok(())
 }
 
-// The longest key that the layers above make, whose prefixes are the deepest tree.
+/// The longest key that the layers above make, whose prefixes are the deepest tree.
 const LONGEST: [u8; 2048] = [b'a'; 2048];
 
 fn numbers_to(alloc: Global, last: u16) -> Result<Vec<i128>, AllocError> {

@@ -1,3 +1,4 @@
+//! The walk down from a key.
 ghost use Rattle.std.specs.Prelude.{◌≡◌, ◌++◌, IfOk, reverse};
 ghost use Rattle.mdb_datum.specs.Pairs.{at_most, rows_of};
 ghost use Rattle.radix_node.specs.Edges.{EdgesRise};
@@ -22,8 +23,8 @@ pub fn down_from(alloc: Global, tree: &Tree, key: &[u8]) -> Result<Walk, AllocEr
     Ok(Walk { rows })
 }
 
-// Adds the rows of keys that are at most `key`, in order: on the way down along the key those of
-// prefixes of it and those beside it, which are lower.
+/// Adds the rows of keys that are at most `key`, in order: on the way down along the key those of
+/// prefixes of it and those beside it, which are lower.
 fn push_at_most(rows: &mut Vec<Row>, tree: &Tree, key: &[u8]) -> Result<(), AllocError>
     ensures { IfOk result (λ _. rows.new.items
         ≡ rows.old.items ++ rows_of (at_most key.now (pairs_of tree.now))) }
@@ -44,8 +45,8 @@ fn push_at_most(rows: &mut Vec<Row>, tree: &Tree, key: &[u8]) -> Result<(), Allo
     push_own(rows, node)
 }
 
-// Adds the rows that come before those at the edge of a label: the node's own, and those under the
-// lower edges.
+/// Adds the rows that come before those at the edge of a label: the node's own, and those under the
+/// lower edges.
 fn push_before(rows: &mut Vec<Row>, node: &Node, label: u8) -> Result<(), AllocError>
     requires { let n = plain_node node.now in EdgesRise n.under }
     ensures { let n = plain_node node.now in IfOk result (λ _. rows.new.items

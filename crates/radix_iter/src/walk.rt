@@ -1,3 +1,4 @@
+//! A walk.
 ghost use Rattle.std.specs.Prelude.{◌≡◌, IfOk, IsOk, OnErr, OnOk, drop};
 ghost use Rattle.mdb_datum.specs.Pairs.{first_item};
 

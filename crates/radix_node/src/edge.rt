@@ -1,3 +1,4 @@
+//! An edge of a node.
 ghost use Rattle.std.specs.Prelude.{◌≡◌, IfOk};
 ghost use Rattle.radix_node.specs.Node.{plain_edge, plain_node, node_of};
 

@@ -1,3 +1,4 @@
+//! The edges of a node.
 ghost use Rattle.std.specs.Prelude.{◌≡◌, ◌++◌, ◌∷◌, ◌+◌, ◌≤◌, ◌<◌, [], IfOk, IfErr, OnOk, OnErr, Some, Ok, Err, length, take, drop, map, option_map};
 ghost use Rattle.std.specs.Slice.Iter.{iter_rest};
 ghost use Rattle.std.specs.List.{slice_get};
@@ -143,7 +144,7 @@ impl Edges {
     }
 }
 
-// Adds second owners of the edges' nodes at the end.
+/// Adds second owners of the edges' nodes at the end.
 fn push_shared(into: &mut Vec<Edge>, edges: &[Edge]) -> Result<(), AllocError>
     ensures { IfOk result (λ _. map edge_node into.new.items
         ≡ map edge_node into.old.items ++ map edge_node edges.now) }

@@ -1,3 +1,4 @@
+//! Nodes.
 mod copies;
 
 ghost use Rattle.std.specs.Prelude.{◌≡◌, ◌==◌, ◌<◌, ◌^◌, IfOk, length, option_map, option_copied};
@@ -118,7 +119,7 @@ impl Node {
     }
 }
 
-// How many bytes two byte strings have in common at their start.
+/// How many bytes two byte strings have in common at their start.
 fn common_len(a: &[u8], b: &[u8]) -> usize
     ensures { result ≡ length (take_while (λ p. p.0 == p.1) (zip a.now b.now)) }
 {

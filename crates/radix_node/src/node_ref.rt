@@ -1,3 +1,4 @@
+//! Shared owners of nodes.
 ghost use Rattle.std.specs.Prelude.{◌≡◌, IfOk};
 ghost use Rattle.radix_node.specs.Node.{plain_node, node_of};
 

@@ -1,5 +1,5 @@
-// Each tree is made by hand, edge by edge, as the shape asks. What is asked of one stands in tables,
-// which small functions walk.
+//! Each tree is made by hand, edge by edge, as the shape asks. What is asked of one stands in tables,
+//! which small functions walk.
 mod built;
 mod parts;
 
@@ -8,7 +8,7 @@ use built::{forked_tree, nested_tree, row, tree_of_one};
 use mdb_datum::{Datum, Row};
 use std::test::Fail;
 
-// Whether there is a row whose only member is this number.
+/// Whether there is a row whose only member is this number.
 fn is_row(row: Option<&Row>, number: i128) -> bool {
     match row {
         Some(row) => match row.get("n") {
@@ -33,10 +33,10 @@ fn is_node(node: &Node, prefix: &[u8], has_leaf: bool, labels: &[u8]) -> bool {
 
 // ---- the node of a prefix
 
-// A prefix, and of the node that it leads to the own prefix, whether it has a leaf, and the labels.
+/// A prefix, and of the node that it leads to the own prefix, whether it has a leaf, and the labels.
 type Line = (&'static [u8], &'static [u8], bool, &'static [u8]);
 
-// In the forked tree.
+/// In the forked tree.
 const NODES: [Line; 9] = [
     (b"", b"", false, b"f"),
     (b"f", b"oo", false, b"\0t"),
@@ -106,7 +106,7 @@ fn whole_keys_alone_are_found(rt: HostRuntime) -> Result<(), Fail> {
     Ok(())
 }
 
-// A key, and the number of the row under the longest key that is a prefix of it.
+/// A key, and the number of the row under the longest key that is a prefix of it.
 const LONGEST: [(&[u8], i128); 6] = [
     (b"", 0),
     (b"x", 0),
@@ -166,7 +166,7 @@ fn a_shared_tree_outlives_the_first(rt: HostRuntime) -> Result<(), Fail> {
     Ok(())
 }
 
-// Takes only what threads may share and hand to each other.
+/// Takes only what threads may share and hand to each other.
 fn for_threads<T: Send + Sync>(shared: T) -> T {
     shared
 }

@@ -1,3 +1,4 @@
+//! Trees, and the look-up of a key.
 mod longest;
 mod seek;
 
@@ -83,7 +84,7 @@ impl Tree {
         Some(self.leaf_of(key)?.row())
     }
 
-    // The leaf of a key.
+    /// The leaf of a key.
     fn leaf_of(&self, key: &[u8]) -> Option<&Leaf>
         ensures leaf { option_copied result ≡ seek_plain key.now self.now }
         ensures shape { HasShape self.now }

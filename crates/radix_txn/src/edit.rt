@@ -1,3 +1,4 @@
+//! The beginning of a transaction.
 ghost use Rattle.std.specs.Prelude.{◌≡◌, false, IfOk};
 ghost use Rattle.radix_node.specs.Nodes.{Plain};
 

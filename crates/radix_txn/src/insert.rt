@@ -1,3 +1,4 @@
+//! The insert of a key.
 ghost use Rattle.std.specs.Prelude.{◌≡◌, ◌∷◌, ◌++◌, ◌<◌, ◌≤◌, ◌+◌, None, Some, IfOk, if◌then◌else◌, is_some, length, take, drop};
 ghost use Rattle.std.specs.Arc.{arc_value};
 ghost use Rattle.radix_node.specs.Node.{below_prefix, edge_node, node_of, nodes_in, nodes_list, plain_node};
@@ -12,8 +13,8 @@ use radix_node::{Edge, Edges, Leaf, Node, NodeRef, Tree};
 use std::alloc::{AllocError, Global};
 use std::sync::Arc;
 
-// The tree with a row under a key, and the old row of that key. Beside want of memory it is refused
-// where there are 2^64 - 1 keys already.
+/// The tree with a row under a key, and the old row of that key. Beside want of memory it is refused
+/// where there are 2^64 - 1 keys already.
 pub fn tree_with(tree: &Tree, key: &[u8], row: &Row) -> Result<(Tree, Option<Row>), AllocError>
     ensures pairs { IfOk result
         (λ w. pairs_of w.0 ≡ put key.now row.now (pairs_of tree.now)) }
@@ -27,7 +28,7 @@ pub fn tree_with(tree: &Tree, key: &[u8], row: &Row) -> Result<(Tree, Option<Row
     Ok((Tree::of_root(node, len), old))
 }
 
-// How many keys there are after an insert.
+/// How many keys there are after an insert.
 fn len_after(len: u64, old: &Option<Row>) -> Result<u64, AllocError>
     ensures { IfOk result (λ n. n ≡ (if is_some old.now then len else len + 1)) }
 {
@@ -37,15 +38,15 @@ fn len_after(len: u64, old: &Option<Row>) -> Result<u64, AllocError>
     }
 }
 
-// A node made anew on the path of an insert, and the old row of the key.
+/// A node made anew on the path of an insert, and the old row of the key.
 #[derive(Drop)]
 struct Inserted {
     node: NodeRef,
     old: Option<Row>,
 }
 
-// The node with a leaf at the end of the rest of its key, where `rest` is what the key has after
-// the node's path.
+/// The node with a leaf at the end of the rest of its key, where `rest` is what the key has after
+/// the node's path.
 fn insert(node: &Node, rest: &[u8], leaf: Arc<Leaf, Global>) -> Result<Inserted, AllocError>
     requires { let n = plain_node node.now in IsShapedBelow n.under }
 
@@ -80,14 +81,14 @@ fn insert(node: &Node, rest: &[u8], leaf: Arc<Leaf, Global>) -> Result<Inserted,
     Ok(Inserted { node, old })
 }
 
-// A node with a leaf and no edges.
+/// A node with a leaf and no edges.
 fn childless(alloc: Global, prefix: &[u8], leaf: Arc<Leaf, Global>) -> Result<NodeRef, AllocError>
     ensures { IfOk result (λ r. node_of r ≡ leaf_node prefix.now (arc_value leaf)) }
 {
     Ok(Node::of(alloc, prefix, Some(leaf), Edges::new(alloc))?)
 }
 
-// The node with `edge` in place of those from `start` to `end`.
+/// The node with `edge` in place of those from `start` to `end`.
 fn with_edge(node: &Node, start: usize, end: usize, edge: Edge) -> Result<NodeRef, AllocError>
     requires ordered { start ≤ end }
     requires in_range { let n = plain_node node.now in end ≤ length (nodes_list n.under) }
@@ -101,9 +102,9 @@ fn with_edge(node: &Node, start: usize, end: usize, edge: Edge) -> Result<NodeRe
     Ok(node.with_edges(node.edges().spliced(start, end, edge)?)?)
 }
 
-// A node with the bytes that the node's prefix and the rest have in common, above a copy of the
-// node that has the rest of its prefix. The leaf goes into the upper node, where the rest ends with
-// what they have in common, and else into a new node beside the copy.
+/// A node with the bytes that the node's prefix and the rest have in common, above a copy of the
+/// node that has the rest of its prefix. The leaf goes into the upper node, where the rest ends with
+/// what they have in common, and else into a new node beside the copy.
 fn split(
     node: &Node,
     shared: usize,

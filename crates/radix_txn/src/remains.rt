@@ -1,3 +1,4 @@
+//! What a delete leaves of a node.
 ghost use Rattle.std.specs.Prelude.{◌≡◌, ◌++◌, ◌∷◌, ◌+◌, ◌<◌, [], None, IfOk, length, take, drop, option_map, option_to_list};
 ghost use Rattle.radix_node.specs.Node.{edge_node, nodes_list, nodes_in, node_of, plain_edge, plain_node};
 ghost use Rattle.radix_node.specs.Nodes.{no_nodes};
@@ -8,7 +9,7 @@ use radix_node::{Edge, Edges, Leaf, Node, NodeRef};
 use std::alloc::{AllocError, Global};
 use std::sync::Arc;
 
-// What a node is left with after a delete at or under it.
+/// What a node is left with after a delete at or under it.
 #[derive(Drop)]
 pub struct Remains {
     leaf: Option<Arc<Leaf, Global>>,
@@ -16,7 +17,7 @@ pub struct Remains {
 }
 
 impl Remains {
-    // Neither a leaf nor edges.
+    /// Neither a leaf nor edges.
     pub fn nothing(alloc: Global) -> Remains
         ensures { remains_of result ≡ record { leaf = None; nodes = no_nodes } }
     {
@@ -26,7 +27,7 @@ impl Remains {
         }
     }
 
-    // The node's edges without its leaf.
+    /// The node's edges without its leaf.
     pub fn without_leaf(node: &Node) -> Result<Remains, AllocError>
         ensures { let n = plain_node node.now in
             IfOk result (λ r. remains_of r ≡ record { leaf = None; nodes = n.under }) }
@@ -37,7 +38,7 @@ impl Remains {
         })
     }
 
-    // The node's leaf, and its edges without the one at a place.
+    /// The node's leaf, and its edges without the one at a place.
     pub fn without_edge(node: &Node, at: usize) -> Result<Remains, AllocError>
         requires { let n = plain_node node.now in at < length (nodes_list n.under) }
         ensures { let n = plain_node node.now in let es = nodes_list n.under in
@@ -50,7 +51,7 @@ impl Remains {
         })
     }
 
-    // The node's leaf, and its edges where the node at the edge at a place is left with `below`.
+    /// The node's leaf, and its edges where the node at the edge at a place is left with `below`.
     pub fn above(node: &Node, at: usize, edge: &Edge, below: Remains) -> Result<Remains, AllocError>
         requires { let n = plain_node node.now in at < length (nodes_list n.under) }
         ensures { let n = plain_node node.now in let es = nodes_list n.under in
@@ -72,7 +73,7 @@ impl Remains {
         }
     }
 
-    // The root of what is left.
+    /// The root of what is left.
     pub fn root(self) -> Result<NodeRef, AllocError>
         ensures { let r = remains_of self in IfOk result
             (λ n. node_of n ≡ record { prefix = []; leaf = r.leaf; under = r.nodes }) }
@@ -81,8 +82,8 @@ impl Remains {
         Ok(Node::of(edges.allocator(), b"", leaf, edges)?)
     }
 
-    // A node, not the root, with what is left: none, where that is nothing, and merged with the
-    // node under it, where that is one edge.
+    /// A node, not the root, with what is left: none, where that is nothing, and merged with the
+    /// node under it, where that is one edge.
     fn settled(self, prefix: &[u8]) -> Result<Option<NodeRef>, AllocError>
         ensures { let r = remains_of self in IfOk result
             (λ n. option_map node_of n ≡ settled_node prefix.now r.leaf r.nodes) }
@@ -98,8 +99,8 @@ impl Remains {
     }
 }
 
-// The node at an edge with a prefix and the edge's label before its own prefix: what a node of that
-// prefix becomes where this edge is all that it has.
+/// The node at an edge with a prefix and the edge's label before its own prefix: what a node of that
+/// prefix becomes where this edge is all that it has.
 fn merge_child(prefix: &[u8], edge: &Edge) -> Result<NodeRef, AllocError>
     ensures { let m = edge_node edge.now in IfOk result
         (λ r. node_of r

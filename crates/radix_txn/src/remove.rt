@@ -13,7 +13,7 @@ use mdb_datum::Row;
 use radix_node::{Node, Tree};
 use std::alloc::AllocError;
 
-// A tree without some keys, the row of the key, where one key was to go, and how many went.
+/// A tree without some keys, the row of the key, where one key was to go, and how many went.
 #[derive(Drop)]
 pub struct Taken {
     pub tree: Tree,
@@ -21,8 +21,8 @@ pub struct Taken {
     pub count: u64,
 }
 
-// The tree without the keys of a target; none where there is no such key. Only where there is one,
-// it can want for memory.
+/// The tree without the keys of a target; none where there is no such key. Only where there is one,
+/// it can want for memory.
 pub fn take(tree: &Tree, key: &[u8], target: Target) -> Result<Option<Taken>, AllocError>
     ensures taken { IfOk result (λ o. IfSome o
         (λ t. IsTaken target key.now (pairs_of tree.now) (pairs_of t.tree) t.row t.count)) }
@@ -43,7 +43,7 @@ pub fn take(tree: &Tree, key: &[u8], target: Target) -> Result<Option<Taken>, Al
     Ok(Some(Taken { tree, row, count }))
 }
 
-// What a node is left with, the row of the key, where one key was to go, and how many leaves went.
+/// What a node is left with, the row of the key, where one key was to go, and how many leaves went.
 #[derive(Drop)]
 struct Removed {
     remains: Remains,
@@ -51,9 +51,9 @@ struct Removed {
     count: u64,
 }
 
-// The node without the leaf at the end of the rest of a key, where `rest` is what the key has after
-// the node's path, or without the leaves whose keys go on with it; none where there is no such
-// leaf. Nothing is copied before one is found, so only then can it want for memory.
+/// The node without the leaf at the end of the rest of a key, where `rest` is what the key has after
+/// the node's path, or without the leaves whose keys go on with it; none where there is no such
+/// leaf. Nothing is copied before one is found, so only then can it want for memory.
 fn remove(node: &Node, rest: &[u8], target: Target) -> Result<Option<Removed>, AllocError>
     requires shape { let n = plain_node node.now in IsShapedBelow n.under }
     requires few { length (pairs_of (below_prefix node.now)) < 2 ^ 64 }
@@ -93,7 +93,7 @@ fn remove(node: &Node, rest: &[u8], target: Target) -> Result<Option<Removed>, A
     }
 }
 
-// The node without its own leaf, or without all at it and under it.
+/// The node without its own leaf, or without all at it and under it.
 fn remove_here(node: &Node, target: Target) -> Result<Option<Removed>, AllocError>
     requires { length (pairs_of (below_prefix node.now)) < 2 ^ 64 }
 
@@ -109,7 +109,7 @@ fn remove_here(node: &Node, target: Target) -> Result<Option<Removed>, AllocErro
     }
 }
 
-// The node without its own leaf, if it has one.
+/// The node without its own leaf, if it has one.
 fn remove_leaf(node: &Node) -> Result<Option<Removed>, AllocError>
     ensures removed { IfOk result (λ o. IfSome o
         (λ r. IsRemoval Key [] (below_prefix node.now) (remains_of r.remains) r.row r.count)) }
@@ -127,7 +127,7 @@ fn remove_leaf(node: &Node) -> Result<Option<Removed>, AllocError>
     }))
 }
 
-// Nothing of the node, if there are leaves at it or under it.
+/// Nothing of the node, if there are leaves at it or under it.
 fn remove_all(node: &Node) -> Option<Removed>
     requires { length (pairs_of (below_prefix node.now)) < 2 ^ 64 }
 

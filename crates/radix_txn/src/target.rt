@@ -1,7 +1,8 @@
+//! The keys that a delete takes.
 ghost use Rattle.std.specs.Prelude.{◌≡◌};
 ghost use Rattle.radix_txn.specs.inner.Removal.{covers};
 
-// By what the keys are told that go.
+/// By what the keys are told that go.
 #[derive(Clone, Copy, Drop)]
 pub enum Target {
     // One whole key.
@@ -11,8 +12,8 @@ pub enum Target {
 }
 
 impl Target {
-    // Whether all keys at and under a node go, where `after` is what the key or prefix has after
-    // the path to the node's prefix, and doesn't begin with that prefix.
+    /// Whether all keys at and under a node go, where `after` is what the key or prefix has after
+    /// the path to the node's prefix, and doesn't begin with that prefix.
     pub fn covers(self, prefix: &[u8], after: &[u8]) -> bool
         ensures { result ≡ covers self prefix.now after.now }
     {

@@ -1,5 +1,5 @@
-// The worked trees are those of the words `foo`, `football`, `fool` and `foot`, each ended by a
-// byte 00, as the shape asks. A row tells its number.
+//! The worked trees are those of the words `foo`, `football`, `fool` and `foot`, each ended by a
+//! byte 00, as the shape asks. A row tells its number.
 mod deep;
 mod refused;
 mod run;
@@ -12,13 +12,13 @@ use std::alloc::{AllocError, Global};
 use std::test::Fail;
 use written::{applied, freeze, nodes_are, put, row, stand, take, take_all, three_writes, txn_of};
 
-// A node of a tree: a path that leads to it, its own prefix, whether it has a leaf, and the labels
-// of its edges.
+/// A node of a tree: a path that leads to it, its own prefix, whether it has a leaf, and the labels
+/// of its edges.
 type Line<'a> = (&'a [u8], &'a [u8], bool, &'a [u8]);
 
 const EMPTY: [Line; 1] = [(b"", b"", false, b"")];
 
-// `foo`, `fool` and `football`.
+/// `foo`, `fool` and `football`.
 const BESIDE: [Line; 5] = [
     (b"", b"", false, b"f"),
     (b"f", b"oo", false, b"\0lt"),
@@ -27,7 +27,7 @@ const BESIDE: [Line; 5] = [
     (b"foot", b"ball\0", true, b""),
 ];
 
-// `foo`, `foot` and `football`.
+/// `foo`, `foot` and `football`.
 const FORKED: [Line; 6] = [
     (b"", b"", false, b"f"),
     (b"f", b"oo", false, b"\0t"),
@@ -53,7 +53,7 @@ const WITHOUT_FOOTBALL: [Line; 4] = [
     (b"foot", b"\0", true, b""),
 ];
 
-// Whether these are the nodes after the keys were put in turn and then some taken out.
+/// Whether these are the nodes after the keys were put in turn and then some taken out.
 fn nodes_after(
     alloc: Global,
     keys: &[&[u8]],
@@ -105,7 +105,7 @@ fn the_root_is_not_merged(rt: HostRuntime) -> Result<(), Fail> {
     Ok(())
 }
 
-// What each prefix takes from the forked tree, and the nodes that are left.
+/// What each prefix takes from the forked tree, and the nodes that are left.
 const TAKEN: [(&[u8], u64, &[Line]); 10] = [
     (b"", 3, &EMPTY),
     (b"f", 3, &EMPTY),
@@ -134,7 +134,7 @@ fn a_prefix_takes_its_node_with_all_under_it(rt: HostRuntime) -> Result<(), Fail
     Ok(())
 }
 
-// In a scattered order, since 97 is odd.
+/// In a scattered order, since 97 is odd.
 fn put_all_bytes(txn: &mut TreeTxn, row: &Row) -> Result<(), AllocError> {
     for turn in 0..=255u8 {
         let byte = turn.wrapping_mul(97);
@@ -168,7 +168,7 @@ fn writes_are_made_in_turn(rt: HostRuntime) -> Result<(), Fail> {
     Ok(())
 }
 
-// Whether a tree that was given stays as it was, and a later one has the change.
+/// Whether a tree that was given stays as it was, and a later one has the change.
 fn stays(alloc: Global) -> Result<bool, Fail> {
     let mut txn = txn_of(alloc, &FORKED_KEYS)?;
     let tree = stand(&mut txn)?;

@@ -1,3 +1,4 @@
+//! Transactions on a tree.
 ghost use Rattle.std.specs.Prelude.{◌≡◌, ◌+◌, ◌≤◌, ◌<◌, ◌↔◌, ℕ, true, false, IfOk, IfNone, IsOkAnd, IsSome, OnErr, OnOk, is_err, length, option_copied, take};
 ghost use Rattle.std.specs.List.{All};
 ghost use Rattle.mdb_datum.specs.Bytes.{Bytes};
@@ -37,7 +38,7 @@ impl Model for TreeTxn {
 }
 
 impl TreeTxn {
-    // A transaction that begins with a tree.
+    /// A transaction that begins with a tree.
     pub(crate) fn of(tree: Tree) -> TreeTxn
         ensures { result ≡ record { tree = tree; spoiled = false } }
     {
@@ -155,7 +156,7 @@ impl TreeTxn {
         Ok(count)
     }
 
-    // Makes a write.
+    /// Makes a write.
     fn make(&mut self, write: &Write) -> Result<(), AllocError>
         requires short { IsShort write.now }
         requires sound { self.old.spoiled ≡ false }
@@ -195,7 +196,7 @@ impl TreeTxn {
         made
     }
 
-    // Makes the writes one after another.
+    /// Makes the writes one after another.
     fn make_all(&mut self, writes: &[Write]) -> Result<(), AllocError>
         requires short { All IsShort writes.now }
         requires sound { self.old.spoiled ≡ false }

@@ -1,3 +1,4 @@
+//! Writes that are kept.
 use mdb_datum::Row;
 
 /// A write that is kept to be made later.

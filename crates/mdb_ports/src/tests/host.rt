@@ -1,5 +1,5 @@
-// The files of the host, and its output. The tests of a crate may share a folder, so each has names
-// of its own.
+//! The files of the host, and its output. The tests of a crate may share a folder, so each has names
+//! of its own.
 use super::{fetch_first, gives, put_three};
 use crate::*;
 use std::fs;
@@ -12,7 +12,7 @@ fn is_removed(rt: &HostRuntime, name: &str) -> bool {
     fs::remove_file(rt, name).is_ok()
 }
 
-// Puts one file in the place of another.
+/// Puts one file in the place of another.
 fn is_renamed(rt: &HostRuntime, from: &str, to: &str) -> bool {
     fs::rename(rt, from, to).is_ok()
 }

@@ -1,4 +1,4 @@
-// Streams that a signal interrupts, that take part of what is written, or that can't seek.
+//! Streams that a signal interrupts, that take part of what is written, or that can't seek.
 use super::put_three;
 use crate::named_file::NamedFile;
 use crate::*;
@@ -7,15 +7,15 @@ use std::cell::Cell;
 use std::fmt::Display;
 use std::io::{self, ErrorKind, Read, Seek, SeekFrom};
 
-// Whether a call is one of those to be interrupted, of which there is then one fewer.
+/// Whether a call is one of those to be interrupted, of which there is then one fewer.
 fn interrupts(left: &Cell<u32>) -> bool {
     let count = left.get();
     left.set(count.saturating_sub(1));
     count > 0
 }
 
-// An output of which the first calls are interrupted, and the others take at most so many bytes, or
-// fail.
+/// An output of which the first calls are interrupted, and the others take at most so many bytes, or
+/// fail.
 #[derive(Drop)]
 struct FakeOutput {
     interruptions: Cell<u32>,
@@ -46,8 +46,8 @@ impl Print for FakeOutput {
     }
 }
 
-// Each row: how many calls are interrupted, how many bytes a call takes, and what a put of three
-// bytes answers.
+/// Each row: how many calls are interrupted, how many bytes a call takes, and what a put of three
+/// bytes answers.
 const OUTPUTS: [(u32, Option<usize>, Result<usize, Failed>); 6] = [
     (0, Some(9), Ok(3)),
     (0, Some(2), Ok(2)),
@@ -75,8 +75,8 @@ fn a_short_or_interrupted_write_is_told_as_it_was(rt: HostRuntime) {
     }
 }
 
-// A pipe: its bytes come once, two at most a read, and it can't seek. The first reads are
-// interrupted.
+/// A pipe: its bytes come once, two at most a read, and it can't seek. The first reads are
+/// interrupted.
 #[derive(Drop)]
 struct Pipe {
     interruptions: Cell<u32>,

@@ -1,11 +1,11 @@
-// Files and sinks in memory.
+//! Files and sinks in memory.
 use super::{fetch_first, gives};
 use crate::*;
 use mdb_datum::Text;
 use std::alloc::{AllocError, Global};
 use std::test::Fail;
 
-// Each row: a name, an offset, what a fetch of three bytes answers, and the buffer after it.
+/// Each row: a name, an offset, what a fetch of three bytes answers, and the buffer after it.
 const FETCHES: [(&str, u64, Result<usize, Failed>, &[u8; 3]); 8] = [
     ("a", 0, Ok(3), b"hel"),
     ("a", 1, Ok(3), b"ell"),
@@ -17,8 +17,8 @@ const FETCHES: [(&str, u64, Result<usize, Failed>, &[u8; 3]); 8] = [
     ("c", 0, Err(Failed), b"..."),
 ];
 
-// Each row: the call that fails, and what five puts of ten bytes answer, seven at most a call and
-// 20 in all.
+/// Each row: the call that fails, and what five puts of ten bytes answer, seven at most a call and
+/// 20 in all.
 const PUTS: [(u64, [Result<usize, Failed>; 5]); 4] = [
     (1, [Err(Failed), Ok(7), Ok(7), Ok(6), Err(Failed)]),
     (2, [Ok(7), Err(Failed), Ok(7), Ok(6), Err(Failed)]),
@@ -31,7 +31,7 @@ fn add(alloc: Global, list: &mut FileList, name: &str, bytes: &[u8]) -> Result<(
     list.push((name, bytes.to_vec(alloc)?))
 }
 
-// Two files of the name `a`, and an empty one of the name `b`.
+/// Two files of the name `a`, and an empty one of the name `b`.
 fn three_files(alloc: Global) -> Result<FileList, AllocError> {
     let mut list = FileList::new(alloc);
     add(alloc, &mut list, "a", b"hello")?;
@@ -61,7 +61,7 @@ fn a_fetch_gives_the_bytes_from_an_offset(rt: HostRuntime) -> Result<(), Fail> {
     Ok(())
 }
 
-// Whether of four fetches just the call so numbered fails.
+/// Whether of four fetches just the call so numbered fails.
 fn just_one_fails(files: &mut MemFiles, fails: u64) -> bool {
     for call in 1..=4u64 {
         if gives(files, "a", 1, b"el") == (call == fails) {

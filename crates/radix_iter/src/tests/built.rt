@@ -1,4 +1,4 @@
-// Trees made of sorted keys. A node is looked through before it is taken as the root of a tree.
+//! Trees made of sorted keys. A node is looked through before it is taken as the root of a tree.
 ghost use Rattle.std.specs.Prelude.{◌≡◌, ◌+◌, ◌++◌, ◌∷◌, [], IfOk, map};
 ghost use Rattle.mdb_datum.specs.Datum as of;
 ghost use Rattle.mdb_datum.specs.Row.{IsCanonicalRow};
@@ -52,7 +52,7 @@ pub fn chain(alloc: Global, key: &[u8]) -> Result<Tree, Fail> {
     Ok(Tree::of_root(node, count))
 }
 
-// One edge.
+/// One edge.
 fn one(alloc: Global, label: u8, node: NodeRef) -> Result<Edges, AllocError>
     ensures { IfOk result
         (λ e. edges_of e ≡ labelled (record { label = label; node = node_of node }) ∷ []) }
@@ -62,7 +62,7 @@ fn one(alloc: Global, label: u8, node: NodeRef) -> Result<Edges, AllocError>
     Ok(edges)
 }
 
-// A node without a prefix, whose row tells the length of its key.
+/// A node without a prefix, whose row tells the length of its key.
 fn link(alloc: Global, key: &[u8], edges: Edges) -> Result<NodeRef, Fail>
     ensures { IfOk result (λ r. IsLink key.now (nodes_in (edges_of edges)) (node_of r)) }
 {
@@ -70,7 +70,7 @@ fn link(alloc: Global, key: &[u8], edges: Edges) -> Result<NodeRef, Fail>
     Ok(Node::of(alloc, b"", Some(leaf), edges)?)
 }
 
-// The row that tells a number.
+/// The row that tells a number.
 fn row(alloc: Global, number: usize) -> Result<Row, Fail> {
     let text = format!(in alloc; "{{\"n\":{number}}}")?;
     Ok(Row::of(alloc, members(alloc, &text)?)?)
@@ -86,8 +86,8 @@ fn members(alloc: Global, text: &str) -> Result<Members, Fail>
     }
 }
 
-// The node of entries whose keys begin alike, with the bytes from `start` to `end` for its prefix.
-// `depth` bounds the nodes below it.
+/// The node of entries whose keys begin alike, with the bytes from `start` to `end` for its prefix.
+/// `depth` bounds the nodes below it.
 fn built(
     alloc: Global,
     entries: &[Entry],
@@ -116,12 +116,12 @@ fn built(
     Ok(Node::of(alloc, prefix, leaf, edges)?)
 }
 
-// How many bytes both begin with.
+/// How many bytes both begin with.
 fn common(one: &[u8], other: &[u8]) -> usize {
     one.iter().zip(other).take_while(|(a, b)| a == b).count()
 }
 
-// The tree under a root, which is looked through.
+/// The tree under a root, which is looked through.
 fn tree_under(alloc: Global, root: NodeRef) -> Result<Tree, Fail> {
     let node = root.node();
     if !node.prefix().is_empty() {
@@ -167,7 +167,7 @@ fn count_node(alloc: Global, path: &[u8], node: &Node) -> Result<u64, Fail>
     Ok(sum(own, under)?)
 }
 
-// How many leaves a node has itself, whose key is the path.
+/// How many leaves a node has itself, whose key is the path.
 fn count_own(path: &[u8], node: &Node) -> Result<u64, Fail>
     ensures { IfOk result (CountsOwn path.now (plain_node node.now)) }
 {
@@ -180,7 +180,7 @@ fn count_own(path: &[u8], node: &Node) -> Result<u64, Fail>
     Ok(1)
 }
 
-// The path of the node at an edge.
+/// The path of the node at an edge.
 fn joined(alloc: Global, path: &[u8], label: u8, prefix: &[u8]) -> Result<Vec<u8>, AllocError>
     ensures { IfOk result (λ v. v.items ≡ path.now ++ label ∷ prefix.now) }
 {
@@ -190,7 +190,7 @@ fn joined(alloc: Global, path: &[u8], label: u8, prefix: &[u8]) -> Result<Vec<u8
     Ok(whole)
 }
 
-// The sum, which is refused where it is too large.
+/// The sum, which is refused where it is too large.
 fn sum(one: u64, other: u64) -> Result<u64, Fail>
     ensures { IfOk result (λ s. s ≡ one + other) }
 {

@@ -1,4 +1,4 @@
-// Keys drawn from a fixed sequence.
+//! Keys drawn from a fixed sequence.
 use super::built::Entry;
 use std::alloc::{AllocError, Global};
 

@@ -1,4 +1,4 @@
-// Rows, edges and trees made by hand.
+//! Rows, edges and trees made by hand.
 ghost use Rattle.std.specs.Prelude.{◌≡◌, [], ◌∷◌, Some, None, IfOk};
 ghost use Rattle.mdb_datum.specs.Datum as of;
 ghost use Rattle.mdb_datum.specs.Row.{IsCanonicalRow};
@@ -21,17 +21,17 @@ fn members(alloc: Global, text: &str) -> Result<Members, Fail>
     }
 }
 
-// The row that a text reads as.
+/// The row that a text reads as.
 pub fn row(alloc: Global, text: &str) -> Result<Row, Fail> {
     Ok(Row::of(alloc, members(alloc, text)?)?)
 }
 
-// An edge to a node without leaf and edges.
+/// An edge to a node without leaf and edges.
 pub fn edge(alloc: Global, label: u8, prefix: &[u8]) -> Result<Edge, AllocError> {
     Ok(Edge::of(label, Node::of(alloc, prefix, None, Edges::new(alloc))?))
 }
 
-// Edges by these labels.
+/// Edges by these labels.
 pub fn edges_by(alloc: Global, labels: &[u8]) -> Result<Edges, AllocError>
     ensures { IfOk result (λ e. EdgesRise (nodes_in (edges_of e))) }
 {
@@ -42,7 +42,7 @@ pub fn edges_by(alloc: Global, labels: &[u8]) -> Result<Edges, AllocError>
     Ok(edges)
 }
 
-// An edge to a node with a leaf.
+/// An edge to a node with a leaf.
 fn leaf_edge(
     alloc: Global,
     label: u8,
@@ -61,7 +61,7 @@ fn leaf_edge(
     Ok(Edge::of(label, Node::of(alloc, prefix, Some(leaf), under)?))
 }
 
-// An edge to a node with two edges and no leaf.
+/// An edge to a node with two edges and no leaf.
 fn fork(alloc: Global, label: u8, prefix: &[u8], low: Edge, high: Edge) -> Result<Edge, AllocError>
     ensures { IfOk result (λ e. edge_node e ≡ record {
       prefix = label ∷ prefix.now;
@@ -74,7 +74,7 @@ fn fork(alloc: Global, label: u8, prefix: &[u8], low: Edge, high: Edge) -> Resul
     Ok(Edge::of(label, Node::of(alloc, prefix, None, edges)?))
 }
 
-// One edge.
+/// One edge.
 fn one(alloc: Global, edge: Edge) -> Result<Edges, AllocError>
     ensures edges { IfOk result (λ e. edges_of e ≡ edge_node edge ∷ []) }
     ensures rising { IfOk result (λ e. EdgesRise (nodes_in (edges_of e))) }
@@ -84,7 +84,7 @@ fn one(alloc: Global, edge: Edge) -> Result<Edges, AllocError>
     Ok(edges)
 }
 
-// An edge to a node with a leaf and no edges.
+/// An edge to a node with a leaf and no edges.
 fn tip(alloc: Global, label: u8, prefix: &[u8], key: &[u8], row: &Row) -> Result<Edge, AllocError>
     ensures { IfOk result (λ e. edge_node e
         ≡ record { prefix = label ∷ prefix.now; leaf = Some (key.now, row.now); under = no_nodes }) }
@@ -92,7 +92,7 @@ fn tip(alloc: Global, label: u8, prefix: &[u8], key: &[u8], row: &Row) -> Result
     leaf_edge(alloc, label, prefix, key, row, Edges::new(alloc))
 }
 
-// The tree of `foo`, `foot` and `football`, each ended by a byte 00.
+/// The tree of `foo`, `foot` and `football`, each ended by a byte 00.
 pub fn forked_tree(alloc: Global, row: &Row) -> Result<Tree, AllocError> {
     let foot = tip(alloc, 0, b"", b"foot\0", row)?;
     let t = fork(
@@ -107,7 +107,7 @@ pub fn forked_tree(alloc: Global, row: &Row) -> Result<Tree, AllocError> {
     Ok(Tree::of_root(Node::of(alloc, b"", None, one(alloc, f)?)?, 3))
 }
 
-// The tree of ``, `a`, `ab` and `abc`, each under the one before, with their lengths for rows.
+/// The tree of ``, `a`, `ab` and `abc`, each under the one before, with their lengths for rows.
 pub fn nested_tree(alloc: Global) -> Result<Tree, Fail> {
     let c = leaf_edge(
         alloc,
@@ -137,7 +137,7 @@ pub fn nested_tree(alloc: Global) -> Result<Tree, Fail> {
     Ok(Tree::of_root(Node::of(alloc, b"", Some(leaf), one(alloc, a)?)?, 4))
 }
 
-// The tree of one key, which is `label` and then `prefix`.
+/// The tree of one key, which is `label` and then `prefix`.
 pub fn tree_of_one(alloc: Global, label: u8, prefix: &[u8], key: &[u8]) -> Result<Tree, Fail>
     requires { key.now ≡ label ∷ prefix.now }
 {

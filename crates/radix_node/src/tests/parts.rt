@@ -1,4 +1,4 @@
-// Edges and nodes alone.
+//! Edges and nodes alone.
 ghost use Rattle.std.specs.Prelude.{◌≤◌, length};
 ghost use Rattle.radix_node.specs.Edges.{EdgesRise};
 ghost use Rattle.radix_node.specs.Node.{edges_of, nodes_in};
@@ -12,7 +12,7 @@ use std::test::Fail;
 
 // ---- edges
 
-// All bytes, in a scattered order, since 167 is odd.
+/// All bytes, in a scattered order, since 167 is odd.
 fn all_bytes(alloc: Global) -> Result<Vec<u8>, AllocError> {
     let mut bytes = Vec::with_capacity(alloc, 256)?;
     for at in 0..=255u8 {
@@ -21,7 +21,7 @@ fn all_bytes(alloc: Global) -> Result<Vec<u8>, AllocError> {
     Ok(bytes)
 }
 
-// Whether each byte is a label, at its own place.
+/// Whether each byte is a label, at its own place.
 fn has_all_bytes(edges: &Edges) -> bool
     requires { EdgesRise (nodes_in (edges_of edges.now)) }
 {
@@ -86,7 +86,7 @@ fn edges_are_copied_with_another_in_place_of_some(rt: HostRuntime) -> Result<(),
 
 // ---- nodes
 
-// A key, what it has after the prefix `foo`, and how many bytes they have in common.
+/// A key, what it has after the prefix `foo`, and how many bytes they have in common.
 const AFTER_FOO: [(&[u8], Option<&[u8]>, usize); 4] = [
     (b"football", Some(b"tball"), 3),
     (b"foo", Some(b""), 3),

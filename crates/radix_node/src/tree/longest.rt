@@ -1,3 +1,4 @@
+//! The longest stored prefix of a key.
 ghost use Rattle.std.specs.Prelude.{◌≡◌, option_copied};
 ghost use Rattle.radix_node.specs.Longest.{prefixes_of, longest_pair, longest};
 ghost use Rattle.radix_node.specs.Nodes.{pairs_of};
@@ -16,7 +17,7 @@ impl Tree {
         Some(self.last_on_path(key)?.row())
     }
 
-    // The leaf of the longest key that is a prefix of `key`: the last one on the way down.
+    /// The leaf of the longest key that is a prefix of `key`: the last one on the way down.
     fn last_on_path(&self, key: &[u8]) -> Option<&Leaf>
         ensures { option_copied result ≡ longest_pair (prefixes_of key.now (pairs_of self.now)) }
     {

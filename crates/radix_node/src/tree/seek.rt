@@ -1,3 +1,4 @@
+//! The node of a prefix.
 ghost use Rattle.std.specs.Prelude.{◌≡◌, IfSome, option_map};
 ghost use Rattle.mdb_datum.specs.Bytes.{Bytes};
 ghost use Rattle.radix_node.specs.Node.{pairs_at, plain_node};

@@ -1,4 +1,4 @@
-// A tree as deep as keys are long: one key for each number of letters from none to 2,048.
+//! A tree as deep as keys are long: one key for each number of letters from none to 2,048.
 use super::written::{put, row, stand, take, take_all};
 use crate::{Edit, TreeTxn};
 use mdb_datum::Row;
@@ -9,7 +9,7 @@ use std::thread;
 
 const LETTERS: [u8; 2048] = [b'a'; 2048];
 
-// Puts all the keys, the shortest or the longest first.
+/// Puts all the keys, the shortest or the longest first.
 fn put_all(txn: &mut TreeTxn, row: &Row, longest_first: bool) -> Result<(), AllocError> {
     for turn in 0..=2048usize {
         let len = if longest_first { 2048 - turn } else { turn };
@@ -18,7 +18,7 @@ fn put_all(txn: &mut TreeTxn, row: &Row, longest_first: bool) -> Result<(), Allo
     Ok(())
 }
 
-// Takes out the deepest key, and then the 1,024 that have 1,024 letters or more.
+/// Takes out the deepest key, and then the 1,024 that have 1,024 letters or more.
 fn take_deep(txn: &mut TreeTxn) -> Result<bool, AllocError> {
     let deepest = take(txn, &LETTERS)?;
     let count = take_all(txn, &LETTERS[..1024])?;
@@ -32,7 +32,7 @@ fn is_deep(tree: &Tree) -> bool {
         && tree.root().count() == 2049
 }
 
-// Whether the tree is as deep, and its look-ups and deletes are right. Both trees are dropped.
+/// Whether the tree is as deep, and its look-ups and deletes are right. Both trees are dropped.
 fn deep_run(alloc: Global, row: &Row, longest_first: bool) -> Result<bool, AllocError> {
     let mut txn = Tree::empty(alloc)?.txn()?;
     put_all(&mut txn, row, longest_first)?;

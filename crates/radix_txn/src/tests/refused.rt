@@ -1,12 +1,12 @@
-// Each allocation may fail: a write that is refused leaves the pairs that were there, and spoils
-// the transaction.
+//! Each allocation may fail: a write that is refused leaves the pairs that were there, and spoils
+//! the transaction.
 use crate::{Edit, TreeTxn};
 use mdb_datum::{Datum, Row, read_doc};
 use radix_node::Tree;
 use std::alloc::{AllocError, Global};
 use std::test::Fail;
 
-// A row without members.
+/// A row without members.
 #[tactic(auto, using(mdb_datum::proofs::Variants::doc_of_members))]
 fn bare_row(alloc: Global) -> Option<Row> {
     match read_doc(alloc, b"{}") {
@@ -15,7 +15,7 @@ fn bare_row(alloc: Global) -> Option<Row> {
     }
 }
 
-// One write of a mixed run: an insert, a delete or a delete by prefix of a key of few letters.
+/// One write of a mixed run: an insert, a delete or a delete by prefix of a key of few letters.
 fn write(txn: &mut TreeTxn, row: &Row, step: u8) -> Result<(), AllocError> {
     if txn.spoiled() {
         return Err(AllocError);
@@ -30,7 +30,7 @@ fn write(txn: &mut TreeTxn, row: &Row, step: u8) -> Result<(), AllocError> {
     Ok(())
 }
 
-// Makes writes until one is refused, and tells whether each left what it should.
+/// Makes writes until one is refused, and tells whether each left what it should.
 fn mixed_run(alloc: Global, row: &Row) -> Result<bool, AllocError> {
     let mut txn = Tree::empty(alloc)?.txn()?;
     for step in 0..60u8 {

@@ -1,4 +1,4 @@
-// A run of writes on a tree and on a sorted map.
+//! A run of writes on a tree and on a sorted map.
 ghost use Rattle.std.specs.Prelude.{◌<◌};
 
 use super::written::{is_row, put, row, take, take_all};
@@ -10,7 +10,7 @@ use std::test::Fail;
 
 type Plain = BTreeMap<Vec<u8>, u64>;
 
-// Numbers by Marsaglia's shifts, the same in each run.
+/// Numbers by Marsaglia's shifts, the same in each run.
 #[derive(Drop)]
 struct Random(u64);
 
@@ -27,7 +27,7 @@ impl Random {
         x % bound
     }
 
-    // A key of few letters, so that keys come again and begin with each other.
+    /// A key of few letters, so that keys come again and begin with each other.
     fn key(&mut self, alloc: Global, most: u64) -> Result<Vec<u8>, Fail>
         requires { most < 100 }
     {

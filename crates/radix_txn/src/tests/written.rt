@@ -1,4 +1,4 @@
-// Writes that are in order, and what is read of a tree.
+//! Writes that are in order, and what is read of a tree.
 ghost use Rattle.std.specs.Prelude.{◌≤◌, IfOk, length};
 ghost use Rattle.std.specs.List.{All};
 ghost use Rattle.mdb_datum.specs.Datum as of;
@@ -22,13 +22,13 @@ fn members(alloc: Global, text: &str) -> Result<Members, Fail>
     }
 }
 
-// The row of a number.
+/// The row of a number.
 pub fn row(alloc: Global, number: u64) -> Result<Row, Fail> {
     let text = format!(in alloc; "{{\"n\":{number}}}")?;
     Ok(Row::of(alloc, members(alloc, text.as_str())?)?)
 }
 
-// Whether there is a row, and it is that of the number.
+/// Whether there is a row, and it is that of the number.
 pub fn is_row(row: Option<&Row>, number: u64) -> bool {
     match row {
         Some(row) => match row.get("n") {
@@ -76,7 +76,7 @@ pub fn freeze(txn: TreeTxn) -> Result<Tree, AllocError> {
     txn.freeze()
 }
 
-// A transaction with these keys put in turn, each with its place for its number.
+/// A transaction with these keys put in turn, each with its place for its number.
 pub fn txn_of(alloc: Global, keys: &[&[u8]]) -> Result<TreeTxn, Fail> {
     let mut txn = Tree::empty(alloc)?.txn()?;
     for (place, key) in keys.iter().enumerate() {
@@ -103,7 +103,7 @@ fn is_node(tree: &Tree, (path, prefix, has_leaf, labels): Line) -> bool {
     node.prefix() == prefix && node.leaf().is_some() == has_leaf && labels_are(node.edges(), labels)
 }
 
-// Whether these are the nodes of the tree, where each edge of one leads to another one of them.
+/// Whether these are the nodes of the tree, where each edge of one leads to another one of them.
 pub fn nodes_are(tree: &Tree, nodes: &[Line]) -> bool {
     for line in nodes {
         if !is_node(tree, *line) {
@@ -113,7 +113,7 @@ pub fn nodes_are(tree: &Tree, nodes: &[Line]) -> bool {
     true
 }
 
-// An insert of `ab`, one of `b`, and a delete of what begins with `a`.
+/// An insert of `ab`, one of `b`, and a delete of what begins with `a`.
 pub fn three_writes(alloc: Global, row: &Row) -> Result<Vec<Write>, AllocError>
     ensures { IfOk result (λ v. All IsShort v.items) }
 {
@@ -135,7 +135,7 @@ fn insert_of(alloc: Global, key: &[u8], row: &Row) -> Result<Write, AllocError>
     })
 }
 
-// How many keys there are after these writes on an empty tree.
+/// How many keys there are after these writes on an empty tree.
 pub fn applied(alloc: Global, writes: &[Write]) -> Result<Option<u64>, AllocError>
     requires { All IsShort writes.now }
 {
