@@ -9,6 +9,7 @@ abbrev pub is_name_byte : ℕ → Bool
 is_name_byte b =
     is_in_range 97 122 b || is_in_range 65 90 b || is_in_range 48 57 b || (b == 95) || (b == 45)
 
+-- a word of a client file: as a declared name, but that `_prefix` may stand at its end
 abbrev pub is_word : Bytes → Bool
 is_word s = nat_lt 0 (length s) && nat_le (length s) 64 && list_all is_name_byte s
 

@@ -34,6 +34,7 @@ pub use ask::Ask;
 pub use ask_error::AskError;
 pub use error::SchemaError;
 pub use index_def::IndexDef;
+pub use names::{is_name_byte, is_word};
 pub use query::Query;
 pub use read::read_schema;
 pub use rows::Rows;

@@ -57,6 +57,23 @@ impl Query {
         })
     }
 
+    /// A question of these parts, which it takes over. It takes no memory.
+    pub fn from_parts(ask: Ask, table: Text, index: Text, args: Items) -> Query
+        ensures { result ≡ record {
+          ask = ask;
+          table = table;
+          index = index;
+          args = items_of args;
+        } }
+    {
+        Query {
+            ask,
+            table,
+            index,
+            args,
+        }
+    }
+
     /// What is asked.
     pub fn ask(&self) -> Ask
         ensures { result ≡ self.now.ask }

@@ -1,5 +1,6 @@
 //! The places of tables and indexes by their names.
 use super::*;
+use std::test::Fail;
 
 const FILE: &str = r#"{"memdb":1,"tables":{
 "keys":{"indexes":{"id":{"unique":true,"indexer":$}}},
@@ -65,12 +66,18 @@ fn have_places(schema: &Schema) -> bool {
     }
 }
 
-#[test]
-fn a_name_is_found_at_its_place(rt: HostRuntime) -> Result<(), AllocError> {
-    let file = file_of(rt.alloc(), FILE, "")?;
-    match read_schema(rt.alloc(), file.as_bytes()) {
-        Ok(schema) => assert!(rt; have_places(&schema)),
-        Err(_) => assert!(rt; false, "no schema"),
+/// Whether the file's tables and indexes are found. Want of memory is an error.
+fn is_found(alloc: Global) -> Result<bool, Fail> {
+    let file = file_of(alloc, FILE, "")?;
+    match read_schema(alloc, file.as_bytes()) {
+        Ok(schema) => Ok(have_places(&schema)),
+        Err(SchemaError::Memory) => Err(Fail::from("no memory")),
+        Err(_) => Ok(false),
     }
+}
+
+#[test]
+fn a_name_is_found_at_its_place(rt: HostRuntime) -> Result<(), Fail> {
+    assert!(rt; is_found(rt.alloc())?);
     Ok(())
 }

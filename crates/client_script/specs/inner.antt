@@ -1,0 +1,7 @@
+pub mod FirstLine
+pub mod GrammarParts
+pub mod LineAnswer
+pub mod LineDoc
+pub mod ScriptAnswer
+pub mod StoredScript
+pub mod WordView

@@ -1,0 +1,35 @@
+//! Client files: the commands of a script, each with the number of its line.
+//!
+//! [`read_script`] reads the bytes of a file as a [`Script`], or tells the first rule that they
+//! break and the line that breaks it. The layer above may use a script's [`Line`]s with their
+//! [`Command`]s, and [`Scripts`], a list of scripts that are taken out one after the other. What
+//! bytes read as is said by the definitions in `specs/`: lines, words, the grammar, the rules.
+//!
+//! Reading takes time in proportion to the file, and memory for the commands. A line without a
+//! command takes no memory.
+#![tactic(auto)]
+
+mod command;
+mod command_word;
+mod grammar;
+mod line;
+mod line_error;
+mod line_rule;
+mod lines;
+mod parts;
+mod question;
+mod read;
+mod script;
+mod script_error;
+mod scripts;
+mod word;
+
+pub use command::Command;
+pub use line::Line;
+pub use read::read_script;
+pub use script::Script;
+pub use script_error::ScriptError;
+pub use scripts::Scripts;
+
+#[cfg(test)]
+mod tests;
