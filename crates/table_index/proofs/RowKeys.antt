@@ -17,7 +17,8 @@ use Rattle.mdb_schema.proofs.Membership.{list_any-false, All-from_contains}
 use Rattle.mdb_schema.specs.declared.write_error.WriteError.{WriteError}
 use Rattle.table_index.specs.inner.Keys.{IsShort, Tells, told_at}
 
-short_from : (k : Bytes) → nat_lt 1024 (length k) ≡ false → length k ≤ 1024
+-- a key that isn't too long is short
+pub short_from : (k : Bytes) → nat_lt 1024 (length k) ≡ false → length k ≤ 1024
 short_from k e = grind (arith, nat_tests)
 
 none_long : (ks : List Bytes) → list_any is_too_long ks ≡ false → All IsShort ks

@@ -1,7 +1,8 @@
 //! The full keys of a row in one index.
-ghost use Rattle.std.specs.Prelude.{◌≡◌, ◌≤◌, IfOk, All, length, map, option_map, slice_get};
+ghost use Rattle.std.specs.Prelude.{◌≡◌, ◌≤◌, [], IfOk, All, length, map, option_map, replicate, slice_get};
 ghost use Rattle.mdb_encode.specs.Bytes.{Bytes};
 ghost use Rattle.mdb_schema.specs.State.{full_key};
+ghost use Rattle.mdb_schema.specs.Write.{is_among};
 ghost use Rattle.table_index.specs.inner.Keys.{IsShort};
 
 use crate::id_key::IdKey;
@@ -84,11 +85,33 @@ impl FullKeys {
         Ok(FullKeys { keys: full })
     }
 
+    /// No keys.
+    fn none(alloc: Global) -> FullKeys
+        ensures { result ≡ [] }
+    {
+        FullKeys {
+            keys: Vec::new(alloc),
+        }
+    }
+
     /// The keys.
     pub(crate) fn keys(&self) -> &[FullKey]
         ensures { result.now ≡ self.now }
     {
         self.keys.as_slice()
+    }
+
+    /// Whether a key is one of these.
+    pub(crate) fn contains(&self, key: &FullKey) -> bool
+        ensures { result ≡ is_among self.now key.now }
+    {
+        let keys = self.keys.as_slice();
+        for own in keys {
+            if key.bytes() == own.bytes() {
+                return true;
+            }
+        }
+        false
     }
 }
 
@@ -112,6 +135,17 @@ impl RowKeys {
         ensures { result ≡ keys.items }
     {
         RowKeys { keys }
+    }
+
+    /// No full keys in so many indexes. It takes memory for the list.
+    pub(crate) fn none(alloc: Global, count: usize) -> Result<RowKeys, AllocError>
+        ensures { IfOk result (λ keys. keys ≡ replicate count []) }
+    {
+        let mut keys = Vec::with_capacity(alloc, count)?;
+        for at in 0..count {
+            keys.push(FullKeys::none(alloc))?;
+        }
+        Ok(RowKeys { keys })
     }
 
     /// The full keys, each at its index's place.

@@ -3,21 +3,35 @@
 //! A [`Table`] keeps one radix tree an index, and contracts see it as its rows, rising by `id` key:
 //! that each tree holds the index's entries of the rows is the type's invariant. It never changes;
 //! a [`TableTxn`] makes new ones by copied paths. A write and a question take time in the length of
-//! the keys and the number of the row's keys, never in the number of rows; a list of rows takes time
-//! in its length.
+//! the keys and the number of the row's keys, never in the number of rows; a list of rows, and a
+//! wipe, take time in the number of the entries listed.
 #![tactic(auto)]
 
+mod answer;
+mod ask;
 mod edits;
+mod free_keys;
 mod full_key;
 mod id_key;
+mod listed;
+mod lookup;
+mod put;
+mod question;
+mod question_key;
+mod refusal;
 mod remove;
+mod replace;
 mod row_keys;
+mod stored;
 mod table;
 mod table_txn;
 #[cfg(test)]
 mod tests;
 mod trees;
 mod txn;
+mod wipe;
+mod wipe_error;
 
 pub use table::Table;
 pub use table_txn::TableTxn;
+pub use wipe_error::WipeError;

@@ -1,15 +1,14 @@
 //! The removal of a row.
-ghost use Rattle.std.specs.Prelude.{◌≡◌, false, MatchResult, option_copied};
-ghost use Rattle.mdb_schema.specs.LawfulSchema.{IsLawfulTable};
-ghost use Rattle.mdb_schema.specs.State.{row_at};
+ghost use Rattle.std.specs.Prelude.{◌≡◌, false, Some, MatchResult};
 ghost use Rattle.mdb_schema.specs.Write.{remove_row};
 ghost use Rattle.table_index.specs.Table.{AnswersRemove};
 ghost use Rattle.table_index.specs.inner.Held.{AreSound, AreTrees, nodes_of, rows_held};
-ghost use Rattle.table_index.specs.inner.TreeEdits.{IsRefused, IsRemoval, is_memory};
+ghost use Rattle.table_index.specs.inner.TreeEdits.{IsRefused, IsWritten};
 
 use crate::edits::delete_each;
-use crate::id_key::IdKey;
+use crate::refusal::is_memory;
 use crate::row_keys::{full_keys_of, id_key_of};
+use crate::stored::row_at;
 use crate::table_txn::TableTxn;
 use mdb_datum::Row;
 use mdb_schema::{TableDef, WriteError};
@@ -38,13 +37,6 @@ impl TableTxn {
     }
 }
 
-/// Whether a write found no memory.
-fn is_memory(error: &WriteError) -> bool
-    ensures { result ≡ is_memory error.now }
-{
-    matches!(error, WriteError::Memory)
-}
-
 /// Takes the row of another's `id` key out of the trees, and gives it.
 fn take_row(
     alloc: Global,
@@ -56,7 +48,7 @@ fn take_row(
     requires held { AreTrees def.now (nodes_of txns.old) }
     ensures { let told = remove_row def.now row.now (rows_held def.now (nodes_of txns.old)) in
         MatchResult result
-        (λ old. IsRemoval def.now row.now old txns.old txns.new)
+        (λ old. IsWritten def.now told (Some old) txns.new)
         (λ e. IsRefused told e txns.old txns.new) }
 {
     let count = def.len();
@@ -75,19 +67,4 @@ fn take_row(
     };
     delete_each(txns, keys.lists())?;
     Ok(old)
-}
-
-/// The row of an `id` key, found in the tree of the index `id`.
-fn row_at<'a>(def: &TableDef, txns: &'a [TreeTxn], id: &IdKey) -> Option<&'a Row>
-    requires lawful { IsLawfulTable def.now }
-    requires sound { AreSound txns.now }
-    requires held { AreTrees def.now (nodes_of txns.now) }
-    ensures { option_copied result
-        ≡ row_at def.now id.now (rows_held def.now (nodes_of txns.now)) }
-{
-    let Some(place) = def.find("id") else {
-        unreachable!();
-    };
-    let txn = &txns[place];
-    txn.get(id.bytes())
 }

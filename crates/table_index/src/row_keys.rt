@@ -13,7 +13,7 @@ use mdb_schema::{IndexDef, TableDef, WriteError};
 use std::alloc::Global;
 
 /// An index's place as errors tell it.
-fn told_place(def: &TableDef, at: usize) -> u32
+pub(crate) fn told_place(def: &TableDef, at: usize) -> u32
     requires { at < length def.now.indexes }
     ensures { result ≡ at }
 {

@@ -1,7 +1,7 @@
 //! A table.
 ghost use Rattle.std.specs.Prelude.{◌≡◌, [], IfOk};
 
-use crate::trees::empty_trees;
+use crate::trees::{empty_trees, shared};
 use mdb_schema::TableDef;
 use radix_node::Tree;
 use std::alloc::{AllocError, Global};
@@ -37,6 +37,18 @@ impl Table {
         let trees = empty_trees(alloc, def.len())?;
         Ok(Table {
             def: def.share()?,
+            trees,
+        })
+    }
+
+    /// A second owner of the same rows. It takes memory for a list of the indexes, and time in
+    /// their number. It is refused for want of memory, or of room to count one more owner.
+    pub fn share(&self) -> Result<Table, AllocError>
+        ensures { IfOk result (λ t. t ≡ self.now) }
+    {
+        let trees = shared(*self.trees.allocator(), &self.trees)?;
+        Ok(Table {
+            def: self.def.share()?,
             trees,
         })
     }

@@ -1,7 +1,21 @@
-// What no clause says: that each call succeeds while there is memory.
+//! What no clause says: that each call succeeds while there is memory.
+mod ask;
+mod drawn;
+mod further;
+mod long;
+mod mixed;
+mod plain;
+mod played;
+mod put;
+mod refused;
+mod wipe;
+mod without_memory;
+mod words;
+mod worked;
+
 use crate::Table;
 use mdb_datum::{Datum, Items, Row, Text, read_doc};
-use mdb_schema::{Ask, Query, Rows, WriteError, read_schema};
+use mdb_schema::{Ask, Query, Rows, TableDef, WriteError, read_schema};
 use std::alloc::Global;
 use std::test::Fail;
 
@@ -18,22 +32,36 @@ fn row_of(alloc: Global, text: &str) -> Result<Row, Fail> {
     }
 }
 
-/// A table of the schema, without rows.
-fn empty_table(alloc: Global) -> Result<Table, Fail> {
-    let Ok(schema) = read_schema(alloc, SCHEMA.as_bytes()) else {
+/// What a schema says of its first table.
+fn def_of(alloc: Global, schema: &str) -> Result<TableDef, Fail> {
+    let Ok(schema) = read_schema(alloc, schema.as_bytes()) else {
         return Err(Fail::from("no schema"));
     };
     match schema.table(0) {
-        Some(def) => Ok(Table::empty(alloc, def)?),
+        Some(def) => Ok(def.share()?),
         None => Err(Fail::from("no table")),
     }
+}
+
+/// The first table of a schema, without rows.
+fn table_of(alloc: Global, schema: &str) -> Result<Table, Fail> {
+    Ok(Table::empty(alloc, &def_of(alloc, schema)?)?)
+}
+
+/// A table of the schema, without rows.
+fn empty_table(alloc: Global) -> Result<Table, Fail> {
+    table_of(alloc, SCHEMA)
 }
 
 #[test]
 fn an_empty_table_has_no_row_to_remove(rt: HostRuntime) -> Result<(), Fail> {
     let row = row_of(rt.alloc(), "{\"name\":\"ann\",\"tags\":[\"a\"]}")?;
-    let mut txn = empty_table(rt.alloc())?.txn()?;
-    assert!(rt; matches!(txn.remove(&row), Err(WriteError::NotFound)));
+    let mut txn = table_of(rt.alloc(), SCHEMA)?.txn()?;
+    let removed = txn.remove(&row);
+    if matches!(removed, Err(WriteError::Memory)) {
+        return Err(Fail::from("no memory"));
+    }
+    assert!(rt; matches!(removed, Err(WriteError::NotFound)));
     assert!(rt; !txn.spoiled());
     drop(txn.stand()?);
     drop(txn.freeze()?);
@@ -43,7 +71,7 @@ fn an_empty_table_has_no_row_to_remove(rt: HostRuntime) -> Result<(), Fail> {
 #[test]
 fn a_row_without_its_key_is_refused(rt: HostRuntime) -> Result<(), Fail> {
     let row = row_of(rt.alloc(), "{\"tags\":[]}")?;
-    let mut txn = empty_table(rt.alloc())?.txn()?;
+    let mut txn = table_of(rt.alloc(), SCHEMA)?.txn()?;
     assert!(rt; matches!(txn.remove(&row), Err(WriteError::NoId)));
     Ok(())
 }

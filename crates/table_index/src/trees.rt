@@ -42,3 +42,14 @@ pub(crate) fn standing(alloc: Global, txns: &mut [TreeTxn]) -> Result<Vec<Tree>,
     }
     Ok(trees)
 }
+
+/// Second owners of the same trees. It takes memory for the list.
+pub(crate) fn shared(alloc: Global, trees: &[Tree]) -> Result<Vec<Tree>, AllocError>
+    ensures { IfOk result (λ owned. owned.items ≡ trees.now) }
+{
+    let mut owned = Vec::with_capacity(alloc, trees.len())?;
+    for tree in trees {
+        owned.push(tree.share()?)?;
+    }
+    Ok(owned)
+}

@@ -1,34 +1,59 @@
 -- What a write does to the trees of a table, one after another.
-use Rattle.std.specs.Prelude.{◌≡◌, ◌⊎◌, Bool, true, false, List, [], ◌∷◌, Some, Ok, Err}
+use Rattle.std.specs.Prelude.{◌≡◌, ◌⊎◌, Bool, true, false, List, [], ◌∷◌, Option, is_some, Ok, Err}
+use Rattle.std.specs.List.{zip}
 use Rattle.mdb_datum.specs.Row.{Fields, Pair}
 use Rattle.mdb_encode.specs.Bytes.{Bytes}
 use Rattle.mdb_schema.specs.Refusals.{write_error}
 use Rattle.mdb_schema.specs.Schema.{TableSchema}
-use Rattle.mdb_schema.specs.Write.{Tested, Changed, WriteRefusal, remove_row}
-use Rattle.mdb_schema.specs.inner.Edits.{without_all}
+use Rattle.mdb_schema.specs.Write.{Tested, Changed, WriteRefusal}
+use Rattle.mdb_schema.specs.inner.Edits.{put_all, stale_keys, without_all}
 use Rattle.mdb_schema.specs.declared.write_error.WriteError.{WriteError}
 use Rattle.mdb_schema.specs.declared.write_error.WriteError.TheVariants.{Memory}
 use Rattle.radix_txn.specs.Txn.{Txn}
 use Rattle.table_index.specs.inner.Held.{AreSound, AreTrees, nodes_of, rows_held}
 
+-- each tree edited by what stands at its place
+abbrev pub edited_each : {K : Type 0} → (K → List Pair → List Pair) → List K → List (List Pair)
+    → List (List Pair)
+edited_each edit [] es = []
+edited_each edit (k ∷ ks) [] = []
+edited_each edit (k ∷ ks) (e ∷ es) = edit k e ∷ edited_each edit ks es
+
 -- each tree without the keys at its place
 abbrev pub without_each : List (List Bytes) → List (List Pair) → List (List Pair)
-without_each [] es = []
-without_each (ks ∷ kss) [] = []
-without_each (ks ∷ kss) (e ∷ es) = without_all ks e ∷ without_each kss es
+without_each kss es = edited_each without_all kss es
+
+-- the full keys of a row in an index, and those of the row that it replaces
+abbrev pub NewAndOld : Type 0
+NewAndOld = List Bytes × List Bytes
+
+-- a tree with a row under its full keys, and without those that only the replaced row has
+abbrev pub replaced_in : Fields → NewAndOld → List Pair → List Pair
+replaced_in row ks es = put_all ks.0 row (without_all (stale_keys ks.0 ks.1) es)
+
+-- each tree so, by the full keys at its place
+abbrev pub replaced_each : Fields → List (List Bytes) → List (List Bytes) → List (List Pair)
+    → List (List Pair)
+replaced_each row new old es = edited_each (replaced_in row) (zip new old) es
 
 -- the error is want of memory
 abbrev pub is_memory : WriteError → Bool
 is_memory Memory = true
 is_memory e = false
 
--- the row of another's `id` key is out of the trees
-pub record IsRemoval (t : TableSchema) (row old : Fields) (before after : List Txn) : Type 0 where
+-- the trees hold the rows that a write leaves, and this is the row that was there
+pub record IsWritten (t : TableSchema) (told : Tested Changed) (old : Option Fields)
+    (after : List Txn) : Type 0 where
   pub left : List Fields
-  pub gone : remove_row t row (rows_held t (nodes_of before)) ≡ Ok (left, Some old)
+  pub done : told ≡ Ok (left, old)
   pub held : AreTrees t (nodes_of after)
   pub rows : rows_held t (nodes_of after) ≡ left
   pub sound : AreSound after
+
+-- the trees hold the rows that a put leaves, and this is whether there was a row
+abbrev pub IsPut : TableSchema → Tested Changed → Bool → List Txn → Type 0
+IsPut t told replaced after =
+    (old : Option Fields) × (replaced ≡ is_some old) × IsWritten t told old after
 
 -- the error is want of memory; or it tells the refusal, and nothing has changed
 abbrev pub IsRefused : Tested Changed → WriteError → List Txn → List Txn → Type 0

@@ -1,7 +1,11 @@
--- What a contract sees of a table and of a transaction on it.
+-- What a contract sees of a table, of a transaction on it and of where a question looks.
 use Rattle.std.specs.Prelude.{◌≡◌, false}
+use Rattle.mdb_schema.specs.Answer.{Lookup}
 use Rattle.table_index.specs.Table.{TableRows, TableChange}
 use Rattle.table_index.specs.inner.Held.{AreSound, AreTrees, nodes_of, rows_held}
+use Rattle.table_index.specs.inner.Keys.{IsShort}
+use Rattle.table_index.specs.inner.Lookups.{key_or_empty}
+use Rattle.table_index.specs.declared.lookup.Target.TheInside as target
 use Rattle.table_index.specs.declared.table.Table.TheInside as table
 use Rattle.table_index.specs.declared.table_txn.TableTxn.TheInside as table_txn
 
@@ -22,3 +26,9 @@ change_view t = record {
 pub record IsChange (t : table_txn.Inside) : Type 0 where
   pub trees : t.spoiled ≡ false → AreTrees t.def (nodes_of t.trees.items)
   pub sound : t.spoiled ≡ false → AreSound t.trees.items
+
+abbrev pub target_view : target.Inside → Lookup
+target_view l = record { place = l.place; index = l.index.now; key = key_or_empty l.key }
+
+abbrev pub IsTarget : target.Inside → Type 0
+IsTarget l = IsShort (key_or_empty l.key)

@@ -4,8 +4,8 @@ use Rattle.std.proofs.lemmas.Option.{slice_get_read}
 use Rattle.mdb_encode.specs.Bytes.{Bytes}
 use Rattle.mdb_schema.proofs.EntryEdits.{entry_at}
 use Rattle.radix_txn.specs.Txn.{Txn, txn_pairs}
-use Rattle.table_index.proofs.Taken.{found_there, place_in, no_name}
-use Rattle.table_index.proofs.remove.row_at.Goals as goal
+use Rattle.table_index.proofs.StoredRows.{found_there, place_in, no_name}
+use Rattle.table_index.proofs.stored.row_at.Goals as goal
 
 pub unreachable-requires : goal.unreachable-requires
 unreachable-requires c = no_name c.args.def.now c.requires.lawful (sym c.find.ensures ∙ c.in_default.is)

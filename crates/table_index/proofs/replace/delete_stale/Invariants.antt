@@ -1,0 +1,11 @@
+use Rattle.std.proofs.Common.{◌≡◌, drop, false}
+use Rattle.mdb_schema.specs.inner.Edits.{stale_keys, without_all}
+use Rattle.radix_txn.specs.Txn.{txn_pairs}
+use Rattle.table_index.proofs.replace.delete_stale.Given as goal
+
+abbrev pub invariant-loop-key : goal.invariant-loop-key
+invariant-loop-key l = record {
+  sound : l.txn.spoiled ≡ false;
+  pairs :
+      without_all (stale_keys l.kept (drop l.key-index l.old)) (txn_pairs l.txn) ≡ without_all (stale_keys l.kept l.old) (txn_pairs l.initial.txn);
+}

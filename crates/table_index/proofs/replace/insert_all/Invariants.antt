@@ -1,0 +1,10 @@
+use Rattle.std.proofs.Common.{◌≡◌, drop, false}
+use Rattle.mdb_schema.specs.inner.Edits.{put_all}
+use Rattle.radix_txn.specs.Txn.{txn_pairs}
+use Rattle.table_index.proofs.replace.insert_all.Given as goal
+
+abbrev pub invariant-loop-key : goal.invariant-loop-key
+invariant-loop-key l = record {
+  sound : l.txn.spoiled ≡ false;
+  pairs : put_all (drop l.key-index l.keys) l.row (txn_pairs l.txn) ≡ put_all l.keys l.row (txn_pairs l.initial.txn);
+}

@@ -1,0 +1,15 @@
+use Rattle.std.proofs.Common.{◌≡◌, ◌++◌, drop, take, map, length}
+use Rattle.std.specs.List.{zip}
+use Rattle.radix_txn.specs.Txn.{txn_pairs}
+use Rattle.table_index.specs.inner.Held.{AreSound}
+use Rattle.table_index.specs.inner.TreeEdits.{edited_each, replaced_each, replaced_in}
+use Rattle.table_index.proofs.replace.replace_each.Given as goal
+
+abbrev pub invariant-loop-at : goal.invariant-loop-at
+invariant-loop-at l = record {
+  sound : AreSound l.txns;
+  same : length l.txns ≡ length l.initial.txns;
+  pairs :
+      take l.at (map txn_pairs l.txns) ++ edited_each (replaced_in l.row) (drop l.at (zip l.keys l.old)) (drop l.at (map txn_pairs l.txns))
+      ≡ replaced_each l.row l.keys l.old (map txn_pairs l.initial.txns);
+}

@@ -1,0 +1,84 @@
+-- What a wipe does to the trees of a table.
+use Rattle.std.specs.Prelude.{◌≡◌, ◌⊎◌, ◌||◌, ℕ, zero, suc, Bool, true, false, List, [], ◌∷◌}
+use Rattle.std.specs.Prelude.{if◌then◌else◌, Contains, length, map, slice_get, codes, nat_eq}
+use Rattle.std.specs.Prelude.{Option, Some, None, is_some, Ok, Err}
+use Rattle.mdb_datum.specs.Pairs.{rows_of, with_prefix}
+use Rattle.mdb_datum.specs.Row.{Fields, Pair}
+use Rattle.mdb_encode.specs.Bytes.{Bytes}
+use Rattle.mdb_schema.specs.Answer.{Asked, AskRefusal}
+use Rattle.mdb_schema.specs.Entries.{entries}
+use Rattle.mdb_schema.specs.Refusals.{ask_error}
+use Rattle.mdb_schema.specs.Schema.{IndexSchema, TableSchema, index_place}
+use Rattle.mdb_schema.specs.State.{full_keys, id_key, Takes}
+use Rattle.mdb_schema.specs.Wipe.{without_rows}
+use Rattle.mdb_schema.specs.declared.ask_error.AskError.{AskError}
+use Rattle.mdb_schema.specs.declared.ask_error.AskError.TheVariants as ask_errors
+use Rattle.radix_node.specs.Pairs.{find, without_prefix}
+use Rattle.radix_txn.specs.Txn.{Txn, txn_pairs}
+use Rattle.table_index.specs.declared.wipe_error.WipeError.{WipeError}
+use Rattle.table_index.specs.declared.wipe_error.WipeError.TheVariants.{Memory, Refused}
+use Rattle.table_index.specs.inner.Held.{AreSound, AreTrees, nodes_of, rows_held}
+use Rattle.table_index.specs.inner.TreeEdits.{without_each}
+
+-- the rows that an index, if there is one, lists under a key
+abbrev pub listed_at : TableSchema → List Fields → Option IndexSchema → Bytes → List Fields
+listed_at t rows None key = []
+listed_at t rows (Some i) key = rows_of (with_prefix key (entries t i rows))
+
+-- the pairs of the trees, that of one place without those whose key begins with a key
+abbrev pub cut_at : Bytes → List (List Pair) → ℕ → List (List Pair)
+cut_at key [] place = []
+cut_at key (e ∷ es) zero = without_prefix key e ∷ es
+cut_at key (e ∷ es) (suc place) = e ∷ cut_at key es place
+
+abbrev pub holds : Bytes → Option (List Pair) → Bool
+holds key None = false
+holds key (Some pairs) = is_some (find key pairs)
+
+-- the tree at a place, if there is one, has a key, or it is the one that was cut
+abbrev pub holds_at : ℕ → Bytes → List (List Pair) → Option ℕ → Bool
+holds_at cut key es None = false
+holds_at cut key es (Some place) = nat_eq place cut || holds key (slice_get es place)
+
+-- the row of an `id` key is still to be taken out: the tree of the index `id` tells it, but where
+-- that tree was cut itself; then each row was listed once
+abbrev pub is_there : TableSchema → ℕ → Bytes → List (List Pair) → Bool
+is_there t cut id es = holds_at cut id es (index_place (codes "id") t.indexes)
+
+-- each index takes the row, as it takes those of a table
+abbrev pub IsStored : TableSchema → Fields → Type 0
+IsStored t row = (i : IndexSchema) → Contains t.indexes i → Takes row i
+
+-- a listed row is taken out of the trees if it is still there
+pub record IsTaking (t : TableSchema) (cut : ℕ) (row : Fields) (taken : Bool)
+    (before after : List Txn) : Type 0 where
+  pub told : taken ≡ is_there t cut (id_key t row) (map txn_pairs before)
+  pub pairs : map txn_pairs after
+      ≡ (if taken then without_each (map (λ i. full_keys t i row) t.indexes) (map txn_pairs before)
+      else map txn_pairs before)
+  pub sound : AreSound after
+
+-- so many rows are out of the trees, those of a list, and the trees hold the entries of the others
+pub record IsWiped (t : TableSchema) (gone : List Fields) (n : ℕ) (before after : List Txn)
+    : Type 0 where
+  pub count : n ≡ length gone
+  pub held : AreTrees t (nodes_of after)
+  pub rows : rows_held t (nodes_of after) ≡ without_rows t gone (rows_held t (nodes_of before))
+  pub sound : AreSound after
+
+-- the error of a wipe whose question is refused so
+abbrev pub wipe_error : AskError → WipeError
+wipe_error ask_errors.Memory = Memory
+wipe_error e = Refused e
+
+-- the error is want of memory
+abbrev pub wants_memory : WipeError → Bool
+wants_memory Memory = true
+wants_memory e = false
+
+-- the error is want of memory, where the question isn't refused; or it tells the refusal, and
+-- nothing has changed
+abbrev pub IsRefusedWipe : Asked (List Fields) → WipeError → List Txn → List Txn → Type 0
+IsRefusedWipe told e before after =
+    ((gone : List Fields) × (told ≡ Ok gone) × (e ≡ Memory))
+    ⊎ ((why : AskRefusal) × (told ≡ Err why) × (e ≡ Refused (ask_error why)) × (after ≡ before))

@@ -1,0 +1,63 @@
+//! A refused write leaves what each index lists.
+use super::played::{play, table_named};
+use crate::TableTxn;
+use std::alloc::Global;
+use std::test::Fail;
+
+/// What the table holds.
+const ROWS: &str = r#"insert {"name":"ann","age":1,"mail":"a","tags":["x","y"]} => inserted
+insert {"name":"b\u0000c","age":2,"mail":"b","tags":["x"]} => inserted
+get tags ["x"] => rows 2 {"age":1,"mail":"a","name":"ann","tags":["x","y"]} {"age":2,"mail":"b","name":"b\u0000c","tags":["x"]}
+"#;
+
+/// What each index lists.
+const EACH_INDEX: &str = "get age []\nget id []\nget mail []\nget tags []";
+
+/// Writes that are refused. Some have the `id` of a row that is there, and keys before the refused
+/// one that no row has.
+const REFUSED: &str = r#"insert {"age":9} => refused no-id
+insert {"name":1,"age":9} => refused wrong-kind id
+insert {"name":"ann"} => refused missing age
+insert {"name":"ann","age":"x"} => refused wrong-kind age
+insert {"name":"ann","age":65536} => refused out-of-range age
+insert {"name":"ann","age":9,"tags":["z",1]} => refused wrong-kind tags
+insert {"name":"ann","age":9,"mail":"b","tags":["z"]} => refused key-taken mail
+insert {"name":"cy","age":9,"mail":"a","tags":["z"]} => refused key-taken mail
+insert {"name":"c","age":9,"mail":"c","tags":["z","x\u0000b"]} => refused key-taken tags
+delete {"name":"cy"} => refused not-found
+delete {"age":1} => refused no-id
+delete {"name":["ann"]} => refused wrong-kind id
+delete-all ids [] => refused unknown-index
+delete-all age ["x"] => refused arg-kind
+delete-all age [1,2] => refused arg-count
+delete-all age [65536] => refused out-of-range
+delete-prefix id ["a"] => refused no-prefix-name
+delete-prefix age_prefix [1] => refused no-prefix-form"#;
+
+/// A change of a table with rows.
+fn filled(alloc: Global) -> Result<TableTxn, Fail> {
+    let mut txn = table_named(alloc, "users")?.txn()?;
+    let answers = play(alloc, &mut txn, ROWS)?;
+    if answers.as_str() == ROWS {
+        Ok(txn)
+    } else {
+        Err(Fail::from("other rows"))
+    }
+}
+
+/// Whether a line is answered as it says, and each index lists the same after it.
+fn leaves_all(alloc: Global, txn: &mut TableTxn, line: &str) -> Result<bool, Fail> {
+    let before = play(alloc, txn, EACH_INDEX)?;
+    let answer = play(alloc, txn, line)?;
+    let after = play(alloc, txn, EACH_INDEX)?;
+    Ok(before == after && answer.as_str().strip_suffix('\n') == Some(line))
+}
+
+#[test]
+fn a_refused_write_leaves_each_index(rt: HostRuntime) -> Result<(), Fail> {
+    let mut txn = filled(rt.alloc())?;
+    for line in REFUSED.lines() {
+        assert!(rt; leaves_all(rt.alloc(), &mut txn, line)?, "{line}");
+    }
+    Ok(())
+}
