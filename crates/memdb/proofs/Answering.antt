@@ -1,58 +1,104 @@
--- What the reading and the judging come to is what the run answers.
-use Rattle.std.proofs.Common.{◌≡◌, ◌∙◌, sym, ap, subst, ℕ, List, Some, Ok, codes}
+-- What the loading and the judging come to is what the run answers.
+use Rattle.std.proofs.Common.{◌≡◌, ◌∙◌, sym, ap, arith, refl, ℕ, zero, suc, ◌+◌, ◌<◌, List, [], ◌∷◌, Some, Ok, Err, codes, length, slice_get}
+use Rattle.std.specs.Prelude.{Option, Result, unwrap_or}
+use Rattle.client_script.specs.Script.{script_in}
+use Rattle.client_script.specs.declared.line.Line.{Line}
 use Rattle.mdb_datum.specs.Bytes.{Bytes}
+use Rattle.mdb_ports.specs.Files.{Contents}
 use Rattle.mdb_datum.specs.Reading.{reading}
-use Rattle.mdb_ports.specs.Faults.{Rose}
-use Rattle.mdb_ports.specs.Files.{IsAbsentIfReliable}
 use Rattle.mdb_schema.specs.Reading.{schema_of}
 use Rattle.mdb_schema.specs.Schema.{DbSchema}
-use Rattle.memdb.specs.FirstForm.{IsFirstSchema, first_schema}
-use Rattle.memdb.specs.Observed.{Observed, Inputs, AreInputs, IsReached, IsTooLarge, in_order}
-use Rattle.memdb.specs.Outcome.{IsAnswer, done, broken_schema, cannot_read, too_large, not_yet, name_line}
-use Rattle.memdb.specs.Words.{Named, files_named}
-use Rattle.memdb.specs.inner.Judged.{Judged, answered, broken, unsupported, JudgedScripts, scripts_answered, scripts_unsupported}
+use Rattle.mdb_schema.specs.Tests.{◌>>=◌}
+use Rattle.mdb_schema.specs.declared.error.SchemaError.TheVariants as schema_errors
+use Rattle.memdb.specs.Outcome.{IsAnswer, done, broken_schema, broken_script, cannot_read, too_large, not_yet, name_line}
+use Rattle.memdb.specs.Words.{Named, files_named, in_order}
+use Rattle.memdb.specs.inner.Judged.{Judged, answered, unsupported}
+use Rattle.memdb.specs.inner.ToldOf.{NamesFile, name_at, Tells}
+use Rattle.run_io.specs.Inputs.{script_answer, scripts_in, schema_answer}
+use Rattle.run_io.specs.Loads.{Loads}
+use Rattle.run_io.specs.Observed.{Observed, AreWhole}
+use Rattle.run_io.specs.declared.inputs.Inputs.{Inputs}
+use Rattle.run_io.specs.declared.load_error.LoadError.{LoadError}
+use Rattle.run_io.specs.declared.load_error.LoadError.TheVariants.{Memory, Read, TooLarge, Schema, Script}
+use Rattle.run_io.proofs.InOrder.{reached_there}
 
--- inputs that were read and judged are answered
+-- inputs that were loaded and judged are answered
 pub inputs_answered : (words : List Bytes) (seen : Observed) (named : Named) (inputs : Inputs) (status : ℕ) (text : Bytes) →
-    files_named words ≡ Some named → seen.now ≡ seen.before → AreInputs seen.told named inputs →
-    Judged named.clients inputs status text → IsAnswer words seen status text
-inputs_answered words seen named inputs status text command quiet whole (answered is a) =
-    done is (record { named = named; inputs = inputs; read = record { command = command; whole = whole; no_fault = quiet }; answers = a })
-inputs_answered words seen named inputs status text command quiet whole (broken is rule breaks says) =
-    broken_schema is (record { named = named; inputs = inputs; read = record { command = command; whole = whole; no_fault = quiet }; rule = rule; breaks = breaks; says = says })
-inputs_answered words seen named inputs status text command quiet whole (unsupported is u says) =
-    not_yet is (record { named = named; inputs = inputs; read = record { command = command; whole = whole; no_fault = quiet }; unsupported = u; says = says })
+    files_named words ≡ Some named → Loads seen (in_order named) (Ok inputs) → Judged named.clients inputs status text → IsAnswer words seen status text
+inputs_answered words seen named inputs status text command loads (answered is a) =
+    done is (record { named = named; inputs = inputs; read = record { command = command; reads = loads }; answers = a })
+inputs_answered words seen named inputs status text command loads (unsupported is u says) =
+    not_yet is (record { named = named; inputs = inputs; read = record { command = command; reads = loads }; unsupported = u; says = says })
 
--- and so is a file that couldn't be read, or was too large
-pub unread_answered : (words : List Bytes) (seen : Observed) (named : Named) (name : Bytes) (status : ℕ) (text : Bytes) →
-    files_named words ≡ Some named → Rose seen.before seen.now × IsReached seen.told (in_order named) name × IsAbsentIfReliable seen.reliable seen.told name →
-    (status ≡ 5) × (text ≡ name_line (codes "cannot read ") name) → IsAnswer words seen status text
-unread_answered words seen named name status text command r said =
-    cannot_read said.0 (record { named = named; command = command; name = name; reached = r.1; rose = r.0; absent = r.2; says = said.1 })
+-- the name that is told is that of the file
+named_line : (what : Bytes) (names : List Bytes) (file : ℕ) (name text : Bytes) → slice_get names file ≡ Some name → text ≡ name_line what (name_at names file) → text ≡ name_line what name
+named_line what names file name text there says = says ∙ ap (λ (o : Option Bytes). name_line what (unwrap_or o [])) there
 
-pub large_answered : (words : List Bytes) (seen : Observed) (named : Named) (name : Bytes) (status : ℕ) (text : Bytes) →
-    files_named words ≡ Some named → (seen.now ≡ seen.before) × IsReached seen.told (in_order named) name × IsTooLarge seen.told name →
-    (status ≡ 7) × (text ≡ name_line (codes "too large ") name) → IsAnswer words seen status text
-large_answered words seen named name status text command l said =
-    too_large said.0 (record { named = named; command = command; name = name; reached = l.1; large = l.2; no_fault = l.0; says = said.1 })
+-- and so is an error, by what is told of it
+pub error_answered : (words : List Bytes) (seen : Observed) (named : Named) (e : LoadError) (status : ℕ) (text : Bytes) →
+    files_named words ≡ Some named → Loads seen (in_order named) (Err e) → Tells (in_order named) e status text → IsAnswer words seen status text
+error_answered words seen named Memory status text command loads said = absurd said
+error_answered words seen named (Read file) status text command loads said =
+    cannot_read said.0 (record { named = named; command = command; file = file; cause = loads; says = named_line (codes "cannot read ") (in_order named) file loads.name text (reached_there seen.told (in_order named) file loads.name loads.reached) said.1 })
+error_answered words seen named (TooLarge file) status text command loads said =
+    too_large said.0 (record { named = named; command = command; file = file; cause = loads; says = named_line (codes "too large ") (in_order named) file loads.name text (reached_there seen.told (in_order named) file loads.name loads.reached) said.1 })
+error_answered words seen named (Schema schema_errors.Memory) status text command loads said = absurd said
+error_answered words seen named (Schema (schema_errors.Broken r t i)) status text command loads said =
+    broken_schema said.0 (record { named = named; rule = record { rule = r; table = t; index = i }; read = record { command = command; reads = loads }; says = said.1 })
+error_answered words seen named (Script client e) status text command loads said =
+    broken_script said.0 (record { named = named; client = client; rule = e; read = record { command = command; reads = loads }; says = said.1 })
 
--- the same names and bytes are judged alike
-pub judged_alike : (names names' clients clients' : List Bytes) (schema schema' : Bytes) (status : ℕ) (text : Bytes) →
-    names' ≡ names → schema ≡ schema' → clients' ≡ clients →
-    Judged names (record { schema = schema; clients = clients }) status text → Judged names' (record { schema = schema'; clients = clients' }) status text
-judged_alike names names' clients clients' schema schema' status text n s c h =
-    subst (λ (ns : List Bytes). Judged ns (record { schema = schema'; clients = clients' }) status text) (sym n)
-    (subst (λ (x : Bytes). Judged names (record { schema = x; clients = clients' }) status text) s
-    (subst (λ (cs : List Bytes). Judged names (record { schema = schema; clients = cs }) status text) (sym c) h))
+-- ---- the numbers of files and scripts
 
--- scripts that were judged over a schema that was read are judged with its bytes
-pub scripts_judged : (names clients : List Bytes) (schema text : Bytes) (tables : DbSchema) (status : ℕ) →
-    schema_of (reading schema) ≡ Ok tables → JudgedScripts names tables clients status text →
-    Judged names (record { schema = schema; clients = clients }) status text
-scripts_judged names clients schema text tables status read (scripts_answered is table field scripts form same legal) =
-    answered is (record { table = table; field = field; scripts = scripts; supported = record { schema = read ∙ ap Ok form; clients = same }; legal = legal })
-scripts_judged names clients schema text tables status read (scripts_unsupported is none says) =
-    unsupported is (record { tables = tables; lawful = read; other = λ table field scripts s. none table field scripts (form table field s.schema) s.clients }) says
+got_within : {A : Type 0} (xs : List A) (i : ℕ) (x : A) → slice_get xs i ≡ Some x → i < length xs
+got_within [] i x e = cc
+got_within (y ∷ ys) zero x e = omega arith
+got_within (y ∷ ys) (suc i) x e = let h = got_within ys i x e in omega arith
+
+-- an error names a file that there is
+pub names_file : (seen : Observed) (names : List Bytes) (e : LoadError) → Loads seen names (Err e) → NamesFile (length names) e
+names_file seen names Memory loads = tt
+names_file seen names (Read file) loads = got_within names file loads.name (reached_there seen.told names file loads.name loads.reached)
+names_file seen names (TooLarge file) loads = got_within names file loads.name (reached_there seen.told names file loads.name loads.reached)
+names_file seen names (Schema e) loads = tt
+names_file seen names (Script client e) loads = tt
+
+-- as many scripts as clients
+as_many_scripts : (client : ℕ) (clients : List Bytes) (scripts : List (List Line)) → scripts_in client clients ≡ Ok scripts → length scripts ≡ length clients
+as_many_scripts client [] scripts e = let same : [] ≡ scripts = cc in ap length (sym same)
+as_many_scripts client (bytes ∷ rest) scripts e = by_first (λ ss g. as_many_scripts (client + 1) rest ss g) (script_answer client (script_in bytes)) e
   where
-    form : (table field : Bytes) → IsFirstSchema schema table field → tables ≡ first_schema table field
-    form table field first = let g : Ok tables ≡ Ok (first_schema table field) = sym read ∙ first in cc
+    by_rest : (script : List Line) (r : Result (List (List Line)) LoadError) → ((ss : List (List Line)) → r ≡ Ok ss → length ss ≡ length rest) → (r >>= (λ ss. Ok (script ∷ ss))) ≡ Ok scripts → length scripts ≡ suc (length rest)
+    by_rest script (Ok ss) same h = let are : script ∷ ss ≡ scripts = cc in ap length (sym are) ∙ ap suc (same ss refl)
+    by_rest script (Err x) same h = cc
+
+    by_first : ((ss : List (List Line)) → scripts_in (client + 1) rest ≡ Ok ss → length ss ≡ length rest) → (r : Result (List Line) LoadError) → (r >>= (λ script. scripts_in (client + 1) rest >>= (λ ss. Ok (script ∷ ss)))) ≡ Ok scripts → length scripts ≡ suc (length rest)
+    by_first same (Ok script) h = by_rest script (scripts_in (client + 1) rest) same h
+    by_first same (Err x) h = cc
+
+as_many_files : (told : Option Contents) (names contents : List Bytes) → AreWhole told names contents → length names ≡ length contents
+as_many_files told [] [] w = refl
+as_many_files told [] (x ∷ xs) w = absurd w
+as_many_files told (n ∷ ns) [] w = absurd w
+as_many_files told (n ∷ ns) (x ∷ xs) w = ap suc (as_many_files told ns xs w.1)
+
+abbrev scripts_of : Result Inputs LoadError → List (List Line)
+scripts_of (Ok inputs) = inputs.scripts
+scripts_of (Err e) = []
+
+-- scripts were loaded as often as there are clients
+pub scripts_loaded : (seen : Observed) (named : Named) (inputs : Inputs) → Loads seen (in_order named) (Ok inputs) → length inputs.scripts ≡ length named.clients
+scripts_loaded seen named inputs loads = by_schema (schema_answer (schema_of (reading loads.schema))) loads.comes
+  where
+    files : suc (length named.clients) ≡ suc (length loads.clients)
+    files = as_many_files seen.told (in_order named) (loads.schema ∷ loads.clients) loads.read.whole
+
+    by_scripts : (tables : DbSchema) (r : Result (List (List Line)) LoadError) → scripts_in 1 loads.clients ≡ r → (r >>= (λ ss. let found : Result Inputs LoadError = Ok (record { schema = tables; scripts = ss }) in found)) ≡ Ok inputs → length inputs.scripts ≡ length named.clients
+    by_scripts tables (Ok ss) same h =
+        let are : ss ≡ inputs.scripts = ap (λ (r : Result Inputs LoadError). scripts_of r) h in
+        ap length (sym are) ∙ as_many_scripts 1 loads.clients ss same ∙ omega (arith, files)
+    by_scripts tables (Err x) same h = cc
+
+    by_schema : (r : Result DbSchema LoadError) → (r >>= (λ tables. scripts_in 1 loads.clients >>= (λ ss. let found : Result Inputs LoadError = Ok (record { schema = tables; scripts = ss }) in found))) ≡ Ok inputs → length inputs.scripts ≡ length named.clients
+    by_schema (Ok tables) h = by_scripts tables (scripts_in 1 loads.clients) refl h
+    by_schema (Err x) h = cc

@@ -1,6 +1,6 @@
 -- A schema has the form that is built exactly where it is the schema of a table and a member.
-use Rattle.std.proofs.Common.{arith, ◌≡◌, refl, ap, sym, ◌∙◌, subst, List, [], ◌∷◌, length, Bool, true, false, Some, None, Option, ◌<◌}
-use Rattle.std.specs.Prelude.{◌&&◌, ◌==◌, if◌then◌else◌, option_map, option_and_then, codes, nat_lt, not, IsTrue}
+use Rattle.std.proofs.Common.{arith, ◌≡◌, refl, ap, sym, ◌∙◌, subst, List, [], ◌∷◌, length, Bool, true, false, Some, ◌<◌}
+use Rattle.std.specs.Prelude.{◌&&◌, ◌==◌, option_and_then, codes, nat_lt, not, IsTrue}
 use Rattle.std.specs.Str.{bytes_eq}
 use Rattle.std.proofs.lemmas.Slice.Eq.{bytes_eq-Decides}
 use Rattle.std.proofs.lemmas.Bool.Decides.{nat_tests}
@@ -10,31 +10,13 @@ use Rattle.mdb_encode.specs.Lawful.{IsLawful}
 use Rattle.mdb_schema.specs.Schema.{IndexSchema, TableSchema, DbSchema}
 use Rattle.memdb.specs.FirstForm.{first_table, first_schema}
 use Rattle.memdb.specs.FirstForm as first
+use Rattle.memdb.proofs.Options.{chained, mapped, tested, both_true}
 use Rattle.memdb.specs.inner.Form.{only, plain_text, as_id, id_index, form_of, first_form, is_over_text}
-
--- what a chain found came from what it began with
-chained : {A B : Type 0} (f : A → Option B) (o : Option A) (y : B) → option_and_then f o ≡ Some y → (x : A) × (o ≡ Some x) × (f x ≡ Some y)
-chained f None y e = cc
-chained f (Some x) y e = (x, refl, e)
-
-mapped : {A B : Type 0} (f : A → B) (o : Option A) (y : B) → option_map f o ≡ Some y → (x : A) × (o ≡ Some x) × (f x ≡ y)
-mapped f None y e = cc
-mapped f (Some x) y e = (x, refl, let h : f x ≡ y = cc in h)
-
--- what stands under a test that passed
-tested : {A : Type 0} (b : Bool) (o : Option A) (y : A) → (if b then o else None) ≡ Some y → (b ≡ true) × (o ≡ Some y)
-tested true o y e = (refl, e)
-tested false o y e = cc
 
 only_is : {A : Type 0} (xs : List A) (x : A) → only xs ≡ Some x → xs ≡ x ∷ []
 only_is [] x e = cc
 only_is (y ∷ []) x e = let h : y ≡ x = cc in ap (λ z. z ∷ []) h
 only_is (y ∷ z ∷ xs) x e = let n : (length (y ∷ z ∷ xs) == 1) ≡ false = grind (arith, nat_tests) in let h = rw n at e in cc
-
-both_true : (a b : Bool) → (a && b) ≡ true → (a ≡ true) × (b ≡ true)
-both_true true true e = (refl, refl)
-both_true true false e = cc
-both_true false b e = cc
 
 is_false : (b : Bool) → not b ≡ true → b ≡ false
 is_false true e = cc

@@ -25,11 +25,13 @@ use Rattle.mdb_schema.specs.declared.answer.Answer.{Answer}
 use Rattle.mdb_schema.specs.declared.answer.Answer.TheVariants.{One}
 use Rattle.mdb_schema.specs.declared.ask.Ask.TheVariants.{First}
 use Rattle.mdb_schema.specs.History.{Commit, History, state_or, after_writes, state_at}
-use Rattle.memdb.specs.Script.{Command, read, commit, insert, question, numbered, first_by_id, text_limit}
+use Rattle.client_script.specs.declared.command.Command.{Command}
+use Rattle.client_script.specs.declared.command.Command.TheVariants as command
+use Rattle.memdb.specs.FirstScript.{IsKeyed, inserts, questions, commands, numbered, first_by_id, text_limit}
 use Rattle.memdb.specs.Reply.{Reply, read_at, committed, insert_reply, answer_reply, line_text, lines_text, heading, output_text}
 use Rattle.memdb.specs.Session.{View, Transaction, closed, reading, writing, at_start, Session}
 use Rattle.memdb.specs.Legal.{Legal, printed}
-use Rattle.memdb.specs.inner.Single.{IsKeyed, inserts, questions, commands, row_id, after_inserts, insert_replies, question_replies, single_replies, replies_text}
+use Rattle.memdb.specs.inner.Single.{row_id, after_inserts, insert_replies, question_replies, single_replies, replies_text}
 use Rattle.mdb_schema.proofs.Writes.{put_answer}
 use Rattle.memdb.proofs.OneIndex.{may_put}
 use Rattle.memdb.proofs.Rows.{HasId, HaveIds, have_ids, IsRising, row_key, pairs_of, pairs_of-with_row, row_at-pairs_of, first-exact, entries-pairs_of, with_row-HaveIds, with_row-IsRising, same_here}
@@ -189,7 +191,7 @@ printed_inserts table field es (r ∷ rows) ws n cs rs =
     ∙ ap (λ v. printed 1 v (numbered (n + suc (length rows)) cs) rs) (append_assoc ws (put table r ∷ []) (map (put table) rows))
   where
     accepted : (o : Option Fields) →
-        printed 1 ws (numbered n (insert table r ∷ (inserts table rows ++ cs))) (insert_reply o ∷ (insert_replies field (finite.put byte_order (row_id field r) r es) rows ++ rs))
+        printed 1 ws (numbered n (command.Insert table r ∷ (inserts table rows ++ cs))) (insert_reply o ∷ (insert_replies field (finite.put byte_order (row_id field r) r es) rows ++ rs))
         ≡ printed 1 (ws ++ put table r ∷ []) (numbered (n + 1) (inserts table rows ++ cs)) (insert_replies field (finite.put byte_order (row_id field r) r es) rows ++ rs)
     accepted None = refl
     accepted (Some old) = refl
@@ -199,7 +201,7 @@ printed_questions table ws es [] n = refl
 printed_questions table ws es (s ∷ ss) n = answered (finite.find byte_order (ended s) es) ∙ printed_questions table ws es ss (n + 1)
   where
     answered : (o : Option Fields) →
-        printed 1 ws (numbered n (question (first_by_id table s) ∷ questions table ss)) (answer_reply o ∷ question_replies es ss)
+        printed 1 ws (numbered n (command.Question (first_by_id table s) ∷ questions table ss)) (answer_reply o ∷ question_replies es ss)
         ≡ printed 1 ws (numbered (n + 1) (questions table ss)) (question_replies es ss)
     answered None = refl
     answered (Some r) = refl
@@ -217,7 +219,7 @@ session_of table field rows texts ids short =
     let now : state_at schema H 1 ≡ stored ∷ [] = after_puts table field [] rows ids in
     let asked = questions_session table field H stored texts (2 + length rows + 2) (stored_ids table field [] rows ids tt) (stored_rising table field [] rows tt) short now in
     let asked' = subst (λ (es : List Pair). Session schema H 1 (view 1 (reading 1)) (numbered (2 + length rows + 2) (questions table texts)) (question_replies es texts)) pairs asked in
-    let ends : Session schema H 1 (view 0 (writing 0 (puts table rows))) (numbered (2 + length rows) (commit ∷ read ∷ questions table texts)) (committed 1 ∷ read_at 1 ∷ question_replies (after_inserts field [] rows) texts) = (
+    let ends : Session schema H 1 (view 0 (writing 0 (puts table rows))) (numbered (2 + length rows) (command.Commit ∷ command.Read ∷ questions table texts)) (committed 1 ∷ read_at 1 ∷ question_replies (after_inserts field [] rows) texts) = (
       view 1 closed,
       record { number = 0; writes = puts table rows; is_open = refl; follows = refl; entry = refl; next = refl },
       (
@@ -228,20 +230,20 @@ session_of table field rows texts ids short =
     ) in (
       view 0 (writing 0 []),
       (record { none_open = refl; not_older = lit≤ tt; there = lit≤ tt }, refl),
-      inserts_session table field H rows [] [] 2 (commit ∷ read ∷ questions table texts) (committed 1 ∷ read_at 1 ∷ question_replies (after_inserts field [] rows) texts) ids refl ends,
+      inserts_session table field H rows [] [] 2 (command.Commit ∷ command.Read ∷ questions table texts) (committed 1 ∷ read_at 1 ∷ question_replies (after_inserts field [] rows) texts) ids refl ends,
     )
 
 printed_of : (table field : Bytes) (rows : List Fields) (texts : List Bytes) → printed 1 [] (numbered 1 (commands table rows texts)) (single_replies field rows texts) ≡ (1, the_commit table rows) ∷ []
 unfolding the_commit
 printed_of table field rows texts =
-    printed_inserts table field [] rows [] 2 (commit ∷ read ∷ questions table texts) (committed 1 ∷ read_at 1 ∷ question_replies (after_inserts field [] rows) texts)
+    printed_inserts table field [] rows [] 2 (command.Commit ∷ command.Read ∷ questions table texts) (committed 1 ∷ read_at 1 ∷ question_replies (after_inserts field [] rows) texts)
     ∙ ap (λ cs. (1, record { caller = 1; writes = puts table rows }) ∷ cs) (printed_questions table (puts table rows) (after_inserts field [] rows) texts (2 + length rows + 1 + 1))
 
 text_of : (table field word : Bytes) (rows : List Fields) (texts : List Bytes) →
     heading 1 word ++ replies_text 1 (single_replies field rows texts) ≡ output_text 1 (word ∷ []) (numbered 1 (commands table rows texts) ∷ []) (single_replies field rows texts ∷ [])
 text_of table field word rows texts =
     let same : length (commands table rows texts) ≡ length (single_replies field rows texts) =
-    omega (arith, length-inserts table field [] rows, length-questions table (after_inserts field [] rows) texts, length-append (inserts table rows) (commit ∷ read ∷ questions table texts), length-append (insert_replies field [] rows) (committed 1 ∷ read_at 1 ∷ question_replies (after_inserts field [] rows) texts)) in
+    omega (arith, length-inserts table field [] rows, length-questions table (after_inserts field [] rows) texts, length-append (inserts table rows) (command.Commit ∷ command.Read ∷ questions table texts), length-append (insert_replies field [] rows) (committed 1 ∷ read_at 1 ∷ question_replies (after_inserts field [] rows) texts)) in
     ap (λ t. heading 1 word ++ t) (sym (lines_text-numbered 1 (commands table rows texts) (single_replies field rows texts) same) ∙ sym (append-nil _))
 
 pub legal_answers : (table field word : Bytes) (rows : List Fields) (texts : List Bytes) → IsKeyed field rows texts →

@@ -23,7 +23,7 @@ use Rattle.mdb_datum.specs.Row.{Fields, Pair}
 use Rattle.mdb_schema.specs.State.{id_keys, id_key, full_key, full_keys, keys_or_none, row_at, with_row}
 use Rattle.mdb_schema.specs.Entries.{entries, with_entries}
 use Rattle.mdb_schema.specs.Answer.{picked}
-use Rattle.memdb.specs.Script.{has_id, text_limit}
+use Rattle.memdb.specs.FirstScript.{has_id, text_limit}
 use Rattle.memdb.specs.inner.Single.{id_text, row_id}
 
 same_bytes : (a b : Bytes) → bytes_eq a b ≡ true → a ≡ b

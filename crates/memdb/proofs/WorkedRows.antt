@@ -5,9 +5,11 @@ use Rattle.std.specs.List.{enumerate_from}
 use Rattle.std.specs.Str.{bytes_eq}
 use Rattle.std.proofs.lemmas.List.FromFn.{length-enumerate_from}
 use Rattle.mdb_datum.specs.Doc.{whole, text, Field}
-use Rattle.memdb.specs.FirstForm.{IsFirstSchema, first_schema}
+use Rattle.memdb.specs.FirstForm.{first_schema}
 use Rattle.std.proofs.lemmas.Fmt.{decimal_digit}
 use Rattle.std.proofs.lemmas.List.Sorted.{IsPermutation-refl, length_permutation}
+use Rattle.mdb_datum.specs.Reading as documents
+use Rattle.mdb_schema.specs.Reading.{schema_of}
 use Rattle.mdb_schema.specs.Schema.{DbSchema}
 use Rattle.mdb_datum.specs.Row.{Fields}
 use Rattle.mdb_schema.specs.State.{State}
@@ -20,12 +22,15 @@ use Rattle.memdb.specs.Reply.{Reply, read_at, write_at, committed, inserted, rep
 use Rattle.memdb.specs.Session.{View, Transaction, closed, reading, writing, at_start, Session, Sessions}
 use Rattle.memdb.specs.Legal.{Legal, all_printed}
 use Rattle.mdb_datum.proofs.OnLiterals.{reading_on_literals}
-use Rattle.memdb.specs.Script.{script_of, Line, read, write, commit, insert, question, numbered, first_by_id}
+use Rattle.client_script.specs.Script.{script_in}
+use Rattle.client_script.specs.declared.command.Command.TheVariants as command
+use Rattle.client_script.specs.declared.line.Line.{Line}
+use Rattle.memdb.specs.FirstScript.{numbered, first_by_id}
 
 schema_text : List ℕ
 schema_text = codes "{\"memdb\":1,\"tables\":{\"t\":{\"indexes\":{\"id\":{\"unique\":true,\"indexer\":{\"kind\":\"text\",\"field\":\"name\"}}}}}}\n"
 
-schema_reads : IsFirstSchema schema_text (codes "t") (codes "name")
+schema_reads : schema_of (documents.reading schema_text) ≡ Ok (first_schema (codes "t") (codes "name"))
 unfolding reading_on_literals schema_text
 schema_reads = refl
 
@@ -35,8 +40,8 @@ ann = (codes "age", whole (pos 3)) ∷ (codes "name", text (codes "ann")) ∷ []
 script_text : List ℕ
 script_text = codes "write\ninsert t {\"name\":\"ann\",\"age\":3}\ncommit\nread\nfirst t id [\"ann\"]\nfirst t id [\"bob\"]\n"
 
-script_reads : script_of (codes "t") (codes "name") script_text ≡ Some (numbered 1 (write ∷ insert (codes "t") ann ∷ commit ∷ read ∷ question (first_by_id (codes "t") (codes "ann")) ∷ question (first_by_id (codes "t") (codes "bob")) ∷ []))
-unfolding reading_on_literals script_of script_text ann
+script_reads : script_in script_text ≡ Ok (numbered 1 (command.Write ∷ command.Insert (codes "t") ann ∷ command.Commit ∷ command.Read ∷ command.Question (first_by_id (codes "t") (codes "ann")) ∷ command.Question (first_by_id (codes "t") (codes "bob")) ∷ []))
+unfolding reading_on_literals script_text ann
 script_reads = refl
 
 -- ---- the first run: a row is written, committed and read back by its `id`
@@ -45,7 +50,7 @@ t : List ℕ
 t = codes "t"
 
 lines : List Line
-lines = numbered 1 (write ∷ insert (codes "t") ann ∷ commit ∷ read ∷ question (first_by_id (codes "t") (codes "ann")) ∷ question (first_by_id (codes "t") (codes "bob")) ∷ [])
+lines = numbered 1 (command.Write ∷ command.Insert (codes "t") ann ∷ command.Commit ∷ command.Read ∷ command.Question (first_by_id (codes "t") (codes "ann")) ∷ command.Question (first_by_id (codes "t") (codes "bob")) ∷ [])
 
 replies : List Reply
 replies = write_at 0 ∷ inserted ∷ committed 1 ∷ read_at 1 ∷ found ann ∷ none ∷ []
@@ -106,12 +111,12 @@ short_ann = (codes "name", text (codes "ann")) ∷ []
 second_script : List ℕ
 second_script = codes "write\ninsert t {\"name\":\"ann\",\"age\":3}\ninsert t {\"name\":\"ann\"}\ncommit\nread\nfirst t id [\"ann\"]\nfirst t id [\"bob\"]\n"
 
-second_reads : script_of (codes "t") (codes "name") second_script ≡ Some (numbered 1 (write ∷ insert (codes "t") ann ∷ insert (codes "t") short_ann ∷ commit ∷ read ∷ question (first_by_id (codes "t") (codes "ann")) ∷ question (first_by_id (codes "t") (codes "bob")) ∷ []))
-unfolding reading_on_literals script_of second_script ann short_ann
+second_reads : script_in second_script ≡ Ok (numbered 1 (command.Write ∷ command.Insert (codes "t") ann ∷ command.Insert (codes "t") short_ann ∷ command.Commit ∷ command.Read ∷ command.Question (first_by_id (codes "t") (codes "ann")) ∷ command.Question (first_by_id (codes "t") (codes "bob")) ∷ []))
+unfolding reading_on_literals second_script ann short_ann
 second_reads = refl
 
 second_lines : List Line
-second_lines = numbered 1 (write ∷ insert (codes "t") ann ∷ insert (codes "t") short_ann ∷ commit ∷ read ∷ question (first_by_id (codes "t") (codes "ann")) ∷ question (first_by_id (codes "t") (codes "bob")) ∷ [])
+second_lines = numbered 1 (command.Write ∷ command.Insert (codes "t") ann ∷ command.Insert (codes "t") short_ann ∷ command.Commit ∷ command.Read ∷ command.Question (first_by_id (codes "t") (codes "ann")) ∷ command.Question (first_by_id (codes "t") (codes "bob")) ∷ [])
 
 second_replies : List Reply
 second_replies = write_at 0 ∷ inserted ∷ replaced ∷ committed 1 ∷ read_at 1 ∷ found short_ann ∷ none ∷ []
@@ -177,7 +182,7 @@ record Begins (db : DbSchema) (H : History) (last : ℕ) (opens : ℕ → Transa
   there : number ≤ length H
   later : Session db H 1 (record { last = number; transaction = opens number }) ls rest
 
-after_write : (db : DbSchema) (H : History) (last k : ℕ) (open_one : Transaction) (ls : List Line) (rs : List Reply) → Session db H 1 (record { last = last; transaction = open_one }) (record { number = k; command = write } ∷ ls) rs → Begins db H last (λ n. writing n []) write_at ls rs
+after_write : (db : DbSchema) (H : History) (last k : ℕ) (open_one : Transaction) (ls : List Line) (rs : List Reply) → Session db H 1 (record { last = last; transaction = open_one }) (record { number = k; command = command.Write } ∷ ls) rs → Begins db H last (λ n. writing n []) write_at ls rs
 after_write db H last k open_one ls [] s = absurd s
 after_write db H last k open_one ls (read_at n ∷ rs) s = absurd s.1
 after_write db H last k open_one ls (write_at n ∷ rs) s = record { number = n; rest = rs; are = refl; not_older = s.1.0.not_older; there = s.1.0.there; later = subst (λ v. Session db H 1 v ls rs) s.1.1 s.2 }
@@ -187,7 +192,7 @@ after_write db H last k open_one ls (replaced ∷ rs) s = absurd s.1
 after_write db H last k open_one ls (found row ∷ rs) s = absurd s.1
 after_write db H last k open_one ls (none ∷ rs) s = absurd s.1
 
-after_read : (db : DbSchema) (H : History) (last k : ℕ) (open_one : Transaction) (ls : List Line) (rs : List Reply) → Session db H 1 (record { last = last; transaction = open_one }) (record { number = k; command = read } ∷ ls) rs → Begins db H last reading read_at ls rs
+after_read : (db : DbSchema) (H : History) (last k : ℕ) (open_one : Transaction) (ls : List Line) (rs : List Reply) → Session db H 1 (record { last = last; transaction = open_one }) (record { number = k; command = command.Read } ∷ ls) rs → Begins db H last reading read_at ls rs
 after_read db H last k open_one ls [] s = absurd s
 after_read db H last k open_one ls (read_at n ∷ rs) s = record { number = n; rest = rs; are = refl; not_older = s.1.0.not_older; there = s.1.0.there; later = subst (λ v. Session db H 1 v ls rs) s.1.1 s.2 }
 after_read db H last k open_one ls (write_at n ∷ rs) s = absurd s.1
@@ -205,7 +210,7 @@ record Steps (db : DbSchema) (H : History) (last n : ℕ) (ws : List Write) (w :
   accepted : step db (after_writes db (state_at db H n) ws) w ≡ Ok stepped
   later : Session db H 1 (record { last = last; transaction = writing n (ws ++ w ∷ []) }) ls rest
 
-after_insert : (db : DbSchema) (H : History) (last n : ℕ) (ws : List Write) (k : ℕ) (table : List ℕ) (row : Fields) (ls : List Line) (rs : List Reply) → Session db H 1 (record { last = last; transaction = writing n ws }) (record { number = k; command = insert table row } ∷ ls) rs → Steps db H last n ws (put table row) ls rs
+after_insert : (db : DbSchema) (H : History) (last n : ℕ) (ws : List Write) (k : ℕ) (table : List ℕ) (row : Fields) (ls : List Line) (rs : List Reply) → Session db H 1 (record { last = last; transaction = writing n ws }) (record { number = k; command = command.Insert table row } ∷ ls) rs → Steps db H last n ws (put table row) ls rs
 after_insert db H last n ws k table row ls [] s = absurd s
 after_insert db H last n ws k table row ls (r ∷ rs) s =
     let i = s.1 in
@@ -223,7 +228,7 @@ record Enters (db : DbSchema) (H : History) (n : ℕ) (ws : List Write) (ls : Li
   entry : slice_get H n ≡ Some (record { caller = 1; writes = ws })
   later : Session db H 1 (record { last = n + 1; transaction = closed }) ls rest
 
-after_commit : (db : DbSchema) (H : History) (last n : ℕ) (ws : List Write) (k : ℕ) (ls : List Line) (rs : List Reply) → Session db H 1 (record { last = last; transaction = writing n ws }) (record { number = k; command = commit } ∷ ls) rs → Enters db H n ws ls rs
+after_commit : (db : DbSchema) (H : History) (last n : ℕ) (ws : List Write) (k : ℕ) (ls : List Line) (rs : List Reply) → Session db H 1 (record { last = last; transaction = writing n ws }) (record { number = k; command = command.Commit } ∷ ls) rs → Enters db H n ws ls rs
 after_commit db H last n ws k ls [] s = absurd s
 after_commit db H last n ws k ls (read_at m ∷ rs) s = absurd s.1
 after_commit db H last n ws k ls (write_at m ∷ rs) s = absurd s.1
@@ -249,7 +254,7 @@ record Tells (db : DbSchema) (H : History) (last n : ℕ) (q : Query) (ls : List
   asked : ask db (state_at db H n) q ≡ Ok (One answer)
   later : Session db H 1 (record { last = last; transaction = reading n }) ls rest
 
-after_question : (db : DbSchema) (H : History) (last n : ℕ) (k : ℕ) (q : Query) (ls : List Line) (rs : List Reply) → Session db H 1 (record { last = last; transaction = reading n }) (record { number = k; command = question q } ∷ ls) rs → Tells db H last n q ls rs
+after_question : (db : DbSchema) (H : History) (last n : ℕ) (k : ℕ) (q : Query) (ls : List Line) (rs : List Reply) → Session db H 1 (record { last = last; transaction = reading n }) (record { number = k; command = command.Question q } ∷ ls) rs → Tells db H last n q ls rs
 after_question db H last n k q ls [] s = absurd s
 after_question db H last n k q ls (r ∷ rs) s =
     let a = s.1 in
@@ -289,7 +294,7 @@ follows : (H : History) (n m : ℕ) (c : Commit) → length H ≡ 1 → slice_ge
 follows H n m c long entry later there = record { history = only_entry H n c long entry; first = omega arith; second = omega arith }
 
 asks : ℕ → List Line
-asks k = numbered k (question (first_by_id (codes "t") (codes "ann")) ∷ question (first_by_id (codes "t") (codes "bob")) ∷ [])
+asks k = numbered k (command.Question (first_by_id (codes "t") (codes "ann")) ∷ command.Question (first_by_id (codes "t") (codes "bob")) ∷ [])
 
 -- the replies of the first run, from what each line says of them: what the definitions compute over that history
 first_answers : (H : History) (n m : ℕ) (c : Commit) (st : State × Option Fields) (a b : Option Fields) → c ≡ record { caller = 1; writes = put (codes "t") ann ∷ [] } → Follows H n m c →
@@ -320,11 +325,11 @@ first_replies : (H : History) (rs : List Reply) → Session schema H 1 at_start 
 unfolding lines asks
 first_replies H rs s numbers =
     let t = codes "t" in
-    let w = after_write schema H 0 1 closed (numbered 2 (insert t ann ∷ commit ∷ read ∷ []) ++ asks 5) rs s in
-    let i = after_insert schema H w.number w.number [] 2 t ann (numbered 3 (commit ∷ read ∷ []) ++ asks 5) w.rest w.later in
-    let c = after_commit schema H w.number w.number (put t ann ∷ []) 3 (numbered 4 (read ∷ []) ++ asks 5) i.rest i.later in
+    let w = after_write schema H 0 1 closed (numbered 2 (command.Insert t ann ∷ command.Commit ∷ command.Read ∷ []) ++ asks 5) rs s in
+    let i = after_insert schema H w.number w.number [] 2 t ann (numbered 3 (command.Commit ∷ command.Read ∷ []) ++ asks 5) w.rest w.later in
+    let c = after_commit schema H w.number w.number (put t ann ∷ []) 3 (numbered 4 (command.Read ∷ []) ++ asks 5) i.rest i.later in
     let b = after_read schema H (w.number + 1) 4 closed (asks 5) c.rest c.later in
-    let f = after_question schema H b.number b.number 5 (first_by_id t (codes "ann")) (numbered 6 (question (first_by_id t (codes "bob")) ∷ [])) b.rest b.later in
+    let f = after_question schema H b.number b.number 5 (first_by_id t (codes "ann")) (numbered 6 (command.Question (first_by_id t (codes "bob")) ∷ [])) b.rest b.later in
     let g = after_question schema H b.number b.number 6 (first_by_id t (codes "bob")) [] f.rest f.later in
     let ends = no_more schema H (record { last = b.number; transaction = reading b.number }) g.rest g.later in
     let are : rs ≡ write_at w.number ∷ insert_reply i.stepped.1 ∷ committed (w.number + 1) ∷ read_at b.number ∷ answer_reply f.answer ∷ answer_reply g.answer ∷ [] =
@@ -376,12 +381,12 @@ second_replies_are : (H : History) (rs : List Reply) → Session schema H 1 at_s
 unfolding second_lines
 second_replies_are H rs s numbers =
     let t = codes "t" in
-    let ann_asked = question (first_by_id t (codes "ann")) in
-    let bob_asked = question (first_by_id t (codes "bob")) in
-    let w = after_write schema H 0 1 closed (numbered 2 (insert t ann ∷ insert t short_ann ∷ commit ∷ read ∷ ann_asked ∷ bob_asked ∷ [])) rs s in
-    let i = after_insert schema H w.number w.number [] 2 t ann (numbered 3 (insert t short_ann ∷ commit ∷ read ∷ ann_asked ∷ bob_asked ∷ [])) w.rest w.later in
-    let j = after_insert schema H w.number w.number (put t ann ∷ []) 3 t short_ann (numbered 4 (commit ∷ read ∷ ann_asked ∷ bob_asked ∷ [])) i.rest i.later in
-    let c = after_commit schema H w.number w.number (put t ann ∷ put t short_ann ∷ []) 4 (numbered 5 (read ∷ ann_asked ∷ bob_asked ∷ [])) j.rest j.later in
+    let ann_asked = command.Question (first_by_id t (codes "ann")) in
+    let bob_asked = command.Question (first_by_id t (codes "bob")) in
+    let w = after_write schema H 0 1 closed (numbered 2 (command.Insert t ann ∷ command.Insert t short_ann ∷ command.Commit ∷ command.Read ∷ ann_asked ∷ bob_asked ∷ [])) rs s in
+    let i = after_insert schema H w.number w.number [] 2 t ann (numbered 3 (command.Insert t short_ann ∷ command.Commit ∷ command.Read ∷ ann_asked ∷ bob_asked ∷ [])) w.rest w.later in
+    let j = after_insert schema H w.number w.number (put t ann ∷ []) 3 t short_ann (numbered 4 (command.Commit ∷ command.Read ∷ ann_asked ∷ bob_asked ∷ [])) i.rest i.later in
+    let c = after_commit schema H w.number w.number (put t ann ∷ put t short_ann ∷ []) 4 (numbered 5 (command.Read ∷ ann_asked ∷ bob_asked ∷ [])) j.rest j.later in
     let b = after_read schema H (w.number + 1) 5 closed (numbered 6 (ann_asked ∷ bob_asked ∷ [])) c.rest c.later in
     let f = after_question schema H b.number b.number 6 (first_by_id t (codes "ann")) (numbered 7 (bob_asked ∷ [])) b.rest b.later in
     let g = after_question schema H b.number b.number 7 (first_by_id t (codes "bob")) [] f.rest f.later in

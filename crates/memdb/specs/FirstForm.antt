@@ -1,11 +1,9 @@
 -- The schemas that are supported: one table with one index `id`, unique and never missing, over the
 -- text of one member, which isn't folded. It is told by the schema that a file reads as, so that
 -- defaults may be written out.
-use Rattle.std.specs.Prelude.{◌≡◌, [], ◌∷◌, true, false, Ok, codes}
-use Rattle.mdb_datum.specs.Reading.{reading}
+use Rattle.std.specs.Prelude.{[], ◌∷◌, true, false, codes}
 use Rattle.mdb_datum.specs.Bytes.{Bytes}
 use Rattle.mdb_encode.specs.Indexer.{str}
-use Rattle.mdb_schema.specs.Reading.{schema_of}
 use Rattle.mdb_schema.specs.Schema.{IndexSchema, TableSchema, DbSchema}
 
 abbrev pub id_index : Bytes → IndexSchema
@@ -21,7 +19,3 @@ first_table table name = record { name = table; indexes = id_index name ∷ [] }
 
 abbrev pub first_schema : Bytes → Bytes → DbSchema
 first_schema table name = first_table table name ∷ []
-
--- the bytes read as the schema of a table over a member
-abbrev pub IsFirstSchema : Bytes → Bytes → Bytes → Type 0
-IsFirstSchema bytes table name = schema_of (reading bytes) ≡ Ok (first_schema table name)

@@ -5,21 +5,24 @@ use Rattle.mdb_datum.specs.Bytes.{Bytes}
 use Rattle.mdb_schema.specs.Schema.{DbSchema}
 use Rattle.mdb_schema.specs.Write.{Write, put}
 use Rattle.mdb_schema.specs.History.{Commit, History}
-use Rattle.memdb.specs.Script.{Command, write, commit, insert, Line}
+use Rattle.client_script.specs.declared.command.Command.{Command}
+use Rattle.client_script.specs.declared.command.Command.TheVariants as command
+use Rattle.client_script.specs.declared.line.Line.{Line}
 use Rattle.memdb.specs.Reply.{Reply, write_at, committed, inserted, replaced, output_text}
 use Rattle.memdb.specs.Session.{Sessions}
 
 -- the writes of a transaction after a line: those that its client was told were accepted since
 -- `write`
 abbrev pub writes_after : List Write → Command → Reply → List Write
-writes_after ws write (write_at n) = []
-writes_after ws (insert table r) inserted = ws ++ put table r ∷ []
-writes_after ws (insert table r) replaced = ws ++ put table r ∷ []
+writes_after ws command.Write (write_at n) = []
+writes_after ws (command.Insert table r) inserted = ws ++ put table r ∷ []
+writes_after ws (command.Insert table r) replaced = ws ++ put table r ∷ []
 writes_after ws c r = ws
 
 -- the commit that a line prints, with its number
 abbrev pub commit_printed : ℕ → List Write → Command → Reply → List (ℕ × Commit)
-commit_printed client ws commit (committed m) = (m, record { caller = client; writes = ws }) ∷ []
+commit_printed client ws command.Commit (committed m) =
+    (m, record { caller = client; writes = ws }) ∷ []
 commit_printed client ws c r = []
 
 -- the commits that a client was told of, from a line on

@@ -1,10 +1,9 @@
 pub mod Causes
 pub mod FirstForm
+pub mod FirstScript
 pub mod Legal
-pub mod Observed
 pub mod Outcome
 pub mod Reply
-pub mod Script
 pub mod Session
 pub mod Words
 pub mod inner

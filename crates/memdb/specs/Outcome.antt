@@ -1,52 +1,42 @@
 -- What a run may answer, and what it then writes: a text for each status, with its cause.
-use Rattle.std.specs.Prelude.{◌≡◌, ◌<◌, ℕ, List, [], ◌∷◌, ◌++◌, length, take, Option, Some, None, Ok, Err, codes}
+use Rattle.std.specs.Prelude.{◌≡◌, ◌<◌, ℕ, List, [], ◌∷◌, ◌++◌, length, take, All, Option, Some, None, Result, Ok, Err, codes, decimal}
+use Rattle.client_script.specs.Refusal.{error_word, error_line}
+use Rattle.client_script.specs.declared.script_error.ScriptError.{ScriptError}
 use Rattle.mdb_datum.specs.Bytes.{Bytes}
 use Rattle.mdb_datum.specs.Doc.{text}
-use Rattle.mdb_datum.specs.Reading.{reading}
 use Rattle.mdb_datum.specs.Written.{compact}
-use Rattle.mdb_ports.specs.Faults.{Rose}
-use Rattle.mdb_ports.specs.Files.{IsAbsentIfReliable}
 use Rattle.mdb_ports.specs.Sink.{Grows}
 use Rattle.mdb_schema.specs.Broken.{Broken}
-use Rattle.mdb_schema.specs.Reading.{schema_of}
 use Rattle.mdb_schema.specs.RuleWord.{rule_word}
-use Rattle.mdb_schema.specs.Schema.{DbSchema}
-use Rattle.memdb.specs.FirstForm.{IsFirstSchema, first_schema}
+use Rattle.memdb.specs.FirstForm.{first_schema}
+use Rattle.memdb.specs.FirstScript.{IsFirstScript}
 use Rattle.memdb.specs.Legal.{Legal}
-use Rattle.memdb.specs.Observed.{Observed, Inputs, AreInputs, IsReached, IsTooLarge, in_order}
-use Rattle.memdb.specs.Script.{Line, script_of}
-use Rattle.memdb.specs.Words.{Named, files_named, usage_text}
+use Rattle.memdb.specs.Words.{Named, files_named, in_order, usage_text}
+use Rattle.run_io.specs.Inputs.{schema_error}
+use Rattle.run_io.specs.Loads as load
+use Rattle.run_io.specs.Loads.{IsRead}
+use Rattle.run_io.specs.Observed.{Observed}
+use Rattle.run_io.specs.declared.inputs.Inputs.{Inputs}
+use Rattle.run_io.specs.declared.load_error.LoadError.{LoadError}
+use Rattle.run_io.specs.declared.load_error.LoadError.TheVariants.{Schema, Script}
 
 -- ---- what the inputs of a command are
 
--- the bytes of each client read as its script, over a table and the member under its index `id`
-abbrev pub AreScripts : Bytes → Bytes → List Bytes → List (List Line) → Type 0
-AreScripts table field [] [] = Unit {0}
-AreScripts table field [] (script ∷ scripts) = ⊥
-AreScripts table field (bytes ∷ clients) [] = ⊥
-AreScripts table field (bytes ∷ clients) (script ∷ scripts) =
-    (script_of table field bytes ≡ Some script) × AreScripts table field clients scripts
+-- inputs of the first form, over a table and the member under its index `id`
+pub record IsFirst (inputs : Inputs) (table field : Bytes) : Type 0 where
+  pub schema : inputs.schema ≡ first_schema table field
+  pub scripts : All (IsFirstScript table field) inputs.scripts
 
--- the schema is of the first form, and the clients' bytes are scripts over it
-pub record IsSupported (inputs : Inputs) (table field : Bytes) (scripts : List (List Line))
-    : Type 0 where
-  pub schema : IsFirstSchema inputs.schema table field
-  pub clients : AreScripts table field inputs.clients scripts
-
--- the schema is lawful, and the inputs aren't supported
-pub record IsUnsupported (inputs : Inputs) : Type 0 where
-  pub tables : DbSchema
-  pub lawful : schema_of (reading inputs.schema) ≡ Ok tables
-  pub other : (table field : Bytes) (scripts : List (List Line))
-      → IsSupported inputs table field scripts → ⊥
+-- inputs that aren't supported
+abbrev pub IsUnsupported : Inputs → Type 0
+IsUnsupported inputs = (table field : Bytes) → IsFirst inputs table field → ⊥
 
 -- a legal output for the inputs, where the clients' files have these names
 pub record Answers (names : List Bytes) (inputs : Inputs) (text : Bytes) : Type 0 where
   pub table : Bytes
   pub field : Bytes
-  pub scripts : List (List Line)
-  pub supported : IsSupported inputs table field scripts
-  pub legal : Legal (first_schema table field) names scripts text
+  pub supported : IsFirst inputs table field
+  pub legal : Legal inputs.schema names inputs.scripts text
 
 -- ---- the texts
 
@@ -64,23 +54,34 @@ abbrev pub broken_text : Broken → Bytes
 broken_text b =
     codes "schema " ++ (rule_word b.rule ++ (name_part b.table ++ (name_part b.index ++ 10 ∷ [])))
 
+-- the number of a line, where a rule has one
+abbrev pub line_part : Option ℕ → Bytes
+line_part None = []
+line_part (Some line) = codes " line " ++ decimal line
+
+-- script K line L RULE, or script K RULE where the rule has no line
+abbrev pub script_text : ℕ → ScriptError → Bytes
+script_text client e =
+    codes "script " ++ (decimal client
+    ++ (line_part (error_line e) ++ (32 ∷ (error_word e ++ 10 ∷ []))))
+
 abbrev pub not_yet_text : Bytes
 not_yet_text = codes "not yet" ++ 10 ∷ []
 
 -- ---- the statuses
 
--- the words are a command, whose files were read whole without a fault
-pub record HasRead (words : List Bytes) (seen : Observed) (named : Named) (inputs : Inputs)
-    : Type 0 where
+-- the words are a command, whose files were read whole without a fault, and their bytes come to
+-- this: a schema and scripts, or the first rule that they break
+pub record HasRead (words : List Bytes) (seen : Observed) (named : Named)
+    (read : Result Inputs LoadError) : Type 0 where
   pub command : files_named words ≡ Some named
-  pub whole : AreInputs seen.told named inputs
-  pub no_fault : seen.now ≡ seen.before
+  pub reads : IsRead seen (in_order named) read
 
 -- status 0: the text is a legal output for the inputs
 pub record Done (words : List Bytes) (seen : Observed) (text : Bytes) : Type 0 where
   pub named : Named
   pub inputs : Inputs
-  pub read : HasRead words seen named inputs
+  pub read : HasRead words seen named (Ok inputs)
   pub answers : Answers named.clients inputs text
 
 -- status 1: the words are no command, and no call of the files failed
@@ -92,38 +93,41 @@ pub record Usage (words : List Bytes) (seen : Observed) (text : Bytes) : Type 0 
 -- status 2: the schema breaks the rule that is told, the first that it breaks
 pub record BrokenSchema (words : List Bytes) (seen : Observed) (text : Bytes) : Type 0 where
   pub named : Named
-  pub inputs : Inputs
-  pub read : HasRead words seen named inputs
   pub rule : Broken
-  pub breaks : schema_of (reading inputs.schema) ≡ Err rule
+  pub read : HasRead words seen named (Err (Schema (schema_error rule)))
   pub says : text ≡ broken_text rule
+
+-- status 3: the schema is lawful, and a script breaks the rule that is told, the first that any
+-- client's breaks
+pub record BrokenScript (words : List Bytes) (seen : Observed) (text : Bytes) : Type 0 where
+  pub named : Named
+  pub client : ℕ
+  pub rule : ScriptError
+  pub read : HasRead words seen named (Err (Script client rule))
+  pub says : text ≡ script_text client rule
 
 -- status 5: a call of the files failed, at the file that is told; where only absent files fail, it
 -- isn't there
 pub record CannotRead (words : List Bytes) (seen : Observed) (text : Bytes) : Type 0 where
   pub named : Named
   pub command : files_named words ≡ Some named
-  pub name : Bytes
-  pub reached : IsReached seen.told (in_order named) name
-  pub rose : Rose seen.before seen.now
-  pub absent : IsAbsentIfReliable seen.reliable seen.told name
-  pub says : text ≡ name_line (codes "cannot read ") name
+  pub file : ℕ
+  pub cause : load.CannotRead seen (in_order named) file
+  pub says : text ≡ name_line (codes "cannot read ") cause.name
 
 -- status 7: the file that is told is the first that is too large
 pub record TooLarge (words : List Bytes) (seen : Observed) (text : Bytes) : Type 0 where
   pub named : Named
   pub command : files_named words ≡ Some named
-  pub name : Bytes
-  pub reached : IsReached seen.told (in_order named) name
-  pub large : IsTooLarge seen.told name
-  pub no_fault : seen.now ≡ seen.before
-  pub says : text ≡ name_line (codes "too large ") name
+  pub file : ℕ
+  pub cause : load.IsPastLimit seen (in_order named) file
+  pub says : text ≡ name_line (codes "too large ") cause.name
 
--- status 8: the schema is lawful, and the inputs aren't supported
+-- status 8: the schema and the scripts are lawful, and they aren't supported
 pub record NotYet (words : List Bytes) (seen : Observed) (text : Bytes) : Type 0 where
   pub named : Named
   pub inputs : Inputs
-  pub read : HasRead words seen named inputs
+  pub read : HasRead words seen named (Ok inputs)
   pub unsupported : IsUnsupported inputs
   pub says : text ≡ not_yet_text
 
@@ -132,6 +136,7 @@ pub data IsAnswer (words : List Bytes) (seen : Observed) (status : ℕ) (text : 
   done : status ≡ 0 → Done words seen text → IsAnswer words seen status text
   usage : status ≡ 1 → Usage words seen text → IsAnswer words seen status text
   broken_schema : status ≡ 2 → BrokenSchema words seen text → IsAnswer words seen status text
+  broken_script : status ≡ 3 → BrokenScript words seen text → IsAnswer words seen status text
   cannot_read : status ≡ 5 → CannotRead words seen text → IsAnswer words seen status text
   too_large : status ≡ 7 → TooLarge words seen text → IsAnswer words seen status text
   not_yet : status ≡ 8 → NotYet words seen text → IsAnswer words seen status text

@@ -3,7 +3,7 @@ use Rattle.std.specs.Prelude.{◌+◌, ℕ, List, [], ◌∷◌, ◌++◌, Optio
 use Rattle.mdb_datum.specs.Written.{row_text}
 use Rattle.mdb_datum.specs.Bytes.{Bytes}
 use Rattle.mdb_datum.specs.Row.{Fields}
-use Rattle.memdb.specs.Script.{Line}
+use Rattle.client_script.specs.declared.line.Line.{Line}
 
 pub data Reply : Type 0 where
   -- the number of the commit on which a transaction stands

@@ -8,7 +8,9 @@ use Rattle.mdb_schema.specs.Answer.{ask}
 use Rattle.mdb_schema.specs.Query.{Query}
 use Rattle.mdb_schema.specs.declared.answer.Answer.TheVariants.{One}
 use Rattle.mdb_schema.specs.History.{History, after_writes, state_at}
-use Rattle.memdb.specs.Script.{Command, read, write, commit, insert, question, Line}
+use Rattle.client_script.specs.declared.command.Command.{Command}
+use Rattle.client_script.specs.declared.command.Command.TheVariants as command
+use Rattle.client_script.specs.declared.line.Line.{Line}
 use Rattle.memdb.specs.Reply.{Reply, read_at, write_at, committed, insert_reply, answer_reply}
 
 pub data Transaction : Type 0 where
@@ -74,13 +76,13 @@ pub record Asks (schema : DbSchema) (H : History) (v : View) (q : Query) (r : Re
 -- A reply that a line allows, and what the client knows after it. No line of a supported script is
 -- refused, so there is no reply that refuses one.
 abbrev pub Allows : DbSchema → History → ℕ → View → Command → Reply → View → Type 0
-Allows schema H client v read (read_at n) v' =
+Allows schema H client v command.Read (read_at n) v' =
     MayBegin H v n × (v' ≡ record { last = n; transaction = reading n })
-Allows schema H client v write (write_at n) v' =
+Allows schema H client v command.Write (write_at n) v' =
     MayBegin H v n × (v' ≡ record { last = n; transaction = writing n [] })
-Allows schema H client v (insert table row) r v' = Inserts schema H v (put table row) r v'
-Allows schema H client v commit (committed m) v' = Commits H client v m v'
-Allows schema H client v (question q) r v' = Asks schema H v q r v'
+Allows schema H client v (command.Insert table row) r v' = Inserts schema H v (put table row) r v'
+Allows schema H client v command.Commit (committed m) v' = Commits H client v m v'
+Allows schema H client v (command.Question q) r v' = Asks schema H v q r v'
 Allows schema H client v c r v' = ⊥
 
 -- each reply to the lines from here on is allowed, and each line has its reply

@@ -1,11 +1,9 @@
+pub mod CommandLine
+pub mod FilesOf
+pub mod FirstParts
 pub mod Form
-pub mod InputsOf
 pub mod Judged
-pub mod Lines
-pub mod Loads
 pub mod NamedOf
-pub mod Question
-pub mod QuestionOf
 pub mod ReplyOf
-pub mod ScriptOf
 pub mod Single
+pub mod ToldOf

@@ -8,14 +8,15 @@ ghost use Rattle.mdb_encode.specs.Keys.{ended};
 ghost use Rattle.radix_node.specs.Nodes.{pairs_of};
 ghost use Rattle.radix_txn.specs.Txn.{txn_pairs};
 ghost use Rattle.memdb.specs.Reply.{heading, line_text, write_at, read_at, committed, insert_reply, answer_reply};
-ghost use Rattle.memdb.specs.Script.{has_id, line_limit};
-ghost use Rattle.memdb.specs.inner.QuestionOf.{asked_text};
+ghost use Rattle.memdb.specs.FirstScript.{has_id};
+ghost use Rattle.memdb.specs.inner.FirstParts.{is_insert, inserted_row, is_question, asked_text};
 ghost use Rattle.memdb.specs.inner.ReplyOf.{reply_of};
-ghost use Rattle.memdb.specs.inner.Single.{IsKeyed, row_id, after_inserts, insert_replies, question_replies, single_replies, replies_text};
+ghost use Rattle.memdb.specs.inner.Single.{row_id, after_inserts, insert_replies, question_replies, single_replies, replies_text};
 
+use crate::first_parts::{FirstParts, asked_args, inserted_row};
 use crate::form::Form;
-use crate::question::Question;
 use crate::reply::{Reply, write_number};
+use client_script::Line;
 use mdb_datum::{Row, Text};
 use mdb_encode::{ArgError, Key, KeyError, Keys, arg_key, keys_of};
 use radix_node::Tree;
@@ -28,25 +29,22 @@ pub fn answers(
     alloc: Global,
     name: &Text,
     form: &Form<'_>,
-    rows: &[Row],
-    questions: &[Question],
+    parts: &FirstParts<'_>,
 ) -> Result<Vec<u8>, AllocError>
-    requires keyed { IsKeyed form.now.field.now rows.now (map asked_text questions.now) }
-    requires few { length rows.now + length questions.now ≤ line_limit }
+    requires inserts { All (λ l. is_insert form.now.table.now form.now.field.now l.command ≡ true)
+        parts.now.inserts.now }
+    requires questions { All (λ l. is_question form.now.table.now l.command ≡ true)
+        parts.now.questions.now }
+    requires few { length parts.now.inserts.now + length parts.now.questions.now < 2 ^ 32 }
     ensures { IfOk result (λ out. out.items ≡ heading 1 name.now ++ replies_text 1
-        (single_replies form.now.field.now rows.now (map asked_text questions.now))) }
+        (single_replies form.now.field.now (map inserted_row parts.now.inserts.now)
+        (map asked_text parts.now.questions.now))) }
 {
     let mut out = Vec::new(alloc);
     write_heading(1, name, &mut out)?;
-    let tree = write_transaction(alloc, form, rows, &mut out)?;
-    read_transaction(
-        alloc,
-        form,
-        questions,
-        &tree,
-        2 + rows.len() as u64,
-        &mut out,
-    )?;
+    let tree = write_transaction(alloc, form, parts.inserts, &mut out)?;
+    let line = 2 + parts.inserts.len() as u64;
+    read_transaction(alloc, form, parts.questions, &tree, line, &mut out)?;
     Ok(out)
 }
 
@@ -67,20 +65,21 @@ fn write_heading(number: u64, name: &Text, out: &mut Vec<u8>) -> Result<(), Allo
 fn write_transaction(
     alloc: Global,
     form: &Form<'_>,
-    rows: &[Row],
+    inserts: &[Line],
     out: &mut Vec<u8>,
 ) -> Result<Tree, AllocError>
-    requires keyed { All (λ row. has_id (member form.now.field.now row) ≡ true) rows.now }
-    requires fits { 2 + length rows.now < 2 ^ 64 }
+    requires inserts { All (λ l. is_insert form.now.table.now form.now.field.now l.command ≡ true)
+        inserts.now }
+    requires fits { 2 + length inserts.now < 2 ^ 64 }
     ensures stored { IfOk result (λ tree.
-        pairs_of tree ≡ after_inserts form.now.field.now [] rows.now) }
+        pairs_of tree ≡ after_inserts form.now.field.now [] (map inserted_row inserts.now)) }
     ensures said { OnOk result (out.new.items ≡ out.old.items
-        ++ (line_text 1 (write_at 0)
-        ++ replies_text 2 (insert_replies form.now.field.now [] rows.now))) }
+        ++ (line_text 1 (write_at 0) ++ replies_text 2
+        (insert_replies form.now.field.now [] (map inserted_row inserts.now)))) }
 {
     let mut txn = Tree::empty(alloc)?.txn()?;
     Reply::WriteAt(0).write(1, out)?;
-    insert_rows(alloc, form, rows, 2, &mut txn, out)?;
+    insert_rows(alloc, form, inserts, 2, &mut txn, out)?;
     Ok(txn.freeze()?)
 }
 
@@ -88,22 +87,24 @@ fn write_transaction(
 fn insert_rows(
     alloc: Global,
     form: &Form<'_>,
-    rows: &[Row],
+    inserts: &[Line],
     first: u64,
     txn: &mut TreeTxn,
     out: &mut Vec<u8>,
 ) -> Result<(), AllocError>
-    requires keyed { All (λ row. has_id (member form.now.field.now row) ≡ true) rows.now }
-    requires fits { first + length rows.now < 2 ^ 64 }
+    requires inserts { All (λ l. is_insert form.now.table.now form.now.field.now l.command ≡ true)
+        inserts.now }
+    requires fits { first + length inserts.now < 2 ^ 64 }
     requires sound { txn.old.spoiled ≡ false }
-    ensures stored { OnOk result
-        (txn_pairs txn.new ≡ after_inserts form.now.field.now (txn_pairs txn.old) rows.now) }
-    ensures said { OnOk result (out.new.items ≡ out.old.items
-        ++ replies_text first (insert_replies form.now.field.now (txn_pairs txn.old) rows.now)) }
+    ensures stored { OnOk result (txn_pairs txn.new
+        ≡ after_inserts form.now.field.now (txn_pairs txn.old) (map inserted_row inserts.now)) }
+    ensures said { OnOk result (out.new.items ≡ out.old.items ++ replies_text first
+        (insert_replies form.now.field.now (txn_pairs txn.old) (map inserted_row inserts.now))) }
     ensures sound { OnOk result (txn.new.spoiled ≡ false) }
 {
     let mut number = first;
-    for row in rows {
+    for line in inserts {
+        let row = inserted_row(form, line);
         insert_row(alloc, form, row, number, txn, out)?;
         number += 1;
     }
@@ -162,12 +163,13 @@ fn insert_answer(old: &Option<Row>) -> Reply<'static>
 fn read_transaction(
     alloc: Global,
     form: &Form<'_>,
-    questions: &[Question],
+    questions: &[Line],
     tree: &Tree,
     line: u64,
     out: &mut Vec<u8>,
 ) -> Result<(), AllocError>
-    requires { line + 2 + length questions.now < 2 ^ 64 }
+    requires questions { All (λ l. is_question form.now.table.now l.command ≡ true) questions.now }
+    requires fits { line + 2 + length questions.now < 2 ^ 64 }
     ensures { OnOk result (out.new.items ≡ out.old.items
         ++ (line_text line (committed 1)
         ++ (line_text (line + 1) (read_at 1)
@@ -183,12 +185,13 @@ fn read_transaction(
 fn ask_all(
     alloc: Global,
     form: &Form<'_>,
-    questions: &[Question],
+    questions: &[Line],
     tree: &Tree,
     first: u64,
     out: &mut Vec<u8>,
 ) -> Result<(), AllocError>
-    requires { first + length questions.now < 2 ^ 64 }
+    requires questions { All (λ l. is_question form.now.table.now l.command ≡ true) questions.now }
+    requires fits { first + length questions.now < 2 ^ 64 }
     ensures { OnOk result (out.new.items ≡ out.old.items ++ replies_text first
         (question_replies (pairs_of tree.now) (map asked_text questions.now))) }
 {
@@ -204,11 +207,12 @@ fn ask_all(
 fn ask(
     alloc: Global,
     form: &Form<'_>,
-    question: &Question,
+    question: &Line,
     tree: &Tree,
     number: u64,
     out: &mut Vec<u8>,
 ) -> Result<(), AllocError>
+    requires { is_question form.now.table.now question.now.command ≡ true }
     ensures { OnOk result (out.new.items ≡ out.old.items
         ++ line_text number (answer_reply
         (find byte_order (ended (asked_text question.now)) (pairs_of tree.now)))) }
@@ -221,10 +225,11 @@ fn ask(
 }
 
 /// The `id` key of the text that is asked for.
-fn question_key(alloc: Global, form: &Form<'_>, question: &Question) -> Result<Key, AllocError>
+fn question_key(alloc: Global, form: &Form<'_>, question: &Line) -> Result<Key, AllocError>
+    requires { is_question form.now.table.now question.now.command ≡ true }
     ensures { IfOk result (λ key. key ≡ ended (asked_text question.now)) }
 {
-    match arg_key(alloc, form.kind, question.args()) {
+    match arg_key(alloc, form.kind, asked_args(form, question)) {
         Ok(key) => Ok(key),
         Err(ArgError::Memory) => Err(AllocError),
         Err(_) => unreachable!(),

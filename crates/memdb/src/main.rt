@@ -2,27 +2,22 @@
 //!
 //! [`run::run`] is the top call, and its contract is what the program promises: whatever the files
 //! hold, an answer of 0 says that the bytes written are answers in one history, and every other
-//! answer has its cause. The modules below it read the words, the files and the script, carry the
-//! script out, and write the text. `main` hands it the real files and the real output, of which
-//! nothing is claimed but counts and causes.
+//! answer has its cause. The modules below it read the words, judge the schema and the script, carry
+//! the script out, and say what is written; `run_io` loads the files and writes the text. `main`
+//! hands it the real files and the real output, of which nothing is claimed but counts and causes.
 #![tactic(auto)]
 
 mod answers;
+mod first_parts;
 mod form;
-mod inputs;
 mod judge;
-mod lines;
-mod load;
 mod outcome;
 mod output;
-mod question;
 mod reply;
 mod run;
-mod script;
 #[cfg(test)]
 mod tests;
 mod words;
-mod write;
 
 use mdb_datum::Text;
 use mdb_ports::{DirFiles, OpenGate, OutSink};

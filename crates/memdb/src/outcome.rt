@@ -1,20 +1,23 @@
 //! From the words and the files to what a run writes.
-ghost use Rattle.std.specs.Prelude.{◌≡◌, None, IfOk};
-ghost use Rattle.memdb.specs.Observed.{observed, Stays};
+ghost use Rattle.std.specs.Prelude.{◌≡◌, None, Some, IfOk, List, length};
+ghost use Rattle.mdb_datum.specs.Bytes.{Bytes};
 ghost use Rattle.memdb.specs.Outcome.{IsAnswer};
-ghost use Rattle.memdb.specs.Words.{files_named};
+ghost use Rattle.memdb.specs.Words.{files_named, in_order};
+ghost use Rattle.memdb.specs.inner.NamedOf.{named_of};
+ghost use Rattle.memdb.specs.inner.ToldOf.{NamesFile, Tells};
+ghost use Rattle.run_io.specs.Observed.{observed, Stays};
 
-use crate::inputs::read_inputs;
 use crate::judge::judge;
-use crate::load::LoadError;
-use crate::output::{Output, cannot_read, too_large, usage};
+use crate::output::{Output, broken_schema, broken_script, cannot_read, too_large, usage};
 use crate::words::Named;
 use mdb_datum::Text;
 use mdb_ports::Files;
+use mdb_schema::SchemaError;
+use run_io::{LoadError, load};
 use std::alloc::{AllocError, Global};
 
 /// The output for words and the files that they name. Words that are no command touch no file. It
-/// takes memory for the files' bytes, the script and the text.
+/// takes memory for the files' bytes, the scripts and the text.
 pub fn outcome<F: Files>(alloc: Global, words: &[Text], files: &mut F) -> Result<Output, AllocError>
     ensures stays { let seen = observed (F.told files.old) (F.reliable files.old)
         (F.faults files.old) (F.faults files.new) in
@@ -24,13 +27,41 @@ pub fn outcome<F: Files>(alloc: Global, words: &[Text], files: &mut F) -> Result
         IfOk result (λ output. IsAnswer words.now seen output.status output.text.items) }
     ensures untouched { files_named words.now ≡ None → files.new ≡ files.old }
 {
-    let Some(named) = Named::of(words) else {
-        return usage(alloc);
-    };
-    match read_inputs(alloc, files, &named) {
-        Ok(inputs) => Ok(judge(alloc, named.client(), &inputs.schema, inputs.client())?),
-        Err(LoadError::Memory) => Err(AllocError),
-        Err(LoadError::Read(name)) => cannot_read(alloc, name),
-        Err(LoadError::TooLarge(name)) => too_large(alloc, name),
+    match Named::of(alloc, words)? {
+        Some(named) => Ok(loaded(alloc, &named, files)?),
+        None => Ok(usage(alloc)?),
+    }
+}
+
+/// The output for the files that a command names.
+fn loaded<F: Files>(alloc: Global, named: &Named, files: &mut F) -> Result<Output, AllocError>
+    ensures stays { let seen = observed (F.told files.old) (F.reliable files.old)
+        (F.faults files.old) (F.faults files.new) in
+        Stays seen (F.told files.new) (F.reliable files.new) }
+    ensures answer { let seen = observed (F.told files.old) (F.reliable files.old)
+        (F.faults files.old) (F.faults files.new) in
+        IfOk result (λ output. (words : List Bytes) → files_named words ≡ Some (named_of named.now)
+        → IsAnswer words seen output.status output.text.items) }
+{
+    match load(alloc, files, &named.schema, &named.clients) {
+        Ok(inputs) => Ok(judge(alloc, named.client(), &inputs)?),
+        Err(error) => Ok(told(alloc, named, error)?),
+    }
+}
+
+/// The output for files that were not loaded.
+fn told(alloc: Global, named: &Named, error: LoadError) -> Result<Output, AllocError>
+    requires { NamesFile (length (in_order (named_of named.now))) error }
+    ensures { IfOk result (λ output. Tells (in_order (named_of named.now)) error
+        output.status output.text.items) }
+{
+    match error {
+        LoadError::Memory | LoadError::Schema(SchemaError::Memory) => Err(AllocError),
+        LoadError::Read { file } => cannot_read(alloc, named.file(file)),
+        LoadError::TooLarge { file } => too_large(alloc, named.file(file)),
+        LoadError::Schema(SchemaError::Broken { rule, table, index }) => {
+            broken_schema(alloc, rule, table, index)
+        }
+        LoadError::Script { client, error } => broken_script(alloc, client, error),
     }
 }

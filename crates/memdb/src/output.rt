@@ -1,10 +1,13 @@
 //! What a run writes, and the status that it ends with.
-ghost use Rattle.std.specs.Prelude.{◌≡◌, ◌++◌, ◌∷◌, [], IfOk, OnOk, codes};
+ghost use Rattle.std.specs.Prelude.{◌≡◌, ◌++◌, ◌∷◌, [], IfOk, OnOk, codes, decimal};
+ghost use Rattle.client_script.specs.Refusal.{error_line, error_word};
 ghost use Rattle.mdb_datum.specs.Doc.{text};
 ghost use Rattle.mdb_datum.specs.Written.{compact};
-ghost use Rattle.memdb.specs.Outcome.{name_line, name_part, broken_text, not_yet_text};
+ghost use Rattle.memdb.specs.Outcome.{name_line, name_part, line_part, broken_text, script_text, not_yet_text};
 ghost use Rattle.memdb.specs.Words.{usage_text};
 
+use crate::reply::write_number;
+use client_script::ScriptError;
 use mdb_datum::{Datum, Text, write_doc};
 use mdb_schema::SchemaRule;
 use std::alloc::{AllocError, Global};
@@ -80,6 +83,47 @@ fn write_quoted(alloc: Global, name: Text, out: &mut Vec<u8>) -> Result<(), Allo
     out.extend_from_slice(&quoted)
 }
 
+/// The script of this client breaks a rule, perhaps in a line.
+pub fn broken_script(alloc: Global, client: u32, rule: ScriptError) -> Result<Output, AllocError>
+    ensures { IfOk result (λ output. (output.status ≡ 3)
+        × (output.text.items ≡ script_text client rule)) }
+{
+    let mut text = Vec::from_slice(alloc, b"script ")?;
+    write_number(u64::from(client), &mut text)?;
+    write_rule(rule, &mut text)?;
+    Ok(Output { status: 3, text })
+}
+
+/// Adds the line's number, where a rule has one, and the rule's name, and ends the line.
+fn write_rule(rule: ScriptError, out: &mut Vec<u8>) -> Result<(), AllocError>
+    ensures { OnOk result (out.new.items ≡ out.old.items
+        ++ (line_part (error_line rule) ++ (32 ∷ (error_word rule ++ 10 ∷ [])))) }
+{
+    write_line(rule.line(), out)?;
+    out.push(b' ')?;
+    out.extend_from_slice(rule.word().as_bytes())?;
+    out.push(b'\n')?;
+    Ok(())
+}
+
+/// Adds the number of a line, where there is one.
+fn write_line(line: Option<u32>, out: &mut Vec<u8>) -> Result<(), AllocError>
+    ensures { OnOk result (out.new.items ≡ out.old.items ++ line_part line) }
+{
+    match line {
+        None => Ok(()),
+        Some(line) => write_place(line, out),
+    }
+}
+
+/// Adds ` line ` and a number.
+fn write_place(line: u32, out: &mut Vec<u8>) -> Result<(), AllocError>
+    ensures { OnOk result (out.new.items ≡ out.old.items ++ (codes " line " ++ decimal line)) }
+{
+    out.extend_from_slice(b" line ")?;
+    write_number(u64::from(line), out)
+}
+
 /// A call of the files failed, at the file of this name.
 pub fn cannot_read(alloc: Global, name: &Text) -> Result<Output, AllocError>
     ensures { IfOk result (λ output. (output.status ≡ 5)
@@ -102,7 +146,7 @@ pub fn too_large(alloc: Global, name: &Text) -> Result<Output, AllocError>
     })
 }
 
-/// The schema or a script isn't supported.
+/// The schema and the scripts aren't supported.
 pub fn not_yet(alloc: Global) -> Result<Output, AllocError>
     ensures { IfOk result (λ output. (output.status ≡ 8) × (output.text.items ≡ not_yet_text)) }
 {

@@ -2,14 +2,14 @@
 ghost use Rattle.std.specs.Prelude.{◌≡◌, ◌≢◌, ◌≤◌, ◌∷◌, [], ℕ, None};
 ghost use Rattle.mdb_ports.specs.Faults.{Rose};
 ghost use Rattle.memdb.specs.Causes.{CallsFor, IsOneOf};
-ghost use Rattle.memdb.specs.Observed.{observed, Stays};
-ghost use Rattle.memdb.specs.Outcome.{Wrote, Done, Usage, BrokenSchema, CannotRead, TooLarge, NotYet, CutShort};
+ghost use Rattle.memdb.specs.Outcome.{Wrote, Done, Usage, BrokenSchema, BrokenScript, CannotRead, TooLarge, NotYet, CutShort};
 ghost use Rattle.memdb.specs.Words.{files_named};
+ghost use Rattle.run_io.specs.Observed.{observed, Stays};
 
 use crate::outcome::outcome;
-use crate::write::write_all;
 use mdb_datum::Text;
 use mdb_ports::{Failed, Files, Gate, Sink};
+use run_io::write_all;
 use std::alloc::{AllocError, Global};
 use std::sync::Wait;
 use std::thread::Threads;
@@ -21,11 +21,13 @@ use std::thread::Threads;
 /// - 1: the words are no command, and the usage was written;
 /// - 2: the schema breaks a rule, and `schema RULE` was written, with the names of the table and
 ///   the index where the rule has them;
+/// - 3: a script breaks a rule, and `script K line L RULE` was written for client K, or
+///   `script K RULE` where the rule has no line;
 /// - 4: there was not enough memory, and nothing was written;
 /// - 5: a file can't be read, and `cannot read NAME` was written;
 /// - 6: the sink failed, and the beginning of a text was written;
 /// - 7: a file has more than 1,048,576 bytes, and `too large NAME` was written;
-/// - 8: the schema is lawful, but it or the script isn't supported, and `not yet` was written.
+/// - 8: the schema and the script are lawful, but aren't supported, and `not yet` was written.
 ///
 /// One client is run, which waits for nobody: the runtime and the gate are not used.
 pub fn run<R: Threads + Wait + Sync, F: Files, S: Sink, G: Gate + Sync>(
@@ -46,6 +48,9 @@ pub fn run<R: Threads + Wait + Sync, F: Files, S: Sink, G: Gate + Sync>(
     ensures broken_schema { let seen = observed (F.told files.old) (F.reliable files.old)
         (F.faults files.old) (F.faults files.new) in
         result ≡ 2 → Wrote (S.told out.old) (S.told out.new) (BrokenSchema words.now seen) }
+    ensures broken_script { let seen = observed (F.told files.old) (F.reliable files.old)
+        (F.faults files.old) (F.faults files.new) in
+        result ≡ 3 → Wrote (S.told out.old) (S.told out.new) (BrokenScript words.now seen) }
     ensures out_of_memory { result ≡ 4 → S.told out.new ≡ S.told out.old }
     ensures cannot_read { let seen = observed (F.told files.old) (F.reliable files.old)
         (F.faults files.old) (F.faults files.new) in
@@ -60,7 +65,7 @@ pub fn run<R: Threads + Wait + Sync, F: Files, S: Sink, G: Gate + Sync>(
     ensures not_yet { let seen = observed (F.told files.old) (F.reliable files.old)
         (F.faults files.old) (F.faults files.new) in
         result ≡ 8 → Wrote (S.told out.old) (S.told out.new) (NotYet words.now seen) }
-    ensures no_other { IsOneOf (0 ∷ 1 ∷ 2 ∷ 4 ∷ 5 ∷ 6 ∷ 7 ∷ 8 ∷ []) result }
+    ensures no_other { IsOneOf (0 ∷ 1 ∷ 2 ∷ 3 ∷ 4 ∷ 5 ∷ 6 ∷ 7 ∷ 8 ∷ []) result }
 
     // Where its cause is there a status comes, but for want of memory and a failed write.
     ensures comes { let seen = observed (F.told files.old) (F.reliable files.old)

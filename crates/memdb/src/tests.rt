@@ -73,31 +73,47 @@ const TWICE_OUT: &str = r#"client 1 c1
 /// Words that are no command.
 const NO_COMMANDS: [&str; 4] = ["run S", "run S c1 c1", "run -x c1", "make 1 2 3"];
 
+const ENDS: &str = "client 1 c1\n1: write @0\n2: commit @1\n3: read @1\n";
+
 /// A schema and a script, and the status and the text of their run.
-const CASES: [(&str, &str, u8, &str); 13] = [
+const CASES: [(&str, &str, u8, &str); 16] = [
     (SCHEMA, ANN, 0, ANN_OUT),
     (DEFAULTS, ANN, 0, ANN_OUT),
     (SCHEMA, TWICE, 0, TWICE_OUT),
-    (
-        SCHEMA,
-        EMPTY,
-        0,
-        "client 1 c1\n1: write @0\n2: commit @1\n3: read @1\n",
-    ),
+    (SCHEMA, EMPTY, 0, ENDS),
+    (SCHEMA, "write\r\n commit\nread", 0, ENDS),
     ("", ANN, 2, "schema syntax\n"),
     ("{}\n", EMPTY, 2, "schema bad-shape\n"),
-    (NO_ID, "commit\n", 2, "schema no-id \"t\"\n"),
     (
         BAD_INDEX,
         "",
         2,
         "schema bad-name \"t\" \"a\\\"b\\u0001\\n\"\n",
     ),
+    (SCHEMA, "", 8, "not yet\n"),
     (SCHEMA, "commit\n", 8, "not yet\n"),
+    (SCHEMA, "write\n\ncommit\nread\n", 8, "not yet\n"),
+    (SCHEMA, "write\ncommit\nread\nend\n", 8, "not yet\n"),
     (FOLDED, ANN, 8, "not yet\n"),
     (BY_UUID, ANN, 8, "not yet\n"),
     (TWO_INDEXES, ANN, 8, "not yet\n"),
     (TWO_TABLES, ANN, 8, "not yet\n"),
+];
+
+/// A schema and a script of which the rule that is told is broken: the schema's comes first.
+const BROKEN: [(&str, &str, u8, &str); 7] = [
+    (
+        SCHEMA,
+        "write\nwrites\n",
+        3,
+        "script 1 line 2 unknown-word\n",
+    ),
+    (SCHEMA, "wait\n", 3, "script 1 line 1 bad-shape\n"),
+    (SCHEMA, "\n\nwait a.b\n", 3, "script 1 line 3 bad-name\n"),
+    (SCHEMA, "insert t {", 3, "script 1 line 1 bad-doc\n"),
+    (SCHEMA, "wait\ninsert t {", 3, "script 1 line 1 bad-shape\n"),
+    (NO_ID, "commit\n", 2, "schema no-id \"t\"\n"),
+    (NO_ID, "wait\n", 2, "schema no-id \"t\"\n"),
 ];
 
 fn parted(alloc: Global, text: &str) -> Result<Vec<Text>, AllocError> {
@@ -139,7 +155,7 @@ fn failing(alloc: Global, call: u64) -> Result<CallList, AllocError> {
 }
 
 /// Runs words over files, where a call of the files and one of the sink may fail, the sink taking 7
-/// bytes a call. Gives the status and the sink.
+/// bytes a call. Gives the status and the sink; want of memory is an error.
 fn run_over<R: Threads + Wait + Sync>(
     rt: &R,
     alloc: Global,
@@ -151,6 +167,9 @@ fn run_over<R: Threads + Wait + Sync>(
     let mut files = MemFiles::of(files, failing(alloc, calls.0)?);
     let mut out = MemSink::of(alloc, 4096, 7, failing(alloc, calls.1)?)?;
     let status = run::run(rt, alloc, &words, &mut files, &mut out, &OpenGate);
+    if status == 4 && out.bytes().is_empty() {
+        return Err(AllocError);
+    }
     Ok((status, out))
 }
 
@@ -183,6 +202,43 @@ fn a_schema_and_a_script_are_answered(rt: HostRuntime) -> Result<(), Fail> {
         let holds = ends(&rt, rt.alloc(), "run S c1", files, (*status, out))?;
         assert!(rt; holds, "{out}");
     }
+    Ok(())
+}
+
+#[test]
+fn the_first_rule_that_is_broken_is_told(rt: HostRuntime) -> Result<(), Fail> {
+    for (schema, client, status, out) in &BROKEN {
+        let files = two_files(rt.alloc(), schema, client)?;
+        let holds = ends(&rt, rt.alloc(), "run S c1", files, (*status, out))?;
+        assert!(rt; holds, "{out}");
+    }
+    Ok(())
+}
+
+/// Whether the run of a script of these bytes writes that it breaks a rule of no line.
+fn is_broken<R: Threads + Wait + Sync>(
+    rt: &R,
+    alloc: Global,
+    script: &[u8],
+    out: &str,
+) -> Result<bool, AllocError> {
+    let mut files = one_file(alloc, "S", SCHEMA)?;
+    files.push((Text::of(alloc, "c1")?, Vec::from_slice(alloc, script)?))?;
+    ends(rt, alloc, "run S c1", files, (3, out))
+}
+
+#[test]
+fn a_rule_of_no_line_is_told_without_one(rt: HostRuntime) -> Result<(), Fail> {
+    let text = is_broken(&rt, rt.alloc(), b"read\n\xff", "script 1 not-text\n")?;
+    assert!(rt; text);
+    let lines = "\n".repeat(rt.alloc(), 100_001)?;
+    let few = is_broken(
+        &rt,
+        rt.alloc(),
+        lines.as_bytes(),
+        "script 1 too-many-lines\n",
+    )?;
+    assert!(rt; few);
     Ok(())
 }
 

@@ -1,46 +1,79 @@
 //! The words of the command line.
-ghost use Rattle.std.specs.Prelude.{◌≡◌, ◌∷◌, [], IsTrue, option_map};
+ghost use Rattle.std.specs.Prelude.{◌≡◌, ◌<◌, ◌∷◌, [], Some, IfOk, IsTrue, length, option_map, slice_get};
+ghost use Rattle.std.specs.List.{list_all};
 ghost use Rattle.memdb.specs.Words.{are_supported, may_name_a_file};
 
 use mdb_datum::Text;
+use run_io::Texts;
+use std::alloc::{AllocError, Global};
+
+mod command;
+#[cfg(test)]
+mod tests;
+
+use self::command::read_command;
 
 /// How many clients are supported.
 const CLIENTS: usize = 1;
 
 /// The files that a command names: its schema, and the scripts of its clients in order.
-#[derive(Clone, Copy)]
-pub struct Named<'a> {
-    pub schema: &'a Text,
-    pub clients: &'a [Text],
-    ghost supported: { IsTrue (are_supported clients.now) },
+#[derive(Drop)]
+pub struct Named {
+    pub schema: Text,
+    pub clients: Texts,
+    ghost supported: { IsTrue (are_supported clients) },
 }
 
-impl<'a> Named<'a> {
-    ghost use Rattle.memdb.specs.Words.{files_named};
+impl Named {
+    ghost use Rattle.memdb.specs.Words.{files_named, in_order};
     ghost use Rattle.memdb.specs.inner.NamedOf.{named_of};
 
-    /// The files that words name: `None` where they aren't `run SCHEMA CLIENT`. A file's name isn't
-    /// empty, doesn't begin with `-` and holds no line feed.
-    pub fn of(words: &'a [Text]) -> Option<Named<'a>>
-        ensures { option_map named_of result ≡ files_named words.now }
+    /// The files that words name: `None` where they aren't `run SCHEMA CLIENT`. `clap` reads them,
+    /// after the test that each word may name a file: it isn't empty, doesn't begin with `-` and
+    /// holds no line feed. It takes memory for the names.
+    pub fn of(alloc: Global, words: &[Text]) -> Result<Option<Named>, AllocError>
+        ensures { IfOk result (λ named. option_map named_of named ≡ files_named words.now) }
     {
-        let [command, schema, clients @ ..] = words else {
-            return None;
-        };
-        let are_names = may_name_a_file(schema) && clients.iter().all(may_name_a_file);
-        if command.as_str() == "run" && are_names && clients.len() == CLIENTS {
-            Some(Named { schema, clients })
-        } else {
-            None
+        if !may_name_files(words) {
+            return Ok(None);
+        }
+        match read_command(alloc, words)? {
+            Some(files) if files.clients.len() == CLIENTS => Ok(Some(Named {
+                schema: files.schema,
+                clients: files.clients,
+            })),
+            _ => Ok(None),
         }
     }
 
     /// The name of the one client's file.
-    pub fn client(&self) -> &'a Text
-        ensures { self.now.clients.now ≡ result.now ∷ [] }
+    pub fn client(&self) -> &Text
+        ensures { self.now.clients ≡ result.now ∷ [] }
     {
-        &self.clients[0]
+        let names = self.clients.iter().as_slice();
+        &names[0]
     }
+
+    /// The name of a file, by its number: 0 is the schema's, and 1 the first client's.
+    pub fn file(&self, file: u32) -> &Text
+        requires { file < length (in_order (named_of self.now)) }
+        ensures { slice_get (in_order (named_of self.now)) file ≡ Some result.now }
+    {
+        if file == 0 {
+            return &self.schema;
+        }
+        match self.clients.get(file as usize - 1) {
+            Some(name) => name,
+            None => unreachable!(),
+        }
+    }
+}
+
+/// Whether each word may name a file.
+fn may_name_files(words: &[Text]) -> bool
+    ensures { result ≡ list_all may_name_a_file words.now }
+{
+    words.iter().all(may_name_a_file)
 }
 
 /// Whether a word may name a file.
@@ -52,6 +85,3 @@ fn may_name_a_file(word: &Text) -> bool
         bytes => !bytes.contains(&b'\n'),
     }
 }
-
-#[cfg(test)]
-mod tests;

@@ -3,4 +3,4 @@ use Rattle.memdb.specs.Words.{Named}
 use Rattle.memdb.specs.declared.words.Named as code
 
 abbrev pub named_of : code.Named → Named
-named_of n = record { schema = n.schema.now; clients = n.clients.now }
+named_of n = record { schema = n.schema; clients = n.clients }

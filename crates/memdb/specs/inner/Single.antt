@@ -1,27 +1,11 @@
 -- What one client is answered over one table, computed from its script.
-use Rattle.std.specs.Prelude.{◌≡◌, ◌+◌, ◌≤◌, ℕ, List, [], ◌∷◌, ◌++◌, map, length, Option, Some, All, true}
+use Rattle.std.specs.Prelude.{◌+◌, ℕ, List, [], ◌∷◌, ◌++◌, map, Option, Some}
 use Rattle.std.specs.FinMap as finite
 use Rattle.mdb_datum.specs.Doc.{Doc, text, member}
 use Rattle.mdb_datum.specs.Bytes.{Bytes, byte_order}
 use Rattle.mdb_encode.specs.Keys.{ended}
 use Rattle.mdb_datum.specs.Row.{Fields, Pair}
-use Rattle.memdb.specs.Script.{Command, read, write, commit, insert, question, first_by_id, has_id, text_limit}
 use Rattle.memdb.specs.Reply.{Reply, read_at, write_at, committed, insert_reply, answer_reply, line_text}
-
--- a supported script: the rows that it inserts, and the texts whose rows it asks for
-abbrev pub questions : Bytes → List Bytes → List Command
-questions table texts = map (λ s. question (first_by_id table s)) texts
-
-abbrev pub inserts : Bytes → List Fields → List Command
-inserts table rows = map (insert table) rows
-
-abbrev pub commands : Bytes → List Fields → List Bytes → List Command
-commands table rows texts = write ∷ (inserts table rows ++ commit ∷ read ∷ questions table texts)
-
--- each row has an `id`, and each text is short enough for a key
-pub record IsKeyed (field : Bytes) (rows : List Fields) (texts : List Bytes) : Type 0 where
-  pub ids : All (λ row. has_id (member field row) ≡ true) rows
-  pub short : All (λ s. length s ≤ text_limit) texts
 
 -- the key of a row's `id` text
 abbrev pub id_text : Option Doc → Bytes

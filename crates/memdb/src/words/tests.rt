@@ -28,7 +28,7 @@ fn is_command(alloc: Global, text: &str) -> Result<bool, AllocError> {
     for word in text.split('|') {
         words.push(Text::of(alloc, word)?)?;
     }
-    Ok(Named::of(&words).is_some())
+    Ok(Named::of(alloc, &words)?.is_some())
 }
 
 #[test]

@@ -1,15 +1,43 @@
--- The rule that is told is the one that the schema breaks, and a script is judged over the schema that was read.
-use Rattle.std.proofs.Common.{[], ◌∷◌}
-use Rattle.memdb.specs.inner.Judged.{broken}
-use Rattle.memdb.proofs.Answering.{scripts_judged}
+-- The answers are a legal output for the schema and the script, and a script of another form isn't supported.
+use Rattle.std.proofs.Common.{◌≡◌, ◌∷◌, [], ◌∙◌, ap, sym, Some, None}
+use Rattle.std.proofs.lemmas.Result.{IfOk-weaker}
+use Rattle.memdb.specs.Outcome.{not_yet_text}
+use Rattle.memdb.specs.declared.output.Output.{Output}
+use Rattle.memdb.specs.inner.FirstParts.{first_parts}
+use Rattle.memdb.specs.inner.Judged.{Judged}
+use Rattle.memdb.proofs.FirstScripts.{parts_are}
+use Rattle.memdb.proofs.Judging.{script_answered, script_unsupported}
 use Rattle.memdb.proofs.judge.judge.Goals as goal
 
-pub returns-in_ok-judge_script-in-Ok : goal.returns-in_ok-judge_script-in-Ok
-returns-in_ok-judge_script-in-Ok c =
-    scripts_judged (c.args.name.now ∷ []) (c.args.client_bytes.now ∷ []) c.args.schema_bytes.now _ _ _ c.in-Ok.ensures.answer c.in_ok-judge_script-in-Ok.ensures
+pub returns-in_default-first_parts : goal.returns-in_default-first_parts
+returns-in_default-first_parts c =
+    let form = c.in-Some.form in
+    let script = c.in-Some-get.script.now in
+    let lines : c.as_slice.result.now ≡ script = c.as_slice.ensures.value ∙ c.iter.ensures in
+    let none : first_parts form.table.now form.field.now script ≡ None = ap (first_parts form.table.now form.field.now) (sym lines) ∙ sym c.in_default-first_parts.ensures.parts in
+    let said : Output → Type 0 = λ o. (o.status ≡ 8) × (o.text.items ≡ not_yet_text) in
+    let judged : Output → Type 0 = λ o. Judged (c.args.name.now ∷ []) c.args.inputs.now o.status o.text.items in
+    IfOk-weaker c.not_yet-in_default-first_parts.result said judged
+    (λ o h. script_unsupported c.args.inputs.now (c.args.name.now ∷ []) o.text.items form.table.now form.field.now script o.status c.requires (sym c.in-Some-get.ensures) (sym c.in-Some.ensures) none h)
+    c.not_yet-in_default-first_parts.ensures
 
-pub returns-in_ok-broken_schema-in-Err-Broken : goal.returns-in_ok-broken_schema-in-Err-Broken
-returns-in_ok-broken_schema-in-Err-Broken c =
-    let told = c.in_ok-broken_schema-in-Err-Broken.ensures in
-    broken told.0 (record { rule = c.in-Err-Broken.rule; table = c.in-Err-Broken.table; index = c.in-Err-Broken.index })
-    (rw c.in-Err-Broken.field-0-is at c.in-Err-Broken.ensures.answer) told.1
+pub answers-requires-clause-inserts : goal.answers-requires-clause-inserts
+answers-requires-clause-inserts c =
+    let form = c.in-Some.form in
+    let parts = c.in-Some-first_parts.parts in
+    (parts_are form.table.now form.field.now c.as_slice.result.now parts.inserts.now parts.questions.now (sym c.in-Some-first_parts.ensures.parts)).inserted
+
+pub answers-requires-clause-questions : goal.answers-requires-clause-questions
+answers-requires-clause-questions c =
+    let form = c.in-Some.form in
+    let parts = c.in-Some-first_parts.parts in
+    (parts_are form.table.now form.field.now c.as_slice.result.now parts.inserts.now parts.questions.now (sym c.in-Some-first_parts.ensures.parts)).questions
+
+pub returns : goal.returns
+returns c =
+    let form = c.in-Some.form in
+    let script = c.in-Some-get.script.now in
+    let parts = c.in-Some-first_parts.parts in
+    let lines : c.as_slice.result.now ≡ script = c.as_slice.ensures.value ∙ c.iter.ensures in
+    let apart : first_parts form.table.now form.field.now script ≡ Some (parts.inserts.now, parts.questions.now) = ap (first_parts form.table.now form.field.now) (sym lines) ∙ sym c.in-Some-first_parts.ensures.parts in
+    script_answered c.args.inputs.now c.args.name.now c.in_ok-text.text.items form.table.now form.field.now script parts.inserts.now parts.questions.now c.requires (sym c.in-Some-get.ensures) (sym c.in-Some.ensures) apart c.in_ok-text.ensures

@@ -1,0 +1,29 @@
+-- What is told of an error in loading.
+use Rattle.std.specs.Prelude.{◌≡◌, ◌<◌, ℕ, List, [], slice_get, unwrap_or, codes, ⊤}
+use Rattle.mdb_datum.specs.Bytes.{Bytes}
+use Rattle.mdb_schema.specs.declared.error.SchemaError.TheVariants as schema_errors
+use Rattle.memdb.specs.Outcome.{name_line, broken_text, script_text}
+use Rattle.run_io.specs.declared.load_error.LoadError.{LoadError}
+use Rattle.run_io.specs.declared.load_error.LoadError.TheVariants.{Memory, Read, TooLarge, Schema, Script}
+
+-- the file that an error names is one of so many
+abbrev pub NamesFile : ℕ → LoadError → Type 0
+NamesFile count (Read file) = file < count
+NamesFile count (TooLarge file) = file < count
+NamesFile count e = ⊤
+
+-- the name of a file by its number
+abbrev pub name_at : List Bytes → ℕ → Bytes
+name_at names file = unwrap_or (slice_get names file) []
+
+-- a status and a text, where the files have these names; want of memory is told by neither
+abbrev pub Tells : List Bytes → LoadError → ℕ → Bytes → Type 0
+Tells names Memory status text = ⊥
+Tells names (Read file) status text =
+    (status ≡ 5) × (text ≡ name_line (codes "cannot read ") (name_at names file))
+Tells names (TooLarge file) status text =
+    (status ≡ 7) × (text ≡ name_line (codes "too large ") (name_at names file))
+Tells names (Schema schema_errors.Memory) status text = ⊥
+Tells names (Schema (schema_errors.Broken r t i)) status text =
+    (status ≡ 2) × (text ≡ broken_text (record { rule = r; table = t; index = i }))
+Tells names (Script client e) status text = (status ≡ 3) × (text ≡ script_text client e)

@@ -1,0 +1,115 @@
+//! The command line, read by `clap`.
+ghost use Rattle.std.specs.Prelude.{◌≡◌, IfOk, map, option_map, true};
+ghost use Rattle.std.specs.List.{list_all};
+ghost use Rattle.clap.specs.Words.{app_of, found_of, rows_of};
+ghost use Rattle.memdb.specs.Words.{may_name_a_file, run_of};
+ghost use Rattle.memdb.specs.inner.CommandLine.{AreRead, files_in, files_of_matches, program};
+ghost use Rattle.memdb.specs.inner.FilesOf.{files_of};
+
+use clap::error::ErrorKind;
+use clap::{Arg, ArgMatches, Command};
+use mdb_datum::Text;
+use run_io::Texts;
+use std::alloc::{AllocError, Global};
+
+/// The files that `run SCHEMA CLIENT..` names.
+#[derive(Drop)]
+pub struct RunFiles {
+    pub schema: Text,
+    pub clients: Texts,
+}
+
+/// The files that words name, where they are `run SCHEMA CLIENT..`.
+pub fn read_command(alloc: Global, words: &[Text]) -> Result<Option<RunFiles>, AllocError>
+    requires plain { list_all may_name_a_file words.now ≡ true }
+    ensures { IfOk result (λ r. option_map files_of r ≡ run_of words.now) }
+{
+    let texts = texts(alloc, words)?;
+    let command = program(alloc)?;
+    match parsed(command, &texts)? {
+        Some(matches) => read_files(alloc, &matches),
+        None => Ok(None),
+    }
+}
+
+/// The commands of the program. Neither help nor a version is asked for by a word: all that isn't a
+/// command is answered by the usage.
+fn program<'a>(alloc: Global) -> Result<Command<'a>, AllocError>
+    ensures { IfOk result (λ c. app_of c ≡ program) }
+{
+    let schema = Arg::new(alloc, "schema").required(true);
+    let clients = Arg::new(alloc, "clients").required(true).num_args(1..=64);
+    let run = Command::new(alloc, "run").arg(schema)?.arg(clients)?;
+    let bare = Command::new(alloc, "memdb")
+        .no_binary_name(true)
+        .disable_help_flag(true)
+        .disable_help_subcommand(true)
+        .subcommand_required(true);
+    Ok(bare.subcommand(run)?)
+}
+
+/// What `clap` makes of the words.
+fn parsed<'a>(
+    command: Command<'a>,
+    words: &'a [&'a str],
+) -> Result<Option<ArgMatches<'a>>, AllocError>
+    requires program { app_of command ≡ program }
+    requires plain { list_all may_name_a_file (map (λ w. w.now) words.now) ≡ true }
+    ensures { IfOk result (AreRead (map (λ w. w.now) words.entry.now)) }
+{
+    match command.try_get_matches_from(words) {
+        Ok(matches) => Ok(Some(matches)),
+        Err(error) => match error.kind() {
+            ErrorKind::OutOfMemory => Err(AllocError),
+            _ => Ok(None),
+        },
+    }
+}
+
+/// The files that `clap` found.
+fn read_files(alloc: Global, matches: &ArgMatches<'_>) -> Result<Option<RunFiles>, AllocError>
+    ensures { IfOk result (λ r. option_map files_of r ≡ files_of_matches matches.now) }
+{
+    match matches.subcommand() {
+        Some((_, found)) => Ok(read_run(alloc, found)?),
+        None => Ok(None),
+    }
+}
+
+/// The files behind `run`.
+fn read_run(alloc: Global, found: &ArgMatches<'_>) -> Result<Option<RunFiles>, AllocError>
+    ensures { IfOk result (λ r. option_map files_of r ≡ files_in (rows_of (found_of found.now))) }
+{
+    let Some(schema) = found.get_str("schema") else {
+        return Ok(None);
+    };
+    let Some(clients) = found.get_strs("clients") else {
+        return Ok(None);
+    };
+    Ok(Some(RunFiles {
+        schema: Text::of(alloc, schema)?,
+        clients: copies(alloc, clients)?,
+    }))
+}
+
+/// Copies of words.
+fn copies(alloc: Global, words: &[&str]) -> Result<Texts, AllocError>
+    ensures { IfOk result (λ r. r ≡ map (λ w. w.now) words.now) }
+{
+    let mut copies = Texts::new(alloc);
+    for word in words {
+        copies.push(Text::of(alloc, word)?)?;
+    }
+    Ok(copies)
+}
+
+/// The words as `clap` takes them.
+fn texts<'a>(alloc: Global, words: &'a [Text]) -> Result<Vec<&'a str>, AllocError>
+    ensures { IfOk result (λ r. map (λ w. w.now) r.items ≡ words.entry.now) }
+{
+    let mut texts = Vec::new(alloc);
+    for word in words {
+        texts.push(word.as_str())?;
+    }
+    Ok(texts)
+}

@@ -1,0 +1,5 @@
+pub mod Causes
+pub mod Inputs
+pub mod Loads
+pub mod Observed
+pub mod inner

@@ -1,0 +1,66 @@
+//! The files of a schema and of clients, read one after the other.
+ghost use Rattle.std.specs.Prelude.{◌≡◌, ◌<◌, ◌∷◌, ◌^◌, [], length, vec_len, IfOk};
+ghost use Rattle.run_io.specs.Observed.{observed, Stays};
+ghost use Rattle.run_io.specs.inner.ContentsOf.{contents_of};
+ghost use Rattle.run_io.specs.inner.Reading.{Reads, contents_in};
+
+use crate::contents::Contents;
+use crate::file::{new_piece, read_file};
+use crate::load_error::LoadError;
+use mdb_datum::Text;
+use mdb_ports::Files;
+use std::alloc::Global;
+
+/// Reads the files of these names whole, the schema's first. It takes memory for their bytes, and
+/// for one piece.
+///
+/// # Errors
+/// Those of the first file that isn't read whole; `Memory` may come at any file.
+pub fn read_contents<F: Files>(
+    alloc: Global,
+    files: &mut F,
+    schema: &Text,
+    clients: &[Text],
+) -> Result<Contents, LoadError>
+    requires few { length clients.now < 2 ^ 32 }
+    ensures stays { let seen = observed (F.told files.old) (F.reliable files.old)
+        (F.faults files.old) (F.faults files.new) in
+        Stays seen (F.told files.new) (F.reliable files.new) }
+    ensures reads { let seen = observed (F.told files.old) (F.reliable files.old)
+        (F.faults files.old) (F.faults files.new) in
+        Reads contents_of seen 0 (schema.now ∷ clients.now) result }
+{
+    let mut piece = new_piece(alloc)?;
+    let schema = read_file(alloc, files, 0, schema, &mut piece)?;
+    let clients = read_clients(alloc, files, clients, &mut piece)?;
+    Ok(Contents { schema, clients })
+}
+
+/// Reads the files of clients whole, one after the other, by pieces that fit a buffer. The first
+/// has the number 1.
+///
+/// # Errors
+/// As [`read_contents`].
+fn read_clients<F: Files>(
+    alloc: Global,
+    files: &mut F,
+    names: &[Text],
+    piece: &mut [u8],
+) -> Result<Vec<Vec<u8>>, LoadError>
+    requires piece { 0 < length piece.old }
+    requires few { length names.now < 2 ^ 32 }
+    ensures stays { let seen = observed (F.told files.old) (F.reliable files.old)
+        (F.faults files.old) (F.faults files.new) in
+        Stays seen (F.told files.new) (F.reliable files.new) }
+    ensures reads { let seen = observed (F.told files.old) (F.reliable files.old)
+        (F.faults files.old) (F.faults files.new) in
+        Reads contents_in seen 1 names.now result }
+    ensures as_many { IfOk result (λ contents. vec_len contents ≡ length names.now) }
+{
+    let mut contents = Vec::new(alloc);
+    for (at, name) in names.iter().enumerate() {
+        let file = at as u32 + 1;
+        contents.push(read_file(alloc, files, file, name, piece)?)?;
+    }
+    Ok(contents)
+}

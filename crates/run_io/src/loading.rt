@@ -1,0 +1,49 @@
+//! A schema and scripts, from their files.
+ghost use Rattle.std.specs.Prelude.{◌≡◌, ◌⊎◌, ◌∷◌, Result, Err};
+ghost use Rattle.run_io.specs.Causes.{HasNoExcuse, CallsFor};
+ghost use Rattle.run_io.specs.Loads.{Loads};
+ghost use Rattle.run_io.specs.Observed.{observed, Stays};
+ghost use Rattle.run_io.specs.declared.inputs.Inputs.{Inputs};
+ghost use Rattle.run_io.specs.declared.load_error.LoadError.{LoadError};
+ghost use Rattle.run_io.specs.declared.load_error.LoadError.TheVariants.{Memory};
+
+use crate::files::read_contents;
+use crate::inputs::{Inputs, read_inputs};
+use crate::load_error::LoadError;
+use crate::texts::Texts;
+use mdb_datum::Text;
+use mdb_ports::Files;
+use std::alloc::Global;
+
+/// Reads the file of a schema and then those of clients in order, each whole, and only then reads
+/// the bytes as a schema and scripts. It takes memory for the bytes, for one piece of a file, and
+/// for what they read as.
+///
+/// # Errors
+/// `Read` and `TooLarge` at the first file that isn't read whole; where all are, `Schema`, and then
+/// `Script` at the first client whose script breaks a rule. `Memory` may come in place of each.
+pub fn load<F: Files>(
+    alloc: Global,
+    files: &mut F,
+    schema: &Text,
+    clients: &Texts,
+) -> Result<Inputs, LoadError>
+    ensures stays { let seen = observed (F.told files.old) (F.reliable files.old)
+        (F.faults files.old) (F.faults files.new) in
+        Stays seen (F.told files.new) (F.reliable files.new) }
+    ensures loads { let seen = observed (F.told files.old) (F.reliable files.old)
+        (F.faults files.old) (F.faults files.new) in
+        Loads seen (schema.now ∷ clients.now) result }
+    // Where its cause is there, and no fault excuses it, an answer comes, but for want of memory.
+    ensures comes { let seen = observed (F.told files.old) (F.reliable files.old)
+        (F.faults files.old) (F.faults files.new) in
+        HasNoExcuse seen → (answer : Result Inputs LoadError)
+        → CallsFor (F.told files.old) (schema.now ∷ clients.now) answer
+        → (result ≡ answer) ⊎ (result ≡ Err Memory) }
+{
+    let contents = read_contents(alloc, files, schema, clients.as_slice())?;
+    read_inputs(alloc, &contents)
+}
+
+#[cfg(test)]
+mod tests;
