@@ -1,5 +1,5 @@
 -- What a question is answered from the trees of a table.
-use Rattle.std.proofs.Common.{◌≡◌, ◌∙◌, ◌<◌, ℕ, List, length, slice_get, Some, option_map, Result, Ok, Err, get_or, refl, sym, ap, subst, arith}
+use Rattle.std.proofs.Common.{◌≡◌, ◌∙◌, ◌<◌, ℕ, List, length, slice_get, Some, option_map, Result, Ok, Err, MatchResult, get_or, refl, sym, ap, subst, arith}
 use Rattle.std.proofs.lemmas.List.{length-map}
 use Rattle.std.proofs.lemmas.Option.{slice_get-map, slice_get_read, slice_get_within}
 use Rattle.mdb_datum.specs.Row.{Fields, Pair}
@@ -12,6 +12,7 @@ use Rattle.mdb_schema.specs.Tests.{◌>>=◌}
 use Rattle.mdb_schema.specs.declared.answer.Answer.{Answer}
 use Rattle.mdb_schema.specs.declared.ask.Ask.{Ask}
 use Rattle.mdb_schema.specs.declared.ask_error.AskError.{AskError}
+use Rattle.mdb_schema.specs.declared.ask_error.AskError.TheVariants.{Memory}
 use Rattle.radix_node.specs.Nodes.{Plain, pairs_of}
 use Rattle.table_index.specs.Table.{TableRows}
 use Rattle.table_index.specs.inner.Held.{AreTrees, rows_held}
@@ -51,6 +52,10 @@ module _ (t : TableSchema) (rows : List Fields) (q : Query) where
   found_lookup (Ok at) l a same is = is ∙ ap (λ (x : Lookup). answer q.ask (is_exact x.index q) x.key (entries t x.index rows)) same
   found_lookup (Err why) l a told is = cc
 
+  memory_lookup : (told : Asked Lookup) (l : Lookup) (e : AskError) → AnswersLookup told (Ok l) → e ≡ Memory → AnswersAsk (of_lookup told) (Err e)
+  memory_lookup (Ok at) l e same memory = memory
+  memory_lookup (Err why) l e told memory = cc
+
 -- ---- the same, of what a table's parts say
 
 module _ (t : TableSchema) (trees : List Plain) (now : TableRows) (is : ◌≡◌ {A = TableRows} (record { schema = t; rows = rows_held t trees }) now) (word : Ask) (q : Query) (same : word ≡ q.ask) where
@@ -63,5 +68,10 @@ module _ (t : TableSchema) (trees : List Plain) (now : TableRows) (is : ◌≡�
   pub refused : (e : AskError) → AnswersLookup (lookup_of t (record q { ask = word })) (Err e) → AnswersAsk (ask_rows now.schema now.rows q) (Err e)
   refused e told = answers_now (Err e) (refused_lookup t (rows_held t trees) q (lookup_of t q) e (told_at (Err e) told))
 
-  pub found : (l : Lookup) (a : Answer) → AnswersLookup (lookup_of t (record q { ask = word })) (Ok l) → a ≡ answer q.ask (is_exact l.index q) l.key (entries t l.index (rows_held t trees)) → AnswersAsk (ask_rows now.schema now.rows q) (Ok a)
+  found : (l : Lookup) (a : Answer) → AnswersLookup (lookup_of t (record q { ask = word })) (Ok l) → a ≡ answer q.ask (is_exact l.index q) l.key (entries t l.index (rows_held t trees)) → AnswersAsk (ask_rows now.schema now.rows q) (Ok a)
   found l a told made = answers_now (Ok a) (found_lookup t (rows_held t trees) q (lookup_of t q) l a (told_at (Ok l) told) made)
+
+  pub answered : (l : Lookup) (result : Result Answer AskError) → AnswersLookup (lookup_of t (record q { ask = word })) (Ok l)
+      → MatchResult result (λ a. a ≡ answer q.ask (is_exact l.index q) l.key (entries t l.index (rows_held t trees))) (λ e. e ≡ Memory) → AnswersAsk (ask_rows now.schema now.rows q) result
+  answered l (Ok a) told made = found l a told made
+  answered l (Err e) told memory = answers_now (Err e) (memory_lookup t (rows_held t trees) q (lookup_of t q) l e (told_at (Ok l) told) memory)

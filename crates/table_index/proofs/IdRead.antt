@@ -1,5 +1,5 @@
 -- The reading of a row's `id` key.
-use Rattle.std.proofs.Common.{◌≡◌, ◌∙◌, ◌<◌, ◌+◌, ◌||◌, ℕ, zero, suc, List, [], ◌∷◌, Bool, true, false, codes, length, slice_get, Option, Some, None, option_map, option_and_then, Ok, Err, refl, ap, inl, inr, arith}
+use Rattle.std.proofs.Common.{◌≡◌, ◌∙◌, ◌<◌, ◌+◌, ◌||◌, ℕ, zero, suc, List, [], ◌∷◌, Bool, true, false, codes, length, slice_get, Option, Some, None, option_map, option_and_then, Result, Ok, Err, refl, sym, ap, subst, inl, inr, arith}
 use Rattle.std.specs.Prelude.{if◌then◌else◌, map}
 use Rattle.std.specs.List.{enumerate_from}
 use Rattle.std.specs.Str.{bytes_eq}
@@ -14,7 +14,7 @@ use Rattle.mdb_schema.specs.Write.{Tested, no_id, missing, keys_at, has_key, id_
 use Rattle.mdb_schema.proofs.IdKeys.{index_named-place}
 use Rattle.mdb_schema.proofs.Passed.{needed_on, goes_on}
 use Rattle.mdb_schema.specs.declared.write_error.WriteError.{WriteError}
-use Rattle.table_index.specs.inner.Keys.{Tells, full_keys_at}
+use Rattle.table_index.specs.inner.Keys.{Answers, Tells, full_keys_at}
 
 pub place_within : (name : Bytes) (is : List IndexSchema) (place : ℕ) → index_place name is ≡ Some place → place < length is
 place_within name [] place e = cc
@@ -54,13 +54,17 @@ module _ (t : TableSchema) (row : Fields) (place : ℕ) (placed : index_place (c
     id_read : (found : List Bytes) → keys_at place (keys i.indexer row) ≡ Ok found → id_of t row ≡ last found
     id_read found e = read_by (Some i) there ∙ ap (λ (r : Tested (List Bytes)). r >>= last) e
 
-    pub id_missing : (found : List Bytes) → keys_at place (keys i.indexer row) ≡ Ok found → None ≡ slice_get found 0 → id_of t row ≡ Err no_id
-    id_missing [] e none = id_read [] e
-    id_missing (k ∷ ks) e none = cc
+    -- by the first of its keys
+    pub id_by_first : (found : List Bytes) (result : Result Bytes WriteError) → keys_at place (keys i.indexer row) ≡ Ok found → Answers (needed no_id (first_item found)) result → Answers (id_of t row) result
+    id_by_first found result e told = subst (λ (r : Tested Bytes). Answers r result) (sym (id_read found e)) told
 
-    pub id_found : (found : List Bytes) (id : Bytes) → keys_at place (keys i.indexer row) ≡ Ok found → Some id ≡ slice_get found 0 → id_of t row ≡ Ok id
-    id_found [] id e first = cc
-    id_found (k ∷ ks) id e first = let same : k ≡ id = cc in id_read (k ∷ ks) e ∙ ap Ok same
+pub first_missing : (found : List Bytes) → None ≡ slice_get found 0 → needed no_id (first_item found) ≡ Err no_id
+first_missing [] none = refl
+first_missing (k ∷ ks) none = cc
+
+pub first_there : (found : List Bytes) (id : Bytes) → Some id ≡ slice_get found 0 → needed no_id (first_item found) ≡ Ok id
+first_there [] id first = cc
+first_there (k ∷ ks) id first = let same : k ≡ id = cc in ap Ok same
 
 no_key : (found : List Bytes) → length found ≡ 0 → has_key found ≡ false
 no_key [] e = refl

@@ -1,5 +1,5 @@
 -- A listed row: whether it is still there, and the keys that are taken out with it.
-use Rattle.std.proofs.Common.{◌≡◌, ◌∙◌, ◌||◌, ℕ, List, map, length, slice_get, codes, Bool, true, false, Option, Some, None, is_some, Ok, refl, sym, ap, subst, inl, inr}
+use Rattle.std.proofs.Common.{◌≡◌, ◌∙◌, ◌||◌, ◌++◌, ◌∷◌, [], ℕ, List, map, length, slice_get, codes, Bool, true, false, Option, Some, None, is_some, Ok, refl, sym, ap, subst, inl, inr}
 use Rattle.std.specs.Borrow.{Bor}
 use Rattle.std.specs.Prelude.{nat_eq, option_copied}
 use Rattle.std.proofs.lemmas.List.{length-map}
@@ -17,7 +17,7 @@ use Rattle.radix_txn.specs.Txn.{Txn, txn_pairs}
 use Rattle.table_index.specs.inner.Held.{AreSound}
 use Rattle.table_index.specs.inner.Keys.{Tells, full_keys_at}
 use Rattle.table_index.specs.inner.TreeEdits.{is_memory, without_each}
-use Rattle.table_index.specs.inner.Wipes.{holds, holds_at, is_there, IsStored, IsTaking}
+use Rattle.table_index.specs.inner.Wipes.{holds, holds_at, is_there, IsMoved, IsOut, IsStored, IsTaking}
 use Rattle.table_index.proofs.FullKeys.{found_keys, keys_of_taken}
 
 -- ---- what the tree of the index `id` tells
@@ -49,21 +49,36 @@ module _ (t : TableSchema) (row : Fields) (id : Bytes) (known : id_of t row ≡ 
   pub listed_count : (kss : List (List Bytes)) → each (full_keys_at id row) (indexes_of t) ≡ Ok kss → length kss ≡ length t.indexes
   listed_count kss e = ap length (listed_keys kss e) ∙ length-map t.indexes (λ (i : IndexSchema). full_keys t i row)
 
-  -- it is out already
-  pub taking_none : (cut : ℕ) (before : List Txn) → false ≡ is_there t cut id (map txn_pairs before) → AreSound before → IsTaking t cut row false before before
-  taking_none cut before out sound = record {
-    told = out ∙ ap (λ (k : Bytes). is_there t cut k (map txn_pairs before)) (sym (id_of-key t row id known));
-    pairs = refl;
+  pub keys_out : (before after : List Txn) (kss : List (List Bytes)) → each (full_keys_at id row) (indexes_of t) ≡ Ok kss → map txn_pairs after ≡ without_each kss (map txn_pairs before) → AreSound after
+      → IsOut t row before after
+  keys_out before after kss e edits sound = record {
+    pairs = edits ∙ ap (λ (x : List (List Bytes)). without_each x (map txn_pairs before)) (listed_keys kss e);
     sound = sound;
   }
 
   -- it is taken out
-  pub taking_done : (cut : ℕ) (before after : List Txn) (kss : List (List Bytes)) → true ≡ is_there t cut id (map txn_pairs before) → each (full_keys_at id row) (indexes_of t) ≡ Ok kss
-      → map txn_pairs after ≡ without_each kss (map txn_pairs before) → AreSound after → IsTaking t cut row true before after
-  taking_done cut before after kss there e edits sound = record {
+  pub taking_done : (cut : ℕ) (before after : List Txn) → true ≡ is_there t cut id (map txn_pairs before) → IsOut t row before after → IsTaking t cut row true before after
+  taking_done cut before after there out = record {
     told = there ∙ ap (λ (k : Bytes). is_there t cut k (map txn_pairs before)) (sym (id_of-key t row id known));
-    pairs = edits ∙ ap (λ (x : List (List Bytes)). without_each x (map txn_pairs before)) (listed_keys kss e);
-    sound = sound;
+    pairs = out.pairs;
+    sound = out.sound;
+  }
+
+-- ---- the rows that are out
+
+module _ (t : TableSchema) (cut : ℕ) (row : Fields) (before after : List Txn) (gone : List Fields) (taken : Bool) (did : IsTaking t cut row taken before after) where
+  pub not_moved : taken ≡ false → IsMoved t cut row before after gone gone
+  not_moved e = record {
+    taken = false;
+    taking = subst (λ (b : Bool). IsTaking t cut row b before after) e did;
+    gone = refl;
+  }
+
+  pub moved : (new : List Fields) → taken ≡ true → new ≡ gone ++ row ∷ [] → IsMoved t cut row before after gone new
+  moved new e is = record {
+    taken = true;
+    taking = subst (λ (b : Bool). IsTaking t cut row b before after) e did;
+    gone = is;
   }
 
 -- ---- a stored row's keys aren't refused

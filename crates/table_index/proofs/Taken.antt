@@ -1,5 +1,5 @@
 -- What the removal of a row is, of its steps.
-use Rattle.std.proofs.Common.{◌≡◌, ◌∙◌, List, map, Option, Some, Ok, ap}
+use Rattle.std.proofs.Common.{◌≡◌, ◌∙◌, List, map, Option, Some, Result, Ok, Err, MatchResult, sym, ap, subst, inl}
 use Rattle.mdb_datum.specs.Row.{Fields}
 use Rattle.mdb_encode.specs.Bytes.{Bytes}
 use Rattle.mdb_schema.specs.LawfulSchema.{IsLawfulTable}
@@ -7,12 +7,14 @@ use Rattle.mdb_schema.specs.Schema.{TableSchema}
 use Rattle.mdb_schema.specs.State.{row_at, without_row}
 use Rattle.mdb_schema.specs.Tests.{◌>>=◌, needed, each}
 use Rattle.mdb_schema.specs.Write.{Tested, Changed, not_found, id_of, indexes_of, remove_row}
+use Rattle.mdb_schema.specs.declared.write_error.WriteError.{WriteError}
+use Rattle.mdb_schema.specs.declared.write_error.WriteError.TheVariants.{Memory}
 use Rattle.mdb_schema.proofs.LawfulRows.{remove_keeps}
 use Rattle.mdb_schema.proofs.Passed.{goes_on}
 use Rattle.radix_txn.specs.Txn.{Txn, txn_pairs}
 use Rattle.table_index.specs.inner.Held.{AreSound, AreTrees, nodes_of, rows_held}
 use Rattle.table_index.specs.inner.Keys.{full_keys_at}
-use Rattle.table_index.specs.inner.TreeEdits.{without_each, IsWritten}
+use Rattle.table_index.specs.inner.TreeEdits.{without_each, IsRefused, IsWritten}
 use Rattle.table_index.proofs.Removals.{Hold-removed}
 use Rattle.table_index.proofs.StoredRows.{keys_are}
 use Rattle.table_index.proofs.Written.{written}
@@ -38,3 +40,10 @@ module _ (t : TableSchema) (txns : List Txn) (table : IsLawfulTable t) (trees : 
       let held = Hold-removed t row old rows left txns after trees.lawful trees.held gone
       (edits ∙ ap (λ (x : List (List Bytes)). without_each x (map txn_pairs txns)) (keys_are t txns table trees id old found kss e)) in
       written t (remove_row t row rows) left (Some old) after table gone (remove_keeps t row rows (left, Some old) trees.lawful gone) held sound
+
+  -- the same, with want of memory
+  pub removal_told : (id : Bytes) (old : Fields) → id_of t row ≡ Ok id → row_at t id rows ≡ Some old → (kss : List (List Bytes)) → each (full_keys_at id old) (indexes_of t) ≡ Ok kss
+      → (after : List Txn) (result : Result Fields WriteError) → MatchResult result (λ x. (x ≡ old) × (map txn_pairs after ≡ without_each kss (map txn_pairs txns)) × AreSound after) (λ e. e ≡ Memory)
+      → MatchResult result (λ x. IsWritten t (remove_row t row rows) (Some x) after) (λ e. IsRefused (remove_row t row rows) e txns after)
+  removal_told id old known found kss e after (Ok x) h = subst (λ (y : Fields). IsWritten t (remove_row t row rows) (Some y) after) (sym h.0) (removal id old known found kss after e h.1 h.2)
+  removal_told id old known found kss e after (Err why) memory = inl memory

@@ -1,31 +1,53 @@
 -- The answer to a wipe, of where its question looks and of what the trees say.
-use Rattle.std.proofs.Common.{◌≡◌, ◌∙◌, ℕ, List, Bool, true, false, Option, Some, slice_get, Result, Ok, Err, MatchResult, refl, sym, ap, subst, inl, inr}
+use Rattle.std.specs.Prelude.{⊤}
+use Rattle.std.proofs.Common.{◌≡◌, ◌∙◌, ℕ, List, Bool, false, Option, Some, length, slice_get, Result, Ok, Err, MatchResult, refl, sym, ap, subst, inl, inr}
 use Rattle.mdb_datum.specs.Pairs.{rows_of, with_prefix}
 use Rattle.mdb_datum.specs.Row.{Fields}
 use Rattle.mdb_encode.specs.ArgRefusal.{arg_count, arg_kind, arg_out_of_range, arg_bad_uuid, arg_too_long, no_prefix_form}
 use Rattle.mdb_encode.specs.Bytes.{Bytes}
-use Rattle.mdb_schema.specs.Answer.{Asked, AskRefusal, Lookup, lookup_of, is_prefix_name}
+use Rattle.mdb_schema.specs.Answer.{Asked, AskRefusal, Lookup, lookup_of}
 use Rattle.mdb_schema.specs.Answer.{unknown_table, no_prefix_name, unknown_index, not_unique, bad_argument}
 use Rattle.mdb_schema.specs.Entries.{entries}
 use Rattle.mdb_schema.specs.Query.{Query}
 use Rattle.mdb_schema.specs.Refusals.{ask_error}
 use Rattle.mdb_schema.specs.Schema.{IndexSchema, TableSchema}
-use Rattle.mdb_schema.specs.Tests.{◌>>=◌, passed}
-use Rattle.mdb_schema.specs.Wipe.{once, wiped_rows, wiped_rows_by_prefix}
+use Rattle.mdb_schema.specs.Tests.{◌>>=◌}
+use Rattle.mdb_schema.specs.Wipe.{once, wiped_rows}
 use Rattle.mdb_schema.specs.declared.ask.Ask.TheVariants.{Get}
 use Rattle.mdb_schema.specs.declared.ask_error.AskError.{AskError}
 use Rattle.mdb_schema.proofs.Passed.{goes_on}
 use Rattle.radix_txn.specs.Txn.{Txn}
-use Rattle.table_index.specs.Table.{AnswersWipe}
+use Rattle.table_index.specs.Table.{TableChange, AnswersCheck, AnswersTake, AnswersWipe}
 use Rattle.table_index.specs.declared.wipe_error.WipeError.{WipeError}
 use Rattle.table_index.specs.declared.wipe_error.WipeError.TheVariants.{Memory, Refused}
 use Rattle.table_index.specs.inner.Lookups.{AnswersLookup}
-use Rattle.table_index.specs.inner.Wipes.{listed_at, IsWiped, IsRefusedWipe, wipe_error, wants_memory}
+use Rattle.table_index.specs.inner.Wipes.{listed_at, AnswersTarget, IsWiped, IsRefusedWipe, wipe_error, wants_memory}
 use Rattle.table_index.proofs.Answered.{change_of}
 
 -- ---- the question
 
-looked : (told : Asked Lookup) (at : Lookup) → AnswersLookup told (Ok at) → told ≡ Ok at
+told_error : (why : AskRefusal) → wipe_error (ask_error why) ≡ Refused (ask_error why)
+told_error unknown_table = refl
+told_error no_prefix_name = refl
+told_error unknown_index = refl
+told_error not_unique = refl
+told_error (bad_argument arg_count) = refl
+told_error (bad_argument arg_kind) = refl
+told_error (bad_argument arg_out_of_range) = refl
+told_error (bad_argument arg_bad_uuid) = refl
+told_error (bad_argument arg_too_long) = refl
+told_error (bad_argument no_prefix_form) = refl
+
+-- where a wipe looks is where its question does
+pub target_found : (told : Asked Lookup) (at : Lookup) → AnswersLookup told (Ok at) → AnswersTarget told (Ok at)
+target_found (Ok x) at h = h
+target_found (Err why) at h = cc
+
+pub target_refused : (told : Asked Lookup) (e : AskError) → AnswersLookup told (Err e) → AnswersTarget told (Err (wipe_error e))
+target_refused (Ok at) e h = ap wipe_error h
+target_refused (Err why) e h = let same : e ≡ ask_error why = cc in ap Err (ap wipe_error same ∙ told_error why)
+
+looked : (told : Asked Lookup) (at : Lookup) → AnswersTarget told (Ok at) → told ≡ Ok at
 looked (Ok x) at e = ap Ok (sym e)
 looked (Err why) at e = cc
 
@@ -37,7 +59,7 @@ module _ (t : TableSchema) (rows : List Fields) (q : Query) where
   asked = lookup_of t (record q { ask = Get })
 
   -- the rows of a wipe that isn't refused
-  pub wiped-listed : (at : Lookup) (place : ℕ) (key : Bytes) → AnswersLookup (lookup_of t (record q { ask = Get })) (Ok at) → slice_get t.indexes at.place ≡ Some at.index → place ≡ at.place → key ≡ at.key
+  pub wiped-listed : (at : Lookup) (place : ℕ) (key : Bytes) → AnswersTarget (lookup_of t (record q { ask = Get })) (Ok at) → slice_get t.indexes at.place ≡ Some at.index → place ≡ at.place → key ≡ at.key
       → wiped_rows t rows q ≡ Ok (once t (listed_at t rows (slice_get t.indexes place) key))
   wiped-listed at place key told there is_place is_key =
       let found : slice_get t.indexes place ≡ Some at.index = ap (slice_get t.indexes) is_place ∙ there in
@@ -45,57 +67,64 @@ module _ (t : TableSchema) (rows : List Fields) (q : Query) where
       ∙ ap (λ (k : Bytes). let r : Asked (List Fields) = Ok (once t (rows_of (with_prefix k (entries t at.index rows)))) in r) (sym is_key)
       ∙ ap (λ (o : Option IndexSchema). let r : Asked (List Fields) = Ok (once t (listed_at t rows o key)) in r) (sym found)
 
-  told_error : (why : AskRefusal) → wipe_error (ask_error why) ≡ Refused (ask_error why)
-  told_error unknown_table = refl
-  told_error no_prefix_name = refl
-  told_error unknown_index = refl
-  told_error not_unique = refl
-  told_error (bad_argument arg_count) = refl
-  told_error (bad_argument arg_kind) = refl
-  told_error (bad_argument arg_out_of_range) = refl
-  told_error (bad_argument arg_bad_uuid) = refl
-  told_error (bad_argument arg_too_long) = refl
-  told_error (bad_argument no_prefix_form) = refl
+  refused_by : (told : Asked Lookup) (e : WipeError) (txns : List Txn) → AnswersTarget told (Err e) → IsRefusedWipe (told >>= listing t rows) e txns txns
+  refused_by (Ok at) e txns memory = inl (once t (rows_of (with_prefix at.key (entries t at.index rows))), refl, memory)
+  refused_by (Err why) e txns h = let same : e ≡ Refused (ask_error why) = cc in inr (why, refl, same, refl)
 
-  refused_by : (told : Asked Lookup) (e : AskError) (txns : List Txn) → AnswersLookup told (Err e) → IsRefusedWipe (told >>= listing t rows) (wipe_error e) txns txns
-  refused_by (Ok at) e txns h = inl (once t (rows_of (with_prefix at.key (entries t at.index rows))), refl, ap wipe_error h)
-  refused_by (Err why) e txns h = let same : e ≡ ask_error why = cc in inr (why, refl, ap wipe_error same ∙ told_error why, refl)
-
-  pub question_refused : (e : AskError) (txns : List Txn) → AnswersLookup (lookup_of t (record q { ask = Get })) (Err e) → IsRefusedWipe (wiped_rows t rows q) (wipe_error e) txns txns
+  pub question_refused : (e : WipeError) (txns : List Txn) → AnswersTarget (lookup_of t (record q { ask = Get })) (Err e) → IsRefusedWipe (wiped_rows t rows q) e txns txns
   question_refused e txns h = refused_by asked e txns h
 
-  -- a wipe by prefix is a wipe, or the name is refused
-  pub by_prefix : is_prefix_name q.index ≡ true → wiped_rows_by_prefix t rows q ≡ wiped_rows t rows q
-  by_prefix e = ap (λ (b : Bool). passed no_prefix_name b >>= (λ named. wiped_rows t rows q)) e
+  -- the rules are those of where it looks
+  check_passed_by : (told : Asked Lookup) (at : Lookup) → AnswersTarget told (Ok at) → AnswersCheck {A = ⊤} (told >>= listing t rows) (Ok tt)
+  check_passed_by (Ok x) at h = tt
+  check_passed_by (Err why) at h = cc
 
-  pub no_prefix : is_prefix_name q.index ≡ false → wiped_rows_by_prefix t rows q ≡ Err no_prefix_name
-  no_prefix e = ap (λ (b : Bool). passed no_prefix_name b >>= (λ named. wiped_rows t rows q)) e
+  check_refused_by : (told : Asked Lookup) (e : WipeError) → AnswersTarget told (Err e) → AnswersCheck {A = ⊤} (told >>= listing t rows) (Err e)
+  check_refused_by (Ok x) e memory = memory
+  check_refused_by (Err why) e h = let same : e ≡ Refused (ask_error why) = cc in ap Err same
+
+  pub check_passed : (at : Lookup) → AnswersTarget (lookup_of t (record q { ask = Get })) (Ok at) → AnswersCheck {A = ⊤} (wiped_rows t rows q) (Ok tt)
+  check_passed at h = check_passed_by asked at h
+
+  pub check_refused : (e : WipeError) → AnswersTarget (lookup_of t (record q { ask = Get })) (Err e) → AnswersCheck {A = ⊤} (wiped_rows t rows q) (Err e)
+  check_refused e h = check_refused_by asked e h
 
 -- what the trees say, where the question isn't refused
-pub wiped_trees : (t : TableSchema) (told : Asked (List Fields)) (gone : List Fields) (result : Result ℕ WipeError) (before after : List Txn) → told ≡ Ok gone
-    → MatchResult result (λ n. IsWiped t gone n before after) (λ e. e ≡ Memory)
-    → MatchResult result (λ n. (rows : List Fields) × (told ≡ Ok rows) × IsWiped t rows n before after) (λ e. IsRefusedWipe told e before after)
-wiped_trees t told gone (Ok n) before after is w = (gone, is, w)
+pub wiped_trees : (t : TableSchema) (told : Asked (List Fields)) (gone : List Fields) (result : Result (List Fields) WipeError) (before after : List Txn) → told ≡ Ok gone
+    → MatchResult result (λ taken. IsWiped t gone taken before after) (λ e. e ≡ Memory)
+    → MatchResult result (λ taken. (rows : List Fields) × (told ≡ Ok rows) × IsWiped t rows taken before after) (λ e. IsRefusedWipe told e before after)
+wiped_trees t told gone (Ok taken) before after is w = (gone, is, w)
 wiped_trees t told gone (Err e) before after is memory = inl (gone, is, memory)
 
 -- ---- the change
 
-pub wiped_answer : (t : TableSchema) (told : Asked (List Fields)) (gone : List Fields) (count : ℕ) (before after : List Txn) (spoiled : Bool) → told ≡ Ok gone → IsWiped t gone count before after
-    → AnswersWipe told (Ok count) (change_of t before spoiled) (change_of t after spoiled)
-wiped_answer t told gone count before after spoiled is w =
-    subst (λ (a : Asked (List Fields)). AnswersWipe a (Ok count) (change_of t before spoiled) (change_of t after spoiled)) (sym is)
-    (w.count, ap (λ (rows : List Fields). record { schema = t; rows = rows; spoiled = spoiled }) w.rows)
+pub wiped_answer : (t : TableSchema) (told : Asked (List Fields)) (gone taken : List Fields) (before after : List Txn) (spoiled : Bool) → told ≡ Ok gone → IsWiped t gone taken before after
+    → AnswersTake told (Ok taken) (change_of t before spoiled) (change_of t after spoiled)
+wiped_answer t told gone taken before after spoiled is w =
+    subst (λ (a : Asked (List Fields)). AnswersTake a (Ok taken) (change_of t before spoiled) (change_of t after spoiled)) (sym is)
+    (w.each, ap (λ (rows : List Fields). record { schema = t; rows = rows; spoiled = spoiled }) w.rows)
 
 pub refused_answer : (t : TableSchema) (told : Asked (List Fields)) (e : WipeError) (before after : List Txn) (old new : Bool) → old ≡ false → new ≡ wants_memory e → IsRefusedWipe told e before after
-    → AnswersWipe told (Err e) (change_of t before old) (change_of t after new)
+    → AnswersTake told (Err e) (change_of t before old) (change_of t after new)
 refused_answer t told e before after old new sound spoils refused = elim refused [
-  | inl memory ↦ subst (λ (a : Asked (List Fields)). AnswersWipe a (Err e) (change_of t before old) (change_of t after new)) (sym memory.1) (record {
+  | inl memory ↦ subst (λ (a : Asked (List Fields)). AnswersTake a (Err e) (change_of t before old) (change_of t after new)) (sym memory.1) (record {
     error = memory.2;
     spoiled = spoils ∙ ap wants_memory memory.2;
     schema = refl;
   })
   | inr why ↦
       let flag : new ≡ old = spoils ∙ ap wants_memory why.2 ∙ sym sound in
-      subst (λ (a : Asked (List Fields)). AnswersWipe a (Err e) (change_of t before old) (change_of t after new)) (sym why.1)
+      subst (λ (a : Asked (List Fields)). AnswersTake a (Err e) (change_of t before old) (change_of t after new)) (sym why.1)
       (ap Err why.2, λ i. change_of t (why.3 i) (flag i))
 ]
+
+-- ---- how many rows there were
+
+module _ (old new : TableChange) where
+  pub take_counted : (told : Asked (List Fields)) (taken : List Fields) (n : ℕ) → n ≡ length taken → AnswersTake told (Ok taken) old new → AnswersWipe told (Ok n) old new
+  take_counted (Ok gone) taken n is a = (is ∙ ap length a.0, a.1)
+  take_counted (Err why) taken n is a = let h = a.0 in cc
+
+  pub take_refused : (told : Asked (List Fields)) (e : WipeError) → AnswersTake told (Err e) old new → AnswersWipe told (Err e) old new
+  take_refused (Ok gone) e a = a
+  take_refused (Err why) e a = let h = a.0 in let same : e ≡ Refused (ask_error why) = cc in (ap Err same, a.1)

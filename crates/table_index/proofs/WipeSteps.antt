@@ -1,9 +1,8 @@
 -- The steps of a wipe: its beginning, each row that is listed, and its end.
-use Rattle.std.proofs.Common.{◌≡◌, ◌≢◌, ◌∙◌, ◌||◌, ◌+◌, ◌<◌, ◌≤◌, ℕ, zero, suc, List, [], ◌∷◌, map, filter, drop, set, length, slice_get, codes, Bool, true, false, not, cond, Option, Some, None, option_map, is_some, Contains, eq-eqb, eqb-true, refl, sym, ap, subst, inl, inr, arith}
+use Rattle.std.proofs.Common.{◌≡◌, ◌≢◌, ◌∙◌, ◌||◌, ◌++◌, ◌<◌, ℕ, zero, suc, List, [], ◌∷◌, map, filter, drop, set, length, slice_get, codes, Bool, true, false, not, cond, Option, Some, None, IfSome, Result, Ok, Err, OnOk, option_map, is_some, Contains, eq-eqb, eqb-true, refl, sym, ap, subst, inl, inr, arith}
 use Rattle.std.specs.Prelude.{nat_eq, unwrap_or}
 use Rattle.std.proofs.lemmas.Bool.{or_right, both_ways, not_from_false, false_from_ne_true}
-use Rattle.std.proofs.lemmas.List.{length-map, map-set}
-use Rattle.std.proofs.lemmas.List.Filters.{length-filter_both}
+use Rattle.std.proofs.lemmas.List.{append-nil, append_assoc, length-map, map-set}
 use Rattle.std.proofs.lemmas.Option.{slice_get-map}
 use Rattle.mdb_datum.specs.Bytes.{is_prefix}
 use Rattle.mdb_datum.specs.Pairs.{first_item, rows_of, with_prefix}
@@ -30,7 +29,7 @@ use Rattle.radix_node.specs.Pairs.{without_prefix}
 use Rattle.radix_txn.specs.Txn.{Txn, txn_pairs}
 use Rattle.table_index.specs.inner.Held.{AreSound, AreTrees, nodes_of, rows_held}
 use Rattle.table_index.specs.inner.TreeEdits.{without_each}
-use Rattle.table_index.specs.inner.Wipes.{listed_at, cut_at, holds, holds_at, is_there, IsStored, IsTaking, IsWiped}
+use Rattle.table_index.specs.inner.Wipes.{listed_at, cut_at, holds, holds_at, is_there, IsMoved, IsStored, IsTaking, IsWiped}
 use Rattle.table_index.proofs.CutTrees.{without_each-cut, length-cut_at, slice_get-cut_at, set-cut_at, cut_at-nothing}
 use Rattle.table_index.proofs.HeldRows.{AreTrees-from, rows_held-rows}
 use Rattle.table_index.proofs.OneByOne.{taken_of, left_of, taken_of-there, taken_of-out, left_of-there, left_of-out, taken_of-once, left_of-without, Follow, follow_listed, follow_rising, rising-filter}
@@ -45,16 +44,15 @@ all_entries t rows = map (λ (i : IndexSchema). entries t i rows) t.indexes
 abbrev pub cuts_id : TableSchema → ℕ → Bool
 cuts_id t cut = nat_eq (unwrap_or (index_place (codes "id") t.indexes) 0) cut
 
--- how far a wipe of listed rows has come: what the trees hold, the rows still to come, and how many are out
-pub record Stands (t : TableSchema) (cut : ℕ) (key : Bytes) (all listed : List Fields) (count : ℕ) (rest : List Fields) (txns : List Txn) : Type 0 where
+-- how far a wipe of listed rows has come: what the trees hold, the rows still to come, and those that are out
+pub record Stands (t : TableSchema) (cut : ℕ) (key : Bytes) (all listed removed rest : List Fields) (txns : List Txn) : Type 0 where
   pub rows : List Fields
   pub lawful : AreLawfulRows t rows
   pub held : map txn_pairs txns ≡ cut_at key (all_entries t rows) cut
   pub stored : (r : Fields) → Contains rest r → IsStored t r
   pub follow : Follow (cuts_id t cut) t rows rest
-  pub taken : count + length (taken_of t rows rest) ≡ length (taken_of t all listed)
+  pub taken : removed ++ taken_of t rows rest ≡ taken_of t all listed
   pub left : left_of t rows rest ≡ left_of t all listed
-  pub few : count + length rest ≤ length listed
 
 pub first_rest : (xs : List Fields) (x : Fields) → first_item xs ≡ Some x → xs ≡ x ∷ drop 1 xs
 first_rest [] x e = cc
@@ -112,13 +110,13 @@ module _ (t : TableSchema) (table : IsLawfulTable t) (cut : ℕ) (key : Bytes) w
       (edited_entries without_all (λ (i : IndexSchema). full_keys t i r) (λ (i : IndexSchema). entries t i rows) (λ (i : IndexSchema). entries t i (without_row t (id_key t r) rows)) t.indexes
       (entries_after rows r lawful here))
 
-  module _ (all listed : List Fields) (count : ℕ) (r : Fields) (rest : List Fields) (before after : List Txn) where
-    told_here : (s : Stands t cut key all listed count (r ∷ rest) before) (taken : Bool) → IsTaking t cut r taken before after → taken ≡ (cuts_id t cut || is_some (row_at t (id_key t r) s.rows))
+  module _ (all listed removed : List Fields) (r : Fields) (rest : List Fields) (before after : List Txn) where
+    told_here : (s : Stands t cut key all listed removed (r ∷ rest) before) (taken : Bool) → IsTaking t cut r taken before after → taken ≡ (cuts_id t cut || is_some (row_at t (id_key t r) s.rows))
     told_here s taken did = did.told ∙ ap (is_there t cut (id_key t r)) s.held ∙ there-told s.rows (id_key t r) s.lawful
 
     -- it is still there
-    row_out : (s : Stands t cut key all listed count (r ∷ rest) before) (taken : Bool) → IsTaking t cut r taken before after → taken ≡ true → row_at t (id_key t r) s.rows ≡ Some r
-        → Follow (cuts_id t cut) t (without_row t (id_key t r) s.rows) rest → Stands t cut key all listed (count + 1) rest after
+    row_out : (s : Stands t cut key all listed removed (r ∷ rest) before) (taken : Bool) → IsTaking t cut r taken before after → taken ≡ true → row_at t (id_key t r) s.rows ≡ Some r
+        → Follow (cuts_id t cut) t (without_row t (id_key t r) s.rows) rest → Stands t cut key all listed (removed ++ r ∷ []) rest after
     row_out s taken did is_taken here later = record {
       rows = without_row t (id_key t r) s.rows;
       lawful = without_row_lawful t (id_key t r) s.rows s.lawful;
@@ -128,14 +126,13 @@ module _ (t : TableSchema) (table : IsLawfulTable t) (cut : ℕ) (key : Bytes) w
           ∙ held_after s.rows r (map txn_pairs before) s.lawful here s.held;
       stored = λ x h. s.stored x (Contains-later r rest x h);
       follow = later;
-      taken = let more = ap length (taken_of-there t s.rows r rest r here) in omega (arith, s.taken, more);
+      taken = append_assoc removed (r ∷ []) (taken_of t (without_row t (id_key t r) s.rows) rest) ∙ ap (λ (l : List Fields). removed ++ l) (sym (taken_of-there t s.rows r rest r here)) ∙ s.taken;
       left = sym (left_of-there t s.rows r rest r here) ∙ s.left;
-      few = omega (arith, s.few);
     }
 
     -- it is out already
-    row_left : (s : Stands t cut key all listed count (r ∷ rest) before) (taken : Bool) → IsTaking t cut r taken before after → taken ≡ false → row_at t (id_key t r) s.rows ≡ None
-        → Follow (cuts_id t cut) t s.rows rest → Stands t cut key all listed count rest after
+    row_left : (s : Stands t cut key all listed removed (r ∷ rest) before) (taken : Bool) → IsTaking t cut r taken before after → taken ≡ false → row_at t (id_key t r) s.rows ≡ None
+        → Follow (cuts_id t cut) t s.rows rest → Stands t cut key all listed removed rest after
     row_left s taken did is_out out later = record {
       rows = s.rows;
       lawful = s.lawful;
@@ -145,19 +142,18 @@ module _ (t : TableSchema) (table : IsLawfulTable t) (cut : ℕ) (key : Bytes) w
           ∙ s.held;
       stored = λ x h. s.stored x (Contains-later r rest x h);
       follow = later;
-      taken = let same = ap length (taken_of-out t s.rows r rest out) in omega (arith, s.taken, same);
+      taken = ap (λ (l : List Fields). removed ++ l) (sym (taken_of-out t s.rows r rest out)) ∙ s.taken;
       left = sym (left_of-out t s.rows r rest out) ∙ s.left;
-      few = omega (arith, s.few);
     }
 
-    pub taken_step : Stands t cut key all listed count (r ∷ rest) before → IsTaking t cut r true before after → Stands t cut key all listed (count + 1) rest after
+    pub taken_step : Stands t cut key all listed removed (r ∷ rest) before → IsTaking t cut r true before after → Stands t cut key all listed (removed ++ r ∷ []) rest after
     taken_step s did = elim s.follow [
       | inl f ↦ row_out s true did refl f.0 f.1
       | inr f ↦ absurd (both_ways (cuts_id t cut || is_some (row_at t (id_key t r) s.rows))
           (ap (λ (b : Bool). b || is_some (row_at t (id_key t r) s.rows)) f.0 ∙ ap is_some f.1) (sym (told_here s true did)))
     ]
 
-    pub skipped_step : Stands t cut key all listed count (r ∷ rest) before → IsTaking t cut r false before after → Stands t cut key all listed count rest after
+    pub skipped_step : Stands t cut key all listed removed (r ∷ rest) before → IsTaking t cut r false before after → Stands t cut key all listed removed rest after
     skipped_step s did = elim s.follow [
       | inl f ↦ absurd (both_ways (cuts_id t cut || is_some (row_at t (id_key t r) s.rows)) (sym (told_here s false did))
           (or_right (cuts_id t cut) (is_some (row_at t (id_key t r) s.rows)) (ap is_some f.0)))
@@ -205,16 +201,15 @@ module _ (t : TableSchema) (table : IsLawfulTable t) (cut : ℕ) (key : Bytes) w
         of true e = follow_rising t rows listing lawful.rising (listing_rising e) listing_within
         of false e = follow_listed t rows listing lawful.rising listing_within
 
-    pub first_step : (after : List Txn) → map txn_pairs after ≡ cut_at key (all_entries t rows) cut → Stands t cut key rows listing 0 listing after
+    pub first_step : (after : List Txn) → map txn_pairs after ≡ cut_at key (all_entries t rows) cut → Stands t cut key rows listing [] listing after
     first_step after held = record {
       rows = rows;
       lawful = lawful;
       held = held;
       stored = λ x h i k. lawful.taken i x k (listing_within x h);
       follow = follow_first;
-      taken = omega arith;
+      taken = refl;
       left = refl;
-      few = omega arith;
     }
 
     -- ---- the end
@@ -242,16 +237,16 @@ module _ (t : TableSchema) (table : IsLawfulTable t) (cut : ℕ) (key : Bytes) w
         subst (λ (k : IndexSchema). without_prefix key (entries t k left) ≡ entries t k left) same
         (filter-all (λ (p : Pair). not (is_prefix key p.0)) (entries t i left) (λ p h. not_from_false (is_prefix key p.0) (none_left p h))))
 
-    pub last_step : (before : List Txn) (count : ℕ) (after : List Txn) → rows ≡ rows_held t (nodes_of before) → Stands t cut key rows listing count [] after → AreSound after
-        → IsWiped t (once t listing) count before after
-    last_step before count after is s sound =
+    pub last_step : (before : List Txn) (removed : List Fields) (after : List Txn) → rows ≡ rows_held t (nodes_of before) → Stands t cut key rows listing removed [] after → AreSound after
+        → IsWiped t (once t listing) removed before after
+    last_step before removed after is s sound =
         let taken = taken_of-once t rows listing lawful.rising listing_within in
         let now : s.rows ≡ left = s.left ∙ left_of-without t rows listing lawful.rising ∙ ap (λ (g : List Fields). without_rows t g rows) taken in
         let kept : AreLawfulRows t left = subst (λ (l : List Fields). AreLawfulRows t l) now s.lawful in
         let held = pairs_of-nodes after ∙ s.held ∙ ap (λ (l : List Fields). cut_at key (all_entries t l) cut) now ∙ nothing_cut in
-        let many : count ≡ length (taken_of t rows listing) = omega (arith, s.taken) in
+        let all_out : removed ≡ taken_of t rows listing = sym (append-nil removed) ∙ s.taken in
         record {
-          count = many ∙ ap length taken;
+          each = all_out ∙ taken;
           held = AreTrees-from t left (nodes_of after) table kept held;
           rows = rows_held-rows t left (nodes_of after) table kept held ∙ ap (without_rows t gone) is;
           sound = sound;
@@ -260,10 +255,24 @@ module _ (t : TableSchema) (table : IsLawfulTable t) (cut : ℕ) (key : Bytes) w
 -- ---- the same, as the code meets it
 
 -- a place within a list has an element
-index_there : (is : List IndexSchema) (at : ℕ) → at < length is → (i : IndexSchema) × (slice_get is at ≡ Some i)
-index_there [] at h = absurd (omega arith)
-index_there (i ∷ is) zero h = (i, refl)
-index_there (i ∷ is) (suc at) h = index_there is at (omega arith)
+pub there_within : {A : Type 0} (xs : List A) (at : ℕ) → at < length xs → (x : A) × (slice_get xs at ≡ Some x)
+there_within [] at h = absurd (omega arith)
+there_within (x ∷ xs) zero h = (x, refl)
+there_within (x ∷ xs) (suc at) h = there_within xs at (omega arith)
+
+pub listed_there : (key : Bytes) (listed : List Fields) (o : Option Txn) (x : Txn) → IfSome o (λ y. listed ≡ rows_of (with_prefix key (txn_pairs y))) → o ≡ Some x → listed ≡ rows_of (with_prefix key (txn_pairs x))
+listed_there key listed o x h there = subst (λ (p : Option Txn). IfSome p (λ y. listed ≡ rows_of (with_prefix key (txn_pairs y)))) there h
+
+pub on_ok : {T E : Type 0} {P Q : Type 0} (r : Result T E) → (P → Q) → OnOk r P → OnOk r Q
+on_ok (Ok x) f h = f h
+on_ok (Err e) f h = h
+
+-- the trees, of which one was cut
+pub cut_one : (key : Bytes) (txns : List Txn) (place : ℕ) (x y : Txn) → slice_get txns place ≡ Some x → txn_pairs y ≡ without_prefix key (txn_pairs x)
+    → map txn_pairs (set txns place y) ≡ cut_at key (map txn_pairs txns) place
+cut_one key txns place x y there edit =
+    map-set txn_pairs txns place y ∙ ap (set (map txn_pairs txns) place) edit
+    ∙ set-cut_at key (map txn_pairs txns) place (txn_pairs x) (slice_get-map txn_pairs txns place ∙ ap (option_map txn_pairs) there)
 
 -- the pairs of a tree are the entries of its index
 pairs_at : (t : TableSchema) (rows : List Fields) (txns : List Txn) (place : ℕ) (x : Txn) (i : IndexSchema) → map txn_pairs txns ≡ all_entries t rows
@@ -275,28 +284,30 @@ pairs_at t rows txns place x i held there found =
     cc
 
 -- there is a tree for each index
-pub tree_count : (t : TableSchema) (cut : ℕ) (key : Bytes) (all listed : List Fields) (count : ℕ) (rest : List Fields) (txns : List Txn) → Stands t cut key all listed count rest txns → length txns ≡ length t.indexes
-tree_count t cut key all listed count rest txns s =
+pub tree_count : (t : TableSchema) (cut : ℕ) (key : Bytes) (all listed removed rest : List Fields) (txns : List Txn) → Stands t cut key all listed removed rest txns → length txns ≡ length t.indexes
+tree_count t cut key all listed removed rest txns s =
     sym (length-map txns txn_pairs) ∙ ap length s.held ∙ length-cut_at key (all_entries t s.rows) cut ∙ length-map t.indexes (λ (i : IndexSchema). entries t i s.rows)
 
--- there is room to count one more
-pub room : (t : TableSchema) (cut : ℕ) (key : Bytes) (all listed : List Fields) (count : ℕ) (rest : List Fields) (txns : List Txn) (r : Fields) → Stands t cut key all listed count rest txns
-    → first_item rest ≡ Some r → count + 1 ≤ length listed
-room t cut key all listed count rest txns r s first = let more = ap length (first_rest rest r first) in omega (arith, s.few, more)
-
-module _ (t : TableSchema) (table : IsLawfulTable t) (cut : ℕ) (key : Bytes) (all listed : List Fields) (count : ℕ) (rest : List Fields) (before : List Txn)
-    (r : Fields) (first : first_item rest ≡ Some r) (s : Stands t cut key all listed count rest before) (later : List Fields) (next : later ≡ drop 1 rest) (after : List Txn) where
-  now : Stands t cut key all listed count (r ∷ drop 1 rest) before
-  now = subst (λ (l : List Fields). Stands t cut key all listed count l before) (first_rest rest r first) s
+module _ (t : TableSchema) (table : IsLawfulTable t) (cut : ℕ) (key : Bytes) (all listed removed rest : List Fields) (before : List Txn)
+    (r : Fields) (first : first_item rest ≡ Some r) (s : Stands t cut key all listed removed rest before) (later : List Fields) (next : later ≡ drop 1 rest) (after : List Txn) where
+  now : Stands t cut key all listed removed (r ∷ drop 1 rest) before
+  now = subst (λ (l : List Fields). Stands t cut key all listed removed l before) (first_rest rest r first) s
 
   pub next_stored : IsStored t r
   next_stored = now.stored r (Contains-first r (drop 1 rest))
 
-  pub next_taken : IsTaking t cut r true before after → Stands t cut key all listed (count + 1) later after
-  next_taken did = subst (λ (l : List Fields). Stands t cut key all listed (count + 1) l after) (sym next) (taken_step t table cut key all listed count r (drop 1 rest) before after now did)
+  next_taken : IsTaking t cut r true before after → Stands t cut key all listed (removed ++ r ∷ []) later after
+  next_taken did = subst (λ (l : List Fields). Stands t cut key all listed (removed ++ r ∷ []) l after) (sym next) (taken_step t table cut key all listed removed r (drop 1 rest) before after now did)
 
-  pub next_skipped : IsTaking t cut r false before after → Stands t cut key all listed count later after
-  next_skipped did = subst (λ (l : List Fields). Stands t cut key all listed count l after) (sym next) (skipped_step t table cut key all listed count r (drop 1 rest) before after now did)
+  next_skipped : IsTaking t cut r false before after → Stands t cut key all listed removed later after
+  next_skipped did = subst (λ (l : List Fields). Stands t cut key all listed removed l after) (sym next) (skipped_step t table cut key all listed removed r (drop 1 rest) before after now did)
+
+  pub next_moved : (gone : List Fields) → IsMoved t cut r before after removed gone → Stands t cut key all listed gone later after
+  next_moved gone m = of m.taken m.taking m.gone
+    where
+      of : (b : Bool) → IsTaking t cut r b before after → gone ≡ cond b (removed ++ r ∷ []) removed → Stands t cut key all listed gone later after
+      of true did is = subst (λ (l : List Fields). Stands t cut key all listed l later after) (sym is) (next_taken did)
+      of false did is = subst (λ (l : List Fields). Stands t cut key all listed l later after) (sym is) (next_skipped did)
 
 module _ (t : TableSchema) (table : IsLawfulTable t) (cut : ℕ) (key : Bytes) (txns : List Txn) (trees : AreTrees t (nodes_of txns)) (within : cut < length t.indexes)
     (x : Txn) (there : slice_get txns cut ≡ Some x) (listed : List Fields) (is : listed ≡ rows_of (with_prefix key (txn_pairs x))) where
@@ -307,34 +318,22 @@ module _ (t : TableSchema) (table : IsLawfulTable t) (cut : ℕ) (key : Bytes) (
   held = tree_entries t txns table trees
 
   named : (i : IndexSchema) × (slice_get t.indexes cut ≡ Some i)
-  named = index_there t.indexes cut within
+  named = there_within t.indexes cut within
 
   listed_is : (i : IndexSchema) → slice_get t.indexes cut ≡ Some i → listed ≡ rows_of (with_prefix key (entries t i rows))
   listed_is i found = is ∙ ap (λ (es : List Pair). rows_of (with_prefix key es)) (pairs_at t rows txns cut x i held there found)
 
-  pub wipe_begins : (y : Txn) → txn_pairs y ≡ without_prefix key (txn_pairs x) → Stands t cut key (rows_held t (nodes_of txns)) listed 0 listed (set txns cut y)
-  wipe_begins y edit =
+  pub wipe_begins : (after : List Txn) → map txn_pairs after ≡ cut_at key (map txn_pairs txns) cut → Stands t cut key (rows_held t (nodes_of txns)) listed [] listed after
+  wipe_begins after was_cut =
       let n = named in
-      let pairs = slice_get-map txn_pairs txns cut ∙ ap (option_map txn_pairs) there in
-      let now : map txn_pairs (set txns cut y) ≡ cut_at key (all_entries t rows) cut =
-      map-set txn_pairs txns cut y ∙ ap (set (map txn_pairs txns) cut) edit
-      ∙ set-cut_at key (map txn_pairs txns) cut (txn_pairs x) pairs
-      ∙ ap (λ (es : List (List Pair)). cut_at key es cut) held in
-      subst (λ (l : List Fields). Stands t cut key rows l 0 l (set txns cut y)) (sym (listed_is n.0 n.1))
-      (first_step t table cut key rows trees.lawful n.0 n.1 (set txns cut y) now)
+      let now : map txn_pairs after ≡ cut_at key (all_entries t rows) cut = was_cut ∙ ap (λ (es : List (List Pair)). cut_at key es cut) held in
+      subst (λ (l : List Fields). Stands t cut key rows l [] l after) (sym (listed_is n.0 n.1)) (first_step t table cut key rows trees.lawful n.0 n.1 after now)
 
-  pub wipe_ends : (count : ℕ) (rest : List Fields) (after : List Txn) → Stands t cut key (rows_held t (nodes_of txns)) listed count rest after → first_item rest ≡ None → AreSound after
-      → IsWiped t (once t (listed_at t (rows_held t (nodes_of txns)) (slice_get t.indexes cut) key)) count txns after
-  wipe_ends count rest after s none sound =
+  pub wipe_ends : (removed rest : List Fields) (after : List Txn) → Stands t cut key (rows_held t (nodes_of txns)) listed removed rest after → first_item rest ≡ None → AreSound after
+      → IsWiped t (once t (listed_at t (rows_held t (nodes_of txns)) (slice_get t.indexes cut) key)) removed txns after
+  wipe_ends removed rest after s none sound =
       let n = named in
-      let done = subst (λ (l : List Fields). Stands t cut key rows l count [] after) (listed_is n.0 n.1)
-      (subst (λ (l : List Fields). Stands t cut key rows listed count l after) (no_more rest none) s) in
-      subst (λ (o : Option IndexSchema). IsWiped t (once t (listed_at t rows o key)) count txns after) (sym n.1)
-      (last_step t table cut key rows trees.lawful n.0 n.1 txns count after refl done sound)
-
--- the rows of a cut tree are no more than its keys
-pub length-cut : (key : Bytes) (es : List Pair) → length (rows_of (with_prefix key es)) + length (without_prefix key es) ≡ length es
-length-cut key es =
-    let rows = length-map (with_prefix key es) (λ (p : Pair). p.1) in
-    let both = length-filter_both (λ (p : Pair). is_prefix key p.0) (λ (p : Pair). not (is_prefix key p.0)) (λ p. refl) es in
-    omega (arith, rows, both)
+      let done = subst (λ (l : List Fields). Stands t cut key rows l removed [] after) (listed_is n.0 n.1)
+      (subst (λ (l : List Fields). Stands t cut key rows listed removed l after) (no_more rest none) s) in
+      subst (λ (o : Option IndexSchema). IsWiped t (once t (listed_at t rows o key)) removed txns after) (sym n.1)
+      (last_step t table cut key rows trees.lawful n.0 n.1 txns removed after refl done sound)

@@ -1,5 +1,5 @@
 -- A table, as contracts see it.
-use Rattle.std.specs.Prelude.{◌≡◌, ◌⊎◌, ℕ, Bool, true, List, length, Some, is_some, Result, Ok, Err, MatchResult}
+use Rattle.std.specs.Prelude.{◌≡◌, ◌⊎◌, ℕ, Bool, true, List, length, Some, is_some, Result, Ok, Err, IsOkUnless, MatchResult}
 use Rattle.mdb_datum.specs.Row.{Fields}
 use Rattle.mdb_schema.specs.Answer.{Asked}
 use Rattle.mdb_schema.specs.Refusals.{ask_error, write_error}
@@ -58,7 +58,18 @@ pub record IsSpoiledWipe (e : WipeError) (old new : TableChange) : Type 0 where
   pub spoiled : new.spoiled ≡ true
   pub schema : new.schema ≡ old.schema
 
--- the answer to a wipe of these rows, or to one that is refused so: how many there were
+-- the answer to a wipe of these rows, or to one that is refused so: the rows
+abbrev pub AnswersTake : Asked (List Fields) → Result (List Fields) WipeError → TableChange
+    → TableChange → Type 0
+AnswersTake (Ok gone) result old new =
+    MatchResult result
+    (λ taken. (taken ≡ gone)
+    × (new ≡ record old { rows = without_rows old.schema gone old.rows }))
+    (λ e. IsSpoiledWipe e old new)
+AnswersTake (Err why) result old new =
+    (result ≡ Err (wipe_errors.Refused (ask_error why))) × (new ≡ old)
+
+-- the same, with how many there were
 abbrev pub AnswersWipe : Asked (List Fields) → Result ℕ WipeError → TableChange → TableChange
     → Type 0
 AnswersWipe (Ok gone) result old new =
@@ -67,3 +78,8 @@ AnswersWipe (Ok gone) result old new =
     (λ e. IsSpoiledWipe e old new)
 AnswersWipe (Err why) result old new =
     (result ≡ Err (wipe_errors.Refused (ask_error why))) × (new ≡ old)
+
+-- whether a wipe of these rows, or one that is refused so, is refused by a rule; that is always told
+abbrev pub AnswersCheck : {A : Type 0} → Asked (List Fields) → Result A WipeError → Type 0
+AnswersCheck (Ok gone) result = IsOkUnless result wipe_errors.Memory
+AnswersCheck (Err why) result = result ≡ Err (wipe_errors.Refused (ask_error why))

@@ -1,5 +1,5 @@
 //! The answer of one tree to a question.
-ghost use Rattle.std.specs.Prelude.{◌≡◌, IfOk, option_copied};
+ghost use Rattle.std.specs.Prelude.{◌≡◌, IfOk, IsOkAnd, option_copied};
 ghost use Rattle.mdb_datum.specs.Pairs.{first_item, last_item};
 ghost use Rattle.mdb_schema.specs.Answer.{answer, picked};
 ghost use Rattle.radix_node.specs.Nodes.{pairs_of};
@@ -24,10 +24,10 @@ pub(crate) fn answer(
     match ask {
         Ask::First => one(first_row(tree, exact, key)),
         Ask::Last => one(last_row(tree, exact, key)),
-        Ask::Get => many(alloc, ascend(alloc, tree, key)?),
-        Ask::GetReverse => many(alloc, descend(alloc, tree, key)?),
-        Ask::Lower => many(alloc, from_key(alloc, tree, key)?),
-        Ask::ReverseLower => many(alloc, down_from(alloc, tree, key)?),
+        Ask::Get => listed(alloc, ascend(alloc, tree, key)),
+        Ask::GetReverse => listed(alloc, descend(alloc, tree, key)),
+        Ask::Lower => listed(alloc, from_key(alloc, tree, key)),
+        Ask::ReverseLower => listed(alloc, down_from(alloc, tree, key)),
         Ask::Longest => one(tree.longest(key)),
     }
 }
@@ -61,6 +61,16 @@ fn one(row: Option<&Row>) -> Result<Answer, AllocError>
     match row {
         Some(row) => Ok(Answer::One(Some(row.share()?))),
         None => Ok(Answer::One(None)),
+    }
+}
+
+/// An answer of the rows of a walk, if there was memory to begin it.
+fn listed(alloc: Global, walk: Result<Walk, AllocError>) -> Result<Answer, AllocError>
+    ensures { IfOk result (λ a. IsOkAnd walk (λ rows. a ≡ Answer.Many rows)) }
+{
+    match walk {
+        Ok(walk) => many(alloc, walk),
+        Err(error) => Err(error),
     }
 }
 

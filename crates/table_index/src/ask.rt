@@ -1,16 +1,20 @@
 //! Questions of a table.
-ghost use Rattle.std.specs.Prelude.{◌≡◌, IfOk};
+ghost use Rattle.std.specs.Prelude.{◌≡◌, false, MatchResult};
 ghost use Rattle.mdb_schema.specs.Answer.{answer, ask_rows, is_exact};
 ghost use Rattle.mdb_schema.specs.Refusals.{AnswersAsk};
+ghost use Rattle.mdb_schema.specs.declared.ask_error.AskError.TheVariants.{Memory};
 ghost use Rattle.radix_node.specs.Nodes.{pairs_of};
+ghost use Rattle.table_index.specs.inner.Held.{AreSound, AreTrees, nodes_of, rows_held};
 
 use crate::answer::answer;
 use crate::lookup::{Target, lookup};
 use crate::question::{has_argument, is_prefix_name};
 use crate::table::Table;
-use mdb_schema::{Answer, AskError, IndexDef, Query};
+use crate::table_txn::TableTxn;
+use mdb_schema::{Answer, AskError, IndexDef, Query, TableDef};
 use radix_node::Tree;
-use std::alloc::{AllocError, Global};
+use radix_txn::TreeTxn;
+use std::alloc::Global;
 
 impl Table {
     /// What a question is answered, or the first rule that it breaks; the name of its table isn't
@@ -21,24 +25,75 @@ impl Table {
         ensures { AnswersAsk (ask_rows self.now.schema self.now.rows query.now) result }
     {
         let alloc = *self.trees.allocator();
-        let at = lookup(alloc, &self.def, query.ask(), query)?;
-        let tree = &self.trees[at.place()];
-        Ok(answer_at(alloc, tree, &at, query)?)
+        match lookup(alloc, &self.def, query.ask(), query) {
+            Ok(at) => answer_at(alloc, &self.trees[at.place()], &at, query),
+            Err(error) => Err(error),
+        }
     }
 }
 
-/// What a question is answered from the tree of the index where it looks.
-fn answer_at(
+impl TableTxn {
+    /// What a question is answered of the present rows, as [`Table::ask`] answers.
+    pub fn ask(&mut self, query: &Query) -> Result<Answer, AskError>
+        requires sound { self.old.spoiled ≡ false }
+        ensures answers { AnswersAsk
+            (ask_rows self.old.schema self.old.rows query.now) result }
+        ensures unchanged { self.new ≡ self.old }
+    {
+        let alloc = *self.trees.allocator();
+        ask_standing(alloc, &self.def, &mut self.trees, query)
+    }
+}
+
+/// What a question is answered from the present tree of the index where it looks.
+fn ask_standing(
     alloc: Global,
-    tree: &Tree,
+    def: &TableDef,
+    txns: &mut [TreeTxn],
+    query: &Query,
+) -> Result<Answer, AskError>
+    requires sound { AreSound txns.old }
+    requires held { AreTrees def.now (nodes_of txns.old) }
+    ensures answers { AnswersAsk
+        (ask_rows def.now (rows_held def.now (nodes_of txns.old)) query.now) result }
+    ensures unchanged { txns.new ≡ txns.old }
+{
+    match lookup(alloc, def, query.ask(), query) {
+        Ok(at) => {
+            let txn = &mut txns[at.place()];
+            answer_standing(alloc, txn, &at, query)
+        }
+        Err(error) => Err(error),
+    }
+}
+
+/// What a question is answered from the present tree of a transaction.
+fn answer_standing(
+    alloc: Global,
+    txn: &mut TreeTxn,
     at: &Target<'_>,
     query: &Query,
-) -> Result<Answer, AllocError>
-    ensures { IfOk result (λ a. a ≡ answer query.now.ask (is_exact at.now.index query.now)
-        at.now.key (pairs_of tree.now)) }
+) -> Result<Answer, AskError>
+    requires sound { txn.old.spoiled ≡ false }
+    ensures answers { MatchResult result
+        (λ a. a ≡ answer query.now.ask (is_exact at.now.index query.now)
+        at.now.key (pairs_of txn.old.tree))
+        (λ e. e ≡ Memory) }
+    ensures unchanged { txn.new ≡ txn.old }
+{
+    let tree = txn.stand()?;
+    answer_at(alloc, &tree, at, query)
+}
+
+/// What a question is answered from the tree of the index where it looks.
+fn answer_at(alloc: Global, tree: &Tree, at: &Target<'_>, query: &Query) -> Result<Answer, AskError>
+    ensures { MatchResult result
+        (λ a. a ≡ answer query.now.ask (is_exact at.now.index query.now)
+        at.now.key (pairs_of tree.now))
+        (λ e. e ≡ Memory) }
 {
     let exact = is_exact(at.index(), query);
-    answer(alloc, tree, query.ask(), exact, at.key())
+    Ok(answer(alloc, tree, query.ask(), exact, at.key())?)
 }
 
 /// Whether a question asks for the entry of a very key, and not for those that begin with it.

@@ -1,5 +1,6 @@
 //! The full keys of a row in one index.
-ghost use Rattle.std.specs.Prelude.{◌≡◌, ◌≤◌, [], IfOk, All, length, map, option_map, replicate, slice_get};
+ghost use Rattle.std.specs.Prelude.{◌≡◌, ◌≤◌, ◌++◌, ◌∷◌, [], IfOk, OnOk, All, length, map, option_map};
+ghost use Rattle.std.specs.Prelude.{replicate, slice_get};
 ghost use Rattle.mdb_encode.specs.Bytes.{Bytes};
 ghost use Rattle.mdb_schema.specs.State.{full_key};
 ghost use Rattle.mdb_schema.specs.Write.{is_among};
@@ -75,14 +76,30 @@ impl FullKeys {
         requires { All IsShort keys.now }
         ensures { IfOk result (λ found. found ≡ map (full_key index.now id.now) keys.now) }
     {
-        let mut full = Vec::with_capacity(alloc, keys.len())?;
+        let mut full = FullKeys::none(alloc);
         for at in 0..keys.len() {
             let Some(key) = keys.get(at) else {
                 unreachable!();
             };
-            full.push(FullKey::of(alloc, index, id, key)?)?;
+            full.add(alloc, index, id, key)?;
         }
-        Ok(FullKeys { keys: full })
+        Ok(full)
+    }
+
+    /// Adds the full key of a key.
+    fn add(
+        &mut self,
+        alloc: Global,
+        index: &IndexDef,
+        id: &IdKey,
+        key: &Key,
+    ) -> Result<(), AllocError>
+        requires { IsShort key.now }
+        ensures { OnOk result
+            (self.new ≡ self.old ++ full_key index.now id.now key.now ∷ []) }
+    {
+        let full = FullKey::of(alloc, index, id, key)?;
+        Ok(self.keys.push(full)?)
     }
 
     /// No keys.

@@ -31,6 +31,7 @@ mod trees;
 mod txn;
 mod wipe;
 mod wipe_error;
+mod wipe_rules;
 
 pub use table::Table;
 pub use table_txn::TableTxn;

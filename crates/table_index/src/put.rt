@@ -1,8 +1,8 @@
 //! The put of a row.
-ghost use Rattle.std.specs.Prelude.{◌≡◌, false, MatchResult, is_some};
+ghost use Rattle.std.specs.Prelude.{◌≡◌, false, Ok, MatchResult, is_some};
 ghost use Rattle.mdb_schema.specs.LawfulSchema.{IsLawfulTable};
 ghost use Rattle.mdb_schema.specs.State.{row_at};
-ghost use Rattle.mdb_schema.specs.Write.{put_row};
+ghost use Rattle.mdb_schema.specs.Write.{id_of, put_row};
 ghost use Rattle.mdb_schema.specs.declared.write_error.WriteError.TheVariants.{Memory};
 ghost use Rattle.table_index.specs.Table.{AnswersPut};
 ghost use Rattle.table_index.specs.inner.Held.{AreSound, AreTrees, nodes_of, rows_held};
@@ -101,15 +101,34 @@ fn accepted_keys(
         (λ keys. IsAccepted def.now row.now rows keys.new keys.old.keys keys.old.there)
         (λ e. Tells (put_row def.now row.now rows) e) }
 {
-    let id = match id_key_of(alloc, def, row) {
-        Ok(id) => id,
-        Err(error) => return Err(error),
-    };
-    let new = match full_keys_of(alloc, def, &id, row) {
+    match id_key_of(alloc, def, row) {
+        Ok(id) => keys_of_id(alloc, def, txns, row, &id),
+        Err(error) => Err(error),
+    }
+}
+
+/// The same, where the row has this `id` key.
+fn keys_of_id(
+    alloc: Global,
+    def: &TableDef,
+    txns: &[TreeTxn],
+    row: &Row,
+    id: &IdKey,
+) -> Result<PutKeys, WriteError>
+    requires known { id_of def.now row.now ≡ Ok id.now }
+    requires lawful { IsLawfulTable def.now }
+    requires sound { AreSound txns.now }
+    requires held { AreTrees def.now (nodes_of txns.now) }
+    ensures { let rows = rows_held def.now (nodes_of txns.now) in
+        MatchResult result
+        (λ keys. IsAccepted def.now row.now rows keys.new keys.old.keys keys.old.there)
+        (λ e. Tells (put_row def.now row.now rows) e) }
+{
+    let new = match full_keys_of(alloc, def, id, row) {
         Ok(keys) => keys,
         Err(error) => return Err(error),
     };
-    let old = match old_keys_of(alloc, def, txns, &id) {
+    let old = match old_keys_of(alloc, def, txns, id) {
         Ok(keys) => keys,
         Err(error) => return Err(error),
     };

@@ -1,11 +1,19 @@
 //! The removal of a row.
-ghost use Rattle.std.specs.Prelude.{◌≡◌, false, Some, MatchResult};
-ghost use Rattle.mdb_schema.specs.Write.{remove_row};
+ghost use Rattle.std.specs.Prelude.{◌≡◌, ◌⊎◌, false, Ok, Some, None, MatchResult, length, map};
+ghost use Rattle.mdb_schema.specs.LawfulSchema.{IsLawfulTable};
+ghost use Rattle.mdb_schema.specs.State.{row_at};
+ghost use Rattle.mdb_schema.specs.Tests.{each};
+ghost use Rattle.mdb_schema.specs.Write.{indexes_of, remove_row};
+ghost use Rattle.mdb_schema.specs.declared.write_error.WriteError.TheVariants.{Memory, NotFound};
+ghost use Rattle.radix_txn.specs.Txn.{txn_pairs};
 ghost use Rattle.table_index.specs.Table.{AnswersRemove};
 ghost use Rattle.table_index.specs.inner.Held.{AreSound, AreTrees, nodes_of, rows_held};
-ghost use Rattle.table_index.specs.inner.TreeEdits.{IsRefused, IsWritten};
+ghost use Rattle.table_index.specs.inner.Keys.{full_keys_at};
+ghost use Rattle.table_index.specs.inner.TreeEdits.{IsRefused, IsWritten, without_each};
 
 use crate::edits::delete_each;
+use crate::full_key::RowKeys;
+use crate::id_key::IdKey;
 use crate::refusal::is_memory;
 use crate::row_keys::{full_keys_of, id_key_of};
 use crate::stored::row_at;
@@ -37,6 +45,13 @@ impl TableTxn {
     }
 }
 
+/// A row of the table and its full keys in each index.
+#[derive(Drop)]
+struct StoredRow {
+    row: Row,
+    keys: RowKeys,
+}
+
 /// Takes the row of another's `id` key out of the trees, and gives it.
 fn take_row(
     alloc: Global,
@@ -57,14 +72,49 @@ fn take_row(
         Ok(id) => id,
         Err(error) => return Err(error),
     };
-    let Some(old) = row_at(def, txns, &id) else {
+    match stored_row(alloc, def, txns, &id) {
+        Ok(stored) => delete_stored(txns, stored),
+        Err(error) => Err(error),
+    }
+}
+
+/// Takes the full keys of a row out of the trees, and gives the row. After an error some may be out.
+fn delete_stored(txns: &mut [TreeTxn], stored: StoredRow) -> Result<Row, WriteError>
+    requires sound { AreSound txns.old }
+    requires both { length stored.keys ≡ length txns.old }
+    ensures { let edited = without_each stored.keys (map txn_pairs txns.old) in
+        MatchResult result
+        (λ row. (row ≡ stored.row) × (map txn_pairs txns.new ≡ edited) × AreSound txns.new)
+        (λ e. e ≡ Memory) }
+{
+    delete_each(txns, stored.keys.lists())?;
+    Ok(stored.row)
+}
+
+/// The row of an `id` key and its full keys, if it is there.
+fn stored_row(
+    alloc: Global,
+    def: &TableDef,
+    txns: &[TreeTxn],
+    id: &IdKey,
+) -> Result<StoredRow, WriteError>
+    requires lawful { IsLawfulTable def.now }
+    requires sound { AreSound txns.now }
+    requires held { AreTrees def.now (nodes_of txns.now) }
+    ensures { let here = row_at def.now id.now (rows_held def.now (nodes_of txns.now)) in
+        MatchResult result
+        (λ stored. (here ≡ Some stored.row) × (each (full_keys_at id.now stored.row)
+        (indexes_of def.now) ≡ Ok stored.keys))
+        (λ e. (e ≡ Memory) ⊎ ((here ≡ None) × (e ≡ NotFound))) }
+{
+    let Some(row) = row_at(def, txns, id) else {
         return Err(WriteError::NotFound);
     };
-    let old = old.share()?;
-    let keys = match full_keys_of(alloc, def, &id, &old) {
-        Ok(keys) => keys,
-        Err(error) => return Err(error),
-    };
-    delete_each(txns, keys.lists())?;
-    Ok(old)
+    match full_keys_of(alloc, def, id, row) {
+        Ok(keys) => Ok(StoredRow {
+            row: row.share()?,
+            keys,
+        }),
+        Err(error) => Err(error),
+    }
 }

@@ -1,8 +1,9 @@
 //! The keys of a row in the indexes of a table, with the refusals that come of them.
 ghost use Rattle.std.specs.Prelude.{◌≡◌, ◌<◌, All, IfOk, length};
+ghost use Rattle.mdb_datum.specs.Pairs.{first_item};
 ghost use Rattle.mdb_encode.specs.Keys.{keys};
-ghost use Rattle.mdb_schema.specs.Write.{id_of, indexes_of, keys_at};
-ghost use Rattle.mdb_schema.specs.Tests.{each};
+ghost use Rattle.mdb_schema.specs.Tests.{each, needed};
+ghost use Rattle.mdb_schema.specs.Write.{id_of, indexes_of, keys_at, no_id};
 ghost use Rattle.table_index.specs.inner.Keys.{Answers, IsShort, full_keys_at, told_at};
 
 use crate::full_key::{FullKeys, RowKeys};
@@ -57,14 +58,21 @@ pub(crate) fn id_key_of(alloc: Global, def: &TableDef, row: &Row) -> Result<IdKe
     let Some(index) = def.index(place) else {
         return Err(WriteError::NoId);
     };
-    let found = match keys_in(alloc, told_place(def, place), index, row) {
-        Ok(found) => found,
-        Err(error) => return Err(error),
-    };
-    let Some(key) = found.get(0) else {
-        return Err(WriteError::NoId);
-    };
-    Ok(IdKey::of(alloc, key)?)
+    match keys_in(alloc, told_place(def, place), index, row) {
+        Ok(found) => first_key(alloc, &found),
+        Err(error) => Err(error),
+    }
+}
+
+/// The `id` key of a row that has these keys in the index `id`.
+fn first_key(alloc: Global, found: &Keys) -> Result<IdKey, WriteError>
+    requires short { All IsShort found.now }
+    ensures { Answers (needed no_id (first_item found.now)) result }
+{
+    match found.get(0) {
+        Some(key) => Ok(IdKey::of(alloc, key)?),
+        None => Err(WriteError::NoId),
+    }
 }
 
 /// The full keys of a row in the index at a place, which has to take the row.

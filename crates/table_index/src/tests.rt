@@ -1,5 +1,6 @@
 //! What no clause says: that each call succeeds while there is memory.
 mod ask;
+mod change;
 mod drawn;
 mod further;
 mod long;
@@ -14,8 +15,8 @@ mod words;
 mod worked;
 
 use crate::Table;
-use mdb_datum::{Datum, Items, Row, Text, read_doc};
-use mdb_schema::{Ask, Query, Rows, TableDef, WriteError, read_schema};
+use mdb_datum::{Datum, Items, Row, read_doc};
+use mdb_schema::{Ask, Query, Rows, TableDef, read_schema};
 use std::alloc::Global;
 use std::test::Fail;
 
@@ -48,48 +49,24 @@ fn table_of(alloc: Global, schema: &str) -> Result<Table, Fail> {
     Ok(Table::empty(alloc, &def_of(alloc, schema)?)?)
 }
 
-/// A table of the schema, without rows.
-fn empty_table(alloc: Global) -> Result<Table, Fail> {
-    table_of(alloc, SCHEMA)
+/// Fails with a name where something else was found.
+fn right(found: bool, name: &'static str) -> Result<(), Fail> {
+    if found { Ok(()) } else { Err(Fail::from(name)) }
 }
 
-#[test]
-fn an_empty_table_has_no_row_to_remove(rt: HostRuntime) -> Result<(), Fail> {
-    let row = row_of(rt.alloc(), "{\"name\":\"ann\",\"tags\":[\"a\"]}")?;
-    let mut txn = table_of(rt.alloc(), SCHEMA)?.txn()?;
-    let removed = txn.remove(&row);
-    if matches!(removed, Err(WriteError::Memory)) {
-        return Err(Fail::from("no memory"));
-    }
-    assert!(rt; matches!(removed, Err(WriteError::NotFound)));
-    assert!(rt; !txn.spoiled());
-    drop(txn.stand()?);
-    drop(txn.freeze()?);
-    Ok(())
-}
-
-#[test]
-fn a_row_without_its_key_is_refused(rt: HostRuntime) -> Result<(), Fail> {
-    let row = row_of(rt.alloc(), "{\"tags\":[]}")?;
-    let mut txn = table_of(rt.alloc(), SCHEMA)?.txn()?;
-    assert!(rt; matches!(txn.remove(&row), Err(WriteError::NoId)));
-    Ok(())
-}
-
-/// A question of an index, without arguments.
-fn query_of(alloc: Global, table: &str, index: &str) -> Result<Query, Fail> {
-    let table = Text::of(alloc, table)?;
-    let index = Text::of(alloc, index)?;
-    Ok(Query::of(alloc, Ask::Lower, &table, &index, Items::new(alloc))?)
+/// Whether a question keeps its parts.
+fn keeps_parts(query: &Query) -> bool {
+    query.ask() == Ask::Lower
+        && query.table().as_str() == "t"
+        && query.index().as_str() == "id_prefix"
+        && query.args().len() == 0
 }
 
 #[test]
 fn a_question_keeps_its_parts(rt: HostRuntime) -> Result<(), Fail> {
-    let query = query_of(rt.alloc(), "t", "id_prefix")?;
-    assert!(rt; query.ask() == Ask::Lower && query.args().len() == 0);
-    assert!(rt; query.table().as_str() == "t");
-    assert!(rt; query.index().as_str() == "id_prefix");
-    Ok(())
+    let args = Items::new(rt.alloc());
+    let query = ask::query_of(rt.alloc(), Ask::Lower, "id_prefix", args)?;
+    right(keeps_parts(&query), "other parts")
 }
 
 /// Whether the row at a place has this name.
@@ -100,12 +77,20 @@ fn is_named(rows: &Rows, at: usize, want: &str) -> bool {
     }
 }
 
+/// Adds a row of this text.
+fn push_row(alloc: Global, rows: &mut Rows, text: &str) -> Result<(), Fail> {
+    rows.push(row_of(alloc, text)?)?;
+    Ok(())
+}
+
 #[test]
 fn rows_are_kept_in_order(rt: HostRuntime) -> Result<(), Fail> {
     let mut rows = Rows::new(rt.alloc());
-    rows.push(row_of(rt.alloc(), "{\"name\":\"b\"}")?)?;
-    rows.push(row_of(rt.alloc(), "{\"name\":\"a\"}")?)?;
-    assert!(rt; rows.len() == 2 && rows.iter().count() == 2);
-    assert!(rt; is_named(&rows, 0, "b") && is_named(&rows, 1, "a") && rows.get(2).is_none());
-    Ok(())
+    push_row(rt.alloc(), &mut rows, "{\"name\":\"b\"}")?;
+    push_row(rt.alloc(), &mut rows, "{\"name\":\"a\"}")?;
+    let order = is_named(&rows, 0, "b") && is_named(&rows, 1, "a") && rows.get(2).is_none();
+    right(
+        order && rows.len() == 2 && rows.iter().count() == 2,
+        "another order",
+    )
 }

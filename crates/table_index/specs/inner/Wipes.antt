@@ -1,11 +1,11 @@
 -- What a wipe does to the trees of a table.
-use Rattle.std.specs.Prelude.{◌≡◌, ◌⊎◌, ◌||◌, ℕ, zero, suc, Bool, true, false, List, [], ◌∷◌}
-use Rattle.std.specs.Prelude.{if◌then◌else◌, Contains, length, map, slice_get, codes, nat_eq}
-use Rattle.std.specs.Prelude.{Option, Some, None, is_some, Ok, Err}
+use Rattle.std.specs.Prelude.{◌≡◌, ◌⊎◌, ◌||◌, ◌++◌, ℕ, zero, suc, Bool, true, false, List, [], ◌∷◌}
+use Rattle.std.specs.Prelude.{if◌then◌else◌, Contains, map, slice_get, codes, nat_eq}
+use Rattle.std.specs.Prelude.{Option, Some, None, is_some, Result, Ok, Err, MatchResult}
 use Rattle.mdb_datum.specs.Pairs.{rows_of, with_prefix}
 use Rattle.mdb_datum.specs.Row.{Fields, Pair}
 use Rattle.mdb_encode.specs.Bytes.{Bytes}
-use Rattle.mdb_schema.specs.Answer.{Asked, AskRefusal}
+use Rattle.mdb_schema.specs.Answer.{Asked, AskRefusal, Lookup}
 use Rattle.mdb_schema.specs.Entries.{entries}
 use Rattle.mdb_schema.specs.Refusals.{ask_error}
 use Rattle.mdb_schema.specs.Schema.{IndexSchema, TableSchema, index_place}
@@ -49,6 +49,12 @@ is_there t cut id es = holds_at cut id es (index_place (codes "id") t.indexes)
 abbrev pub IsStored : TableSchema → Fields → Type 0
 IsStored t row = (i : IndexSchema) → Contains t.indexes i → Takes row i
 
+-- the full keys of a row are out of the trees
+pub record IsOut (t : TableSchema) (row : Fields) (before after : List Txn) : Type 0 where
+  pub pairs : map txn_pairs after
+      ≡ without_each (map (λ i. full_keys t i row) t.indexes) (map txn_pairs before)
+  pub sound : AreSound after
+
 -- a listed row is taken out of the trees if it is still there
 pub record IsTaking (t : TableSchema) (cut : ℕ) (row : Fields) (taken : Bool)
     (before after : List Txn) : Type 0 where
@@ -58,10 +64,17 @@ pub record IsTaking (t : TableSchema) (cut : ℕ) (row : Fields) (taken : Bool)
       else map txn_pairs before)
   pub sound : AreSound after
 
--- so many rows are out of the trees, those of a list, and the trees hold the entries of the others
-pub record IsWiped (t : TableSchema) (gone : List Fields) (n : ℕ) (before after : List Txn)
+-- the same, and then it is added to the rows that are out
+pub record IsMoved (t : TableSchema) (cut : ℕ) (row : Fields) (before after : List Txn)
+    (old new : List Fields) : Type 0 where
+  pub taken : Bool
+  pub taking : IsTaking t cut row taken before after
+  pub gone : new ≡ (if taken then old ++ row ∷ [] else old)
+
+-- the rows of a list are out of the trees, which hold the entries of the others
+pub record IsWiped (t : TableSchema) (gone taken : List Fields) (before after : List Txn)
     : Type 0 where
-  pub count : n ≡ length gone
+  pub each : taken ≡ gone
   pub held : AreTrees t (nodes_of after)
   pub rows : rows_held t (nodes_of after) ≡ without_rows t gone (rows_held t (nodes_of before))
   pub sound : AreSound after
@@ -70,6 +83,11 @@ pub record IsWiped (t : TableSchema) (gone : List Fields) (n : ℕ) (before afte
 abbrev pub wipe_error : AskError → WipeError
 wipe_error ask_errors.Memory = Memory
 wipe_error e = Refused e
+
+-- where a wipe looks, or want of memory; a refusal is always told
+abbrev pub AnswersTarget : Asked Lookup → Result Lookup WipeError → Type 0
+AnswersTarget (Ok at) result = MatchResult result (λ l. l ≡ at) (λ e. e ≡ Memory)
+AnswersTarget (Err why) result = result ≡ Err (Refused (ask_error why))
 
 -- the error is want of memory
 abbrev pub wants_memory : WipeError → Bool

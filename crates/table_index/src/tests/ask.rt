@@ -1,5 +1,5 @@
 // Questions of a table without rows: what each is answered, and each refusal.
-use super::table_of;
+use super::{right, table_of};
 use crate::Table;
 use mdb_datum::{Datum, Items, Text, read_doc};
 use mdb_schema::{Answer, Ask, AskError, Query};
@@ -14,7 +14,7 @@ const SCHEMA: &str = "{\"memdb\":1,\"tables\":{\"t\":{\"indexes\":{\
 
 /// Questions that are refused, each with its refusal: what is asked, of which index, and with which
 /// arguments.
-const REFUSED: [(Ask, &str, &str, AskError); 8] = [
+const REFUSED: [(Ask, &str, &'static str, AskError); 8] = [
     (Ask::Longest, "id", "[\"a\"]", AskError::NoPrefixName),
     (Ask::First, "idle", "[]", AskError::UnknownIndex),
     (Ask::Longest, "tags_prefix", "[]", AskError::NotUnique),
@@ -26,7 +26,7 @@ const REFUSED: [(Ask, &str, &str, AskError); 8] = [
 ];
 
 /// Questions that are answered, and whether by a list.
-const ANSWERED: [(Ask, &str, &str, bool); 9] = [
+const ANSWERED: [(Ask, &'static str, &str, bool); 9] = [
     (Ask::First, "id", "[\"a\"]", false),
     (Ask::First, "id_prefix", "[\"\"]", false),
     (Ask::Last, "tags", "[]", false),
@@ -53,25 +53,25 @@ pub fn query_of(alloc: Global, ask: Ask, index: &str, args: Items) -> Result<Que
     Ok(Query::of(alloc, ask, &table, &index, args)?)
 }
 
+/// A question of the table, with the arguments that a text lists.
+pub fn asked(alloc: Global, ask: Ask, index: &str, args: &str) -> Result<Query, Fail> {
+    query_of(alloc, ask, index, args_of(alloc, args)?)
+}
+
 /// Whether a question is refused so.
-fn is_refused(
-    alloc: Global,
-    table: &Table,
-    case: &(Ask, &str, &str, AskError),
-) -> Result<bool, Fail> {
-    let query = query_of(alloc, case.0, case.1, args_of(alloc, case.2)?)?;
-    match table.ask(&query) {
-        Ok(_) => Ok(false),
-        Err(error) => Ok(error == case.3),
+fn is_refused(table: &Table, query: &Query, want: AskError) -> bool {
+    match table.ask(query) {
+        Ok(_) => false,
+        Err(error) => error == want,
     }
 }
 
-/// Whether a question is answered by no row.
-fn is_empty(alloc: Global, table: &Table, case: &(Ask, &str, &str, bool)) -> Result<bool, Fail> {
-    let query = query_of(alloc, case.0, case.1, args_of(alloc, case.2)?)?;
-    match table.ask(&query)? {
-        Answer::One(row) => Ok(row.is_none() && !case.3),
-        Answer::Many(rows) => Ok(rows.len() == 0 && case.3),
+/// Whether a question is answered by no row, and whether by a list.
+fn is_empty(table: &Table, query: &Query, by_list: bool) -> bool {
+    match table.ask(query) {
+        Ok(Answer::One(row)) => row.is_none() && !by_list,
+        Ok(Answer::Many(rows)) => rows.len() == 0 && by_list,
+        Err(_) => false,
     }
 }
 
@@ -96,12 +96,8 @@ fn is_too_long(alloc: Global, table: &Table, count: usize) -> Result<bool, Fail>
 fn a_question_that_breaks_a_rule_is_refused(rt: HostRuntime) -> Result<(), Fail> {
     let table = table_of(rt.alloc(), SCHEMA)?;
     for case in &REFUSED {
-        assert!(rt;
-            is_refused(rt.alloc(), &table, case)?,
-            "{} {}",
-            case.1,
-            case.2
-        );
+        let query = asked(rt.alloc(), case.0, case.1, case.2)?;
+        right(is_refused(&table, &query, case.3), case.2)?;
     }
     Ok(())
 }
@@ -109,21 +105,16 @@ fn a_question_that_breaks_a_rule_is_refused(rt: HostRuntime) -> Result<(), Fail>
 #[test]
 fn a_key_of_1025_bytes_is_too_long(rt: HostRuntime) -> Result<(), Fail> {
     let table = table_of(rt.alloc(), SCHEMA)?;
-    assert!(rt; !is_too_long(rt.alloc(), &table, 1023)?);
-    assert!(rt; is_too_long(rt.alloc(), &table, 1024)?);
-    Ok(())
+    right(!is_too_long(rt.alloc(), &table, 1023)?, "1024 bytes")?;
+    right(is_too_long(rt.alloc(), &table, 1024)?, "1025 bytes")
 }
 
 #[test]
 fn a_table_without_rows_answers_with_none(rt: HostRuntime) -> Result<(), Fail> {
     let table = table_of(rt.alloc(), SCHEMA)?.share()?;
     for case in &ANSWERED {
-        assert!(rt;
-            is_empty(rt.alloc(), &table, case)?,
-            "{} {}",
-            case.1,
-            case.2
-        );
+        let query = asked(rt.alloc(), case.0, case.1, case.2)?;
+        right(is_empty(&table, &query, case.3), case.1)?;
     }
     Ok(())
 }

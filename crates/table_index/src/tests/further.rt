@@ -1,5 +1,5 @@
 //! Rows that share keys, list a key twice, or meet in a joined key.
-use super::played::told;
+use super::played::show;
 use std::test::Fail;
 
 /// The new row has the mail and the tag `b` of the old one, and neither its age nor its tag `a`.
@@ -19,9 +19,7 @@ get id [] => rows 1 {"age":2,"name":"ann"}
 
 #[test]
 fn a_replaced_row_leaves_no_key_of_its_own(rt: HostRuntime) -> Result<(), Fail> {
-    let answers = told(rt.alloc(), "users", REPLACED)?;
-    assert!(rt; answers.as_str() == REPLACED, "{answers}");
-    Ok(())
+    show(rt.alloc(), "users", REPLACED)
 }
 
 /// A tag is stored with the name behind it: that of both rows is `a 00 b 00 c 00`.
@@ -36,9 +34,7 @@ first tags ["a\u0000b"] => row {"age":2,"name":"c","tags":["d","a\u0000b"]}
 
 #[test]
 fn two_rows_of_one_joined_key_are_refused(rt: HostRuntime) -> Result<(), Fail> {
-    let answers = told(rt.alloc(), "users", JOINED)?;
-    assert!(rt; answers.as_str() == JOINED, "{answers}");
-    Ok(())
+    show(rt.alloc(), "users", JOINED)
 }
 
 /// The row stands once under each tag, and is counted once by a wipe.
@@ -59,7 +55,27 @@ get id [] => rows 0
 
 #[test]
 fn a_repeated_key_counts_once(rt: HostRuntime) -> Result<(), Fail> {
-    let answers = told(rt.alloc(), "users", REPEATED)?;
-    assert!(rt; answers.as_str() == REPEATED, "{answers}");
-    Ok(())
+    show(rt.alloc(), "users", REPEATED)
+}
+
+/// The rows of a wipe come in the order of their first listing, each once.
+const TAKEN: &str = r#"insert {"name":"ann","age":2,"tags":["c","b"]} => inserted
+insert {"name":"bob","age":1,"tags":["a","ab","d"]} => inserted
+insert {"name":"cy","age":1,"tags":["ab"]} => inserted
+insert {"name":"dan","age":1} => inserted
+get tags [] => rows 6 {"age":1,"name":"bob","tags":["a","ab","d"]} {"age":1,"name":"bob","tags":["a","ab","d"]} {"age":1,"name":"cy","tags":["ab"]} {"age":2,"name":"ann","tags":["c","b"]} {"age":2,"name":"ann","tags":["c","b"]} {"age":1,"name":"bob","tags":["a","ab","d"]}
+take-prefix tags_prefix ["b"] => rows 1 {"age":2,"name":"ann","tags":["c","b"]}
+take-prefix tags ["a"] => refused no-prefix-name
+take-all tags ["x"] => rows 0
+take-all tags [] => rows 2 {"age":1,"name":"bob","tags":["a","ab","d"]} {"age":1,"name":"cy","tags":["ab"]}
+insert {"name":"ann","age":2} => inserted
+insert {"name":"eve","age":1} => inserted
+get age [] => rows 3 {"age":1,"name":"dan"} {"age":1,"name":"eve"} {"age":2,"name":"ann"}
+take-all age [] => rows 3 {"age":1,"name":"dan"} {"age":1,"name":"eve"} {"age":2,"name":"ann"}
+get id [] => rows 0
+"#;
+
+#[test]
+fn a_wipe_gives_its_rows_as_first_listed(rt: HostRuntime) -> Result<(), Fail> {
+    show(rt.alloc(), "users", TAKEN)
 }

@@ -1,17 +1,18 @@
 //! Rows of the longest keys and of the most, and of one too many.
 use super::played::{play, table_named};
+use super::right;
 use crate::TableTxn;
 use std::alloc::{AllocError, Global};
 use std::test::Fail;
 
 /// How many letters a name has, and how its insert is answered. The key has one byte more.
-const NAMES: [(usize, &str); 2] = [
+const NAMES: [(usize, &'static str); 2] = [
     (1_023, " => inserted\n"),
     (1_024, " => refused too-long id\n"),
 ];
 
 /// How many tags a row has, and how its insert is answered.
-const TAGS: [(usize, &str); 2] = [
+const TAGS: [(usize, &'static str); 2] = [
     (256, " => inserted\n"),
     (257, " => refused too-many tags\n"),
 ];
@@ -52,10 +53,7 @@ fn a_name_has_at_most_1023_letters(rt: HostRuntime) -> Result<(), Fail> {
     let mut txn = begun(rt.alloc())?;
     for (count, answer) in &NAMES {
         let command = with_name(rt.alloc(), *count)?;
-        assert!(rt;
-            is_told(rt.alloc(), &mut txn, command.as_str(), answer)?,
-            "{count}"
-        );
+        right(is_told(rt.alloc(), &mut txn, &command, answer)?, answer)?;
     }
     Ok(())
 }
@@ -65,10 +63,7 @@ fn a_row_has_at_most_256_tags(rt: HostRuntime) -> Result<(), Fail> {
     let mut txn = begun(rt.alloc())?;
     for (count, answer) in &TAGS {
         let command = with_tags(rt.alloc(), *count, "last")?;
-        assert!(rt;
-            is_told(rt.alloc(), &mut txn, command.as_str(), answer)?,
-            "{count}"
-        );
+        right(is_told(rt.alloc(), &mut txn, &command, answer)?, answer)?;
     }
     Ok(())
 }
@@ -83,23 +78,28 @@ first id ["n"] => none
 get tags [] => rows 1 {"age":1,"name":"z\u0000n","tags":["last"]}
 "#;
 
-/// Whether a row is refused for the last of its 256 tags, and none of them is stored.
-fn is_refused_for_the_last(alloc: Global) -> Result<bool, Fail> {
-    let mut txn = begun(alloc)?;
+/// Whether a row is refused for the last of its 256 tags.
+fn is_refused_for_the_last(alloc: Global, txn: &mut TableTxn) -> Result<bool, Fail> {
     let command = with_tags(alloc, 256, "last\\u0000z")?;
-    let is_in = is_told(alloc, &mut txn, OTHER, " => inserted\n")?;
-    let is_out = is_told(
-        alloc,
-        &mut txn,
-        command.as_str(),
-        " => refused key-taken tags\n",
-    )?;
-    let left = play(alloc, &mut txn, LEFT)?;
-    Ok(is_in && is_out && left.as_str() == LEFT)
+    is_told(alloc, txn, &command, " => refused key-taken tags\n")
+}
+
+/// Whether none of its tags is stored.
+fn is_left(alloc: Global, txn: &mut TableTxn) -> Result<bool, Fail> {
+    let left = play(alloc, txn, LEFT)?;
+    Ok(left.as_str() == LEFT)
 }
 
 #[test]
 fn the_last_of_256_tags_may_be_taken(rt: HostRuntime) -> Result<(), Fail> {
-    assert!(rt; is_refused_for_the_last(rt.alloc())?);
-    Ok(())
+    let mut txn = begun(rt.alloc())?;
+    right(
+        is_told(rt.alloc(), &mut txn, OTHER, " => inserted\n")?,
+        "the other row",
+    )?;
+    right(
+        is_refused_for_the_last(rt.alloc(), &mut txn)?,
+        "the refused row",
+    )?;
+    right(is_left(rt.alloc(), &mut txn)?, "what is left")
 }

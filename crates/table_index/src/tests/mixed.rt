@@ -4,7 +4,7 @@ ghost use Rattle.std.specs.Prelude.{◌≡◌, false};
 
 use super::drawn::{NAMES, Question, Random, SCHEMA, Write, whole};
 use super::plain::PlainTable;
-use super::{def_of, table_of};
+use super::{def_of, right, table_of};
 use crate::{Table, TableTxn, WipeError};
 use mdb_datum::Row;
 use mdb_schema::{Answer, AskError, Rows, WriteError};
@@ -137,7 +137,8 @@ fn write_both(
     }
 }
 
-fn stand(txn: &mut TableTxn) -> Result<Table, Fail> {
+/// The present table.
+pub fn stand(txn: &mut TableTxn) -> Result<Table, Fail> {
     if txn.spoiled() {
         return Err(Fail::from("no memory"));
     }
@@ -160,6 +161,28 @@ fn are_drawn_alike(
     Ok(true)
 }
 
+/// Whether a drawn write is answered alike.
+fn write_drawn(
+    alloc: Global,
+    random: &mut Random,
+    txn: &mut TableTxn,
+    plain: &mut PlainTable,
+) -> Result<bool, Fail> {
+    let write = random.write(alloc)?;
+    write_both(txn, plain, alloc, &write)
+}
+
+/// Whether both hold the same rows, and answer drawn questions alike.
+fn are_alike(
+    alloc: Global,
+    random: &mut Random,
+    txn: &mut TableTxn,
+    plain: &PlainTable,
+) -> Result<bool, Fail> {
+    let table = stand(txn)?;
+    Ok(are_listed_alike(alloc, &table, plain)? && are_drawn_alike(alloc, random, &table, plain)?)
+}
+
 /// Whether a drawn write is answered alike, and leaves the same rows.
 fn step_both(
     alloc: Global,
@@ -167,26 +190,31 @@ fn step_both(
     txn: &mut TableTxn,
     plain: &mut PlainTable,
 ) -> Result<bool, Fail> {
-    let write = random.write(alloc)?;
-    let same = write_both(txn, plain, alloc, &write)?;
-    let table = stand(txn)?;
-    Ok(
-        same && are_listed_alike(alloc, &table, plain)?
-            && are_drawn_alike(alloc, random, &table, plain)?,
-    )
+    Ok(write_drawn(alloc, random, txn, plain)? && are_alike(alloc, random, txn, plain)?)
+}
+
+/// Makes drawn writes in both, until one is told otherwise.
+fn run_both(
+    alloc: Global,
+    txn: &mut TableTxn,
+    plain: &mut PlainTable,
+    steps: u64,
+) -> Result<bool, Fail> {
+    let mut random = Random(0x9e37_79b9_7f4a_7c15);
+    for _ in 0..steps {
+        if !step_both(alloc, &mut random, txn, plain)? {
+            return Ok(false);
+        }
+    }
+    Ok(true)
 }
 
 #[test]
 fn a_long_run_is_as_on_a_plain_list(rt: HostRuntime) -> Result<(), Fail> {
-    let alloc = rt.alloc();
-    let mut random = Random(0x9e37_79b9_7f4a_7c15);
-    let mut txn = table_of(alloc, SCHEMA)?.txn()?;
-    let mut plain = PlainTable::empty(alloc, def_of(alloc, SCHEMA)?);
-    for step in 0..2_000u64 {
-        assert!(rt;
-            step_both(alloc, &mut random, &mut txn, &mut plain)?,
-            "{step}"
-        );
-    }
-    Ok(())
+    let mut txn = table_of(rt.alloc(), SCHEMA)?.txn()?;
+    let mut plain = PlainTable::empty(rt.alloc(), def_of(rt.alloc(), SCHEMA)?);
+    right(
+        run_both(rt.alloc(), &mut txn, &mut plain, 2_000)?,
+        "another answer",
+    )
 }

@@ -2,10 +2,11 @@
 //!
 //! A line is `WORD ROW => ANSWER` or `WORD INDEX ARGUMENTS => ANSWER`, in the words of client files
 //! without the table's name; `docs/FORMATS.md` has the words. The rows of an answer follow its
-//! number on the same line.
+//! number on the same line. Beside those words `take-all` and `take-prefix` are the wipes that give
+//! their rows.
 ghost use Rattle.std.specs.Prelude.{◌≡◌, false};
 
-use super::ask::{args_of, query_of};
+use super::ask::asked;
 use super::row_of;
 use super::words::{ask_of, ask_word, told_index, write_word};
 use crate::{Table, TableTxn, WipeError};
@@ -38,26 +39,37 @@ pub fn table_named(alloc: Global, name: &str) -> Result<Table, AllocError> {
     }
 }
 
-/// What a script is told as on a table without rows: its lines, with the answers that come.
-pub fn told(alloc: Global, table: &str, script: &str) -> Result<String, Fail> {
+/// Plays a script on a table without rows. It fails with the lines and the answers that came where
+/// they are others.
+pub fn show(alloc: Global, table: &str, script: &str) -> Result<(), Fail> {
     let mut txn = table_named(alloc, table)?.txn()?;
-    play(alloc, &mut txn, script)
+    let answers = play(alloc, &mut txn, script)?;
+    if answers.as_str() == script {
+        Ok(())
+    } else {
+        Err(Fail::from(answers))
+    }
 }
 
 /// The lines of a script with the answers that come. A line without an answer gets one.
 pub fn play(alloc: Global, txn: &mut TableTxn, script: &str) -> Result<String, Fail> {
     let mut out = String::new(alloc);
     for line in script.lines() {
-        let command = match line.split_once(" => ") {
-            Some((command, _)) => command,
-            None => line,
-        };
-        out.push_str(command)?;
-        out.push_str(" => ")?;
-        tell(alloc, txn, command, &mut out)?;
-        out.push('\n')?;
+        tell_line(alloc, txn, line, &mut out)?;
     }
     Ok(out)
+}
+
+/// Adds a line's command, with the answer that comes.
+fn tell_line(alloc: Global, txn: &mut TableTxn, line: &str, out: &mut String) -> Result<(), Fail> {
+    let command = match line.split_once(" => ") {
+        Some((command, _)) => command,
+        None => line,
+    };
+    out.push_str(command)?;
+    out.push_str(" => ")?;
+    tell(alloc, txn, command, out)?;
+    Ok(out.push('\n')?)
 }
 
 /// Adds what a command answers.
@@ -127,11 +139,20 @@ fn tell_listed(
         return Err(Fail::from("no arguments"));
     };
     let ask = ask_of(word).unwrap_or(Ask::Get);
-    let query = query_of(alloc, ask, index, args_of(alloc, args)?)?;
+    let query = asked(alloc, ask, index, args)?;
+    tell_query(txn, word, &query, out)
+}
+
+/// Adds what a wipe or a question answers.
+fn tell_query(txn: &mut TableTxn, word: &str, query: &Query, out: &mut String) -> Result<(), Fail>
+    requires sound { txn.old.spoiled ≡ false }
+{
     match word {
-        "delete-all" => tell_wipe(txn.remove_all(&query), out),
-        "delete-prefix" => tell_wipe(txn.remove_prefix(&query), out),
-        _ => tell_question(txn, &query, out),
+        "delete-all" => tell_wipe(txn.remove_all(query), out),
+        "delete-prefix" => tell_wipe(txn.remove_prefix(query), out),
+        "take-all" => tell_taken(txn.take_all(query), out),
+        "take-prefix" => tell_taken(txn.take_prefix(query), out),
+        _ => tell_answer(txn.ask(query), out),
     }
 }
 
@@ -143,10 +164,17 @@ fn tell_wipe(answer: Result<u64, WipeError>, out: &mut String) -> Result<(), Fai
     }
 }
 
-fn tell_question(txn: &mut TableTxn, query: &Query, out: &mut String) -> Result<(), Fail>
-    requires sound { txn.old.spoiled ≡ false }
-{
-    match txn.stand()?.ask(query) {
+fn tell_taken(answer: Result<Rows, WipeError>, out: &mut String) -> Result<(), Fail> {
+    match answer {
+        Ok(rows) => tell_rows(&rows, out),
+        Err(WipeError::Refused(error)) => tell_refused_question(error, out),
+        Err(_) => Err(Fail::from("no memory")),
+    }
+}
+
+/// Adds the answer to a question.
+pub fn tell_answer(answer: Result<Answer, AskError>, out: &mut String) -> Result<(), Fail> {
+    match answer {
         Ok(Answer::One(Some(row))) => {
             out.push_str("row")?;
             tell_row(&row, out)

@@ -1,8 +1,12 @@
 //! Rows put, replaced and refused, told by the writes that come after them.
 ghost use Rattle.std.specs.Prelude.{◌≡◌, false, IfOk, OnOk};
 
-use super::*;
+use super::{right, row_of, table_of};
 use crate::TableTxn;
+use mdb_datum::Row;
+use mdb_schema::WriteError;
+use std::alloc::Global;
+use std::test::Fail;
 
 /// A table of a unique index beside `id`, and of two that aren't unique.
 const SCHEMA: &str = r#"{"memdb":1,"tables":{"t":{"indexes":{
@@ -112,8 +116,7 @@ const REPLACED: [Step; 8] = [
 
 #[test]
 fn a_row_replaces_that_of_its_id(rt: HostRuntime) -> Result<(), Fail> {
-    assert!(rt; are_answered(rt.alloc(), &REPLACED)?);
-    Ok(())
+    right(are_answered(rt.alloc(), &REPLACED)?, "another answer")
 }
 
 /// Keys that another row has. A group is stored with the `id` key behind it, and so is told apart
@@ -139,8 +142,7 @@ const TAKEN: [Step; 7] = [
 
 #[test]
 fn a_key_of_another_row_is_taken(rt: HostRuntime) -> Result<(), Fail> {
-    assert!(rt; are_answered(rt.alloc(), &TAKEN)?);
-    Ok(())
+    right(are_answered(rt.alloc(), &TAKEN)?, "another answer")
 }
 
 /// Rows that break two rules.
@@ -158,6 +160,5 @@ const ORDER: [Step; 5] = [
 
 #[test]
 fn the_first_rule_that_is_broken_is_told(rt: HostRuntime) -> Result<(), Fail> {
-    assert!(rt; are_answered(rt.alloc(), &ORDER)?);
-    Ok(())
+    right(are_answered(rt.alloc(), &ORDER)?, "another answer")
 }

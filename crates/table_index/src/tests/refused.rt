@@ -1,5 +1,6 @@
 //! A refused write leaves what each index lists.
 use super::played::{play, table_named};
+use super::right;
 use crate::TableTxn;
 use std::alloc::Global;
 use std::test::Fail;
@@ -48,16 +49,22 @@ fn filled(alloc: Global) -> Result<TableTxn, Fail> {
 /// Whether a line is answered as it says, and each index lists the same after it.
 fn leaves_all(alloc: Global, txn: &mut TableTxn, line: &str) -> Result<bool, Fail> {
     let before = play(alloc, txn, EACH_INDEX)?;
-    let answer = play(alloc, txn, line)?;
+    let same = is_answered(alloc, txn, line)?;
     let after = play(alloc, txn, EACH_INDEX)?;
-    Ok(before == after && answer.as_str().strip_suffix('\n') == Some(line))
+    Ok(same && before == after)
+}
+
+/// Whether a line is answered as it says.
+fn is_answered(alloc: Global, txn: &mut TableTxn, line: &str) -> Result<bool, Fail> {
+    let answer = play(alloc, txn, line)?;
+    Ok(answer.as_str().strip_suffix('\n') == Some(line))
 }
 
 #[test]
 fn a_refused_write_leaves_each_index(rt: HostRuntime) -> Result<(), Fail> {
     let mut txn = filled(rt.alloc())?;
     for line in REFUSED.lines() {
-        assert!(rt; leaves_all(rt.alloc(), &mut txn, line)?, "{line}");
+        right(leaves_all(rt.alloc(), &mut txn, line)?, line)?;
     }
     Ok(())
 }

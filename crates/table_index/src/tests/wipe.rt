@@ -1,9 +1,12 @@
 //! Wipes, told by their counts and by those of the wipes that come after them.
 ghost use Rattle.std.specs.Prelude.{◌≡◌, false, IfOk, OnOk};
 
-use super::*;
-use crate::{TableTxn, WipeError};
-use mdb_schema::AskError;
+use super::ask::asked;
+use super::{SCHEMA, right, row_of, table_of};
+use crate::{Table, TableTxn, WipeError};
+use mdb_schema::{Ask, AskError, Query};
+use std::alloc::Global;
+use std::test::Fail;
 
 /// Rows of which one has two tags that begin with `a`, and one has none.
 const ROWS: [&str; 4] = [
@@ -37,29 +40,18 @@ fn filled(alloc: Global, rows: &[&str]) -> Result<TableTxn, Fail>
     Ok(txn)
 }
 
-/// A question with an argument, or with none where that is empty. Its word doesn't matter to a wipe.
-fn question(alloc: Global, index: &str, arg: &str) -> Result<Query, Fail> {
-    let mut args = Items::new(alloc);
-    if arg != "" {
-        args.push(Datum::Str(Text::of(alloc, arg)?))?;
-    }
-    let table = Text::of(alloc, "t")?;
-    let index = Text::of(alloc, index)?;
-    Ok(Query::of(alloc, Ask::First, &table, &index, args)?)
-}
-
 /// How many rows a wipe takes out.
 fn wiped(
     alloc: Global,
     txn: &mut TableTxn,
     by_prefix: bool,
     index: &str,
-    arg: &str,
+    args: &str,
 ) -> Result<u64, Fail>
     requires sound { txn.old.spoiled ≡ false }
     ensures sound { OnOk result (txn.new.spoiled ≡ false) }
 {
-    let query = question(alloc, index, arg)?;
+    let query = asked(alloc, Ask::First, index, args)?;
     let told = if by_prefix {
         txn.remove_prefix(&query)
     } else {
@@ -71,57 +63,99 @@ fn wiped(
     }
 }
 
-/// A wipe, by prefix or not, of an index and an argument, with the number of its rows; then how many
+/// A wipe, by prefix or not, of an index and arguments, with the number of its rows; then how many
 /// rows with tags are left, and how many others.
 type Case = (bool, &'static str, &'static str, u64, u64, u64);
 
 const CASES: [Case; 6] = [
-    (true, "tags_prefix", "a", 2, 1, 1),
-    (false, "tags_prefix", "a", 2, 1, 1),
-    (false, "tags", "b", 2, 1, 1),
-    (true, "id_prefix", "a", 2, 2, 0),
-    (false, "id", "", 4, 0, 0),
-    (false, "tags", "zz", 0, 3, 1),
+    (true, "tags_prefix", "[\"a\"]", 2, 1, 1),
+    (false, "tags_prefix", "[\"a\"]", 2, 1, 1),
+    (false, "tags", "[\"b\"]", 2, 1, 1),
+    (true, "id_prefix", "[\"a\"]", 2, 2, 0),
+    (false, "id", "[]", 4, 0, 0),
+    (false, "tags", "[\"zz\"]", 0, 3, 1),
 ];
 
 /// Whether a wipe takes out so many rows, and leaves so many.
 fn is_right(alloc: Global, case: &Case) -> Result<bool, Fail> {
     let mut txn = filled(alloc, &ROWS)?;
     let count = wiped(alloc, &mut txn, case.0, case.1, case.2)?;
-    let tagged = wiped(alloc, &mut txn, false, "tags", "")?;
-    let others = wiped(alloc, &mut txn, false, "id", "")?;
+    let tagged = wiped(alloc, &mut txn, false, "tags", "[]")?;
+    let others = wiped(alloc, &mut txn, false, "id", "[]")?;
     Ok(count == case.3 && tagged == case.4 && others == case.5)
 }
 
 #[test]
 fn each_listed_row_goes_once(rt: HostRuntime) -> Result<(), Fail> {
     for case in &CASES {
-        assert!(rt; is_right(rt.alloc(), case)?, "{}", case.1);
+        right(is_right(rt.alloc(), case)?, case.1)?;
     }
     Ok(())
 }
 
-/// Whether a wipe is refused so, and the change isn't spoiled.
-fn is_refused(alloc: Global, by_prefix: bool, index: &str, want: AskError) -> Result<bool, Fail> {
-    let query = question(alloc, index, "")?;
-    let mut txn = table_of(alloc, SCHEMA)?.txn()?;
-    let told = if by_prefix {
-        txn.remove_prefix(&query)
+/// Wipes that are refused, each by its rule: by prefix or not, of an index, with arguments.
+const REFUSED: [(bool, &'static str, &str, AskError); 5] = [
+    (false, "age", "[]", AskError::UnknownIndex),
+    (true, "id", "[1]", AskError::NoPrefixName),
+    (true, "age_prefix", "[]", AskError::UnknownIndex),
+    (false, "tags", "[1]", AskError::ArgKind),
+    (false, "id", "[\"a\",\"b\"]", AskError::ArgCount),
+];
+
+/// Why a wipe is refused, as a table tells it before a change.
+fn checked(table: &Table, by_prefix: bool, query: &Query) -> Option<WipeError> {
+    if by_prefix {
+        table.check_take_prefix(query).err()
     } else {
-        txn.remove_all(&query)
-    };
-    Ok(!txn.spoiled() && told == Err(WipeError::Refused(want)))
+        table.check_take_all(query).err()
+    }
+}
+
+/// Why a wipe is refused.
+fn taken(txn: &mut TableTxn, by_prefix: bool, query: &Query) -> Option<WipeError>
+    requires sound { txn.old.spoiled ≡ false }
+{
+    if by_prefix {
+        txn.take_prefix(query).err()
+    } else {
+        txn.take_all(query).err()
+    }
+}
+
+/// Whether a wipe is refused so, before a change and in one, which isn't spoiled.
+fn is_refused(
+    alloc: Global,
+    table: &Table,
+    case: &(bool, &str, &str, AskError),
+) -> Result<bool, Fail> {
+    let query = asked(alloc, Ask::Longest, case.1, case.2)?;
+    let want = Some(WipeError::Refused(case.3));
+    let mut txn = table.txn()?;
+    let same = checked(table, case.0, &query) == want && taken(&mut txn, case.0, &query) == want;
+    Ok(same && !txn.spoiled())
 }
 
 #[test]
-fn a_wrong_name_is_refused(rt: HostRuntime) -> Result<(), Fail> {
-    assert!(rt;
-        is_refused(rt.alloc(), false, "age", AskError::UnknownIndex)?,
-        "age"
-    );
-    assert!(rt;
-        is_refused(rt.alloc(), true, "id", AskError::NoPrefixName)?,
-        "id"
-    );
+fn a_broken_rule_is_told_before_a_change(rt: HostRuntime) -> Result<(), Fail> {
+    let table = table_of(rt.alloc(), SCHEMA)?;
+    for case in &REFUSED {
+        right(is_refused(rt.alloc(), &table, case)?, case.1)?;
+    }
     Ok(())
+}
+
+/// Whether a wipe of a whole index breaks no rule.
+fn is_allowed(alloc: Global, table: &Table, by_prefix: bool, index: &str) -> Result<bool, Fail> {
+    let query = asked(alloc, Ask::Longest, index, "[]")?;
+    Ok(checked(table, by_prefix, &query).is_none())
+}
+
+#[test]
+fn a_wipe_without_rows_is_allowed(rt: HostRuntime) -> Result<(), Fail> {
+    let table = table_of(rt.alloc(), SCHEMA)?;
+    right(is_allowed(rt.alloc(), &table, false, "tags")?, "by name")?;
+    right(
+        is_allowed(rt.alloc(), &table, true, "tags_prefix")?,
+        "by prefix",
+    )
 }

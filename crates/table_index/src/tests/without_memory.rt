@@ -50,9 +50,9 @@ fn finds_no_memory(txn: &mut TableTxn, write: &Write) -> bool
     match write {
         Write::Put(row) => txn.put(row) == Err(WriteError::Memory),
         Write::Remove(row) => matches!(txn.remove(row), Err(WriteError::Memory)),
-        Write::Wipe(question) => txn.remove_all(&question.query) == Err(WipeError::Memory),
+        Write::Wipe(question) => { matches!(txn.take_all(&question.query), Err(WipeError::Memory)) }
         Write::WipePrefix(question) => {
-            txn.remove_prefix(&question.query) == Err(WipeError::Memory)
+            matches!(txn.take_prefix(&question.query), Err(WipeError::Memory))
         }
     }
 }

@@ -1,5 +1,5 @@
 //! Worked examples of what a table answers.
-use super::played::told;
+use super::played::show;
 use std::test::Fail;
 
 const ORDER: &str = r#"get id [] => rows 0
@@ -12,9 +12,7 @@ last id [] => row {"age":1,"name":"cy"}
 
 #[test]
 fn rows_come_in_the_order_of_their_keys(rt: HostRuntime) -> Result<(), Fail> {
-    let answers = told(rt.alloc(), "users", ORDER)?;
-    assert!(rt; answers.as_str() == ORDER, "{answers}");
-    Ok(())
+    show(rt.alloc(), "users", ORDER)
 }
 
 /// A text key has an end byte, and its prefix form has none.
@@ -28,9 +26,7 @@ get-reverse id_prefix ["an"] => rows 2 {"age":2,"name":"anna"} {"age":1,"name":"
 
 #[test]
 fn a_name_is_found_whole_or_by_its_start(rt: HostRuntime) -> Result<(), Fail> {
-    let answers = told(rt.alloc(), "users", END_BYTE)?;
-    assert!(rt; answers.as_str() == END_BYTE, "{answers}");
-    Ok(())
+    show(rt.alloc(), "users", END_BYTE)
 }
 
 /// The full keys are `00 ff 78 00` and `01 00 79 00`; a bound is compared with the whole of them.
@@ -45,9 +41,7 @@ reverse-lower age [] => refused arg-count
 
 #[test]
 fn bounds_are_compared_with_full_keys(rt: HostRuntime) -> Result<(), Fail> {
-    let answers = told(rt.alloc(), "users", BOUNDS)?;
-    assert!(rt; answers.as_str() == BOUNDS, "{answers}");
-    Ok(())
+    show(rt.alloc(), "users", BOUNDS)
 }
 
 const TAKEN: &str = r#"insert {"name":"ann","age":1,"mail":"m"} => inserted
@@ -58,9 +52,7 @@ get mail [] => rows 1 {"age":1,"mail":"m","name":"ann"}
 
 #[test]
 fn a_unique_key_has_one_row(rt: HostRuntime) -> Result<(), Fail> {
-    let answers = told(rt.alloc(), "users", TAKEN)?;
-    assert!(rt; answers.as_str() == TAKEN, "{answers}");
-    Ok(())
+    show(rt.alloc(), "users", TAKEN)
 }
 
 const UUID: &str = r#"insert {"key":"12345678-9abc-def0-1234-56789abcdef0"} => inserted
@@ -71,9 +63,7 @@ first id ["12345678-9abc-def0-1234-56789abcdef"] => refused bad-uuid
 
 #[test]
 fn a_uuid_is_found_by_whole_bytes(rt: HostRuntime) -> Result<(), Fail> {
-    let answers = told(rt.alloc(), "keys", UUID)?;
-    assert!(rt; answers.as_str() == UUID, "{answers}");
-    Ok(())
+    show(rt.alloc(), "keys", UUID)
 }
 
 /// One line for each refusal of a question and of a write.
@@ -94,9 +84,7 @@ get id [] => rows 0
 
 #[test]
 fn each_broken_rule_is_refused(rt: HostRuntime) -> Result<(), Fail> {
-    let answers = told(rt.alloc(), "users", REFUSALS)?;
-    assert!(rt; answers.as_str() == REFUSALS, "{answers}");
-    Ok(())
+    show(rt.alloc(), "users", REFUSALS)
 }
 
 /// The keys of `path` are `east 00 00` and `east 00 web 00`. The last argument has no end byte, so
@@ -110,9 +98,7 @@ longest path_prefix ["west"] => none
 
 #[test]
 fn the_longest_key_that_is_a_prefix_is_found(rt: HostRuntime) -> Result<(), Fail> {
-    let answers = told(rt.alloc(), "rules", LONGEST)?;
-    assert!(rt; answers.as_str() == LONGEST, "{answers}");
-    Ok(())
+    show(rt.alloc(), "rules", LONGEST)
 }
 
 const TWICE: &str = r#"insert {"name":"bob","age":2} => inserted
@@ -122,7 +108,5 @@ delete {"name":"bob"} => refused not-found
 
 #[test]
 fn a_row_is_deleted_once(rt: HostRuntime) -> Result<(), Fail> {
-    let answers = told(rt.alloc(), "users", TWICE)?;
-    assert!(rt; answers.as_str() == TWICE, "{answers}");
-    Ok(())
+    show(rt.alloc(), "users", TWICE)
 }

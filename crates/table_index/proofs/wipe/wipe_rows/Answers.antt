@@ -1,17 +1,12 @@
-use Rattle.std.proofs.Common.{subst, sym, slice_get}
+use Rattle.std.proofs.Common.{slice_get}
 use Rattle.mdb_schema.specs.Wipe.{once, wiped_rows}
 use Rattle.table_index.specs.inner.Held.{nodes_of, rows_held}
-use Rattle.table_index.specs.inner.Wipes.{listed_at, IsRefusedWipe}
-use Rattle.table_index.specs.declared.wipe_error.WipeError.{WipeError}
+use Rattle.table_index.specs.inner.Wipes.{listed_at}
 use Rattle.table_index.proofs.WipeAnswers.{wiped-listed, wiped_trees, question_refused}
 use Rattle.table_index.proofs.wipe.wipe_rows.Goals as goal
 
 pub returns-in-Err : goal.returns-in-Err
-returns-in-Err c =
-    let t = c.args.def.now in
-    let rows = rows_held t (nodes_of c.args.txns.now) in
-    subst (λ (e : WipeError). IsRefusedWipe (wiped_rows t rows c.args.query.now) e c.args.txns.now c.args.txns.now) (sym c.told.ensures)
-    (question_refused t rows c.args.query.now c.in-Err.error c.args.txns.now c.in-Err.ensures.answers)
+returns-in-Err c = question_refused c.args.def.now (rows_held c.args.def.now (nodes_of c.args.txns.now)) c.args.query.now c.in-Err.error c.args.txns.now c.in-Err.ensures.answers
 
 pub returns : goal.returns
 returns c =

@@ -1,0 +1,18 @@
+use Rattle.std.proofs.Common.{◌∙◌, List, length, map, sym, ap}
+use Rattle.mdb_encode.specs.Bytes.{Bytes}
+use Rattle.radix_txn.specs.Txn.{txn_pairs}
+use Rattle.table_index.specs.inner.TreeEdits.{without_each}
+use Rattle.table_index.proofs.ListedKeys.{listed_count, keys_out, stored_keys}
+use Rattle.table_index.proofs.listed.take_out.Goals as goal
+
+pub of_stored-requires : goal.of_stored-requires
+of_stored-requires c = stored_keys c.args.def.now c.args.row.now c.requires.stored c.in-Err.error c.args.id.now c.in-Err.ensures
+
+pub delete_each-requires-clause-both : goal.delete_each-requires-clause-both
+delete_each-requires-clause-both c =
+    ap length c.lists.ensures ∙ listed_count c.args.def.now c.args.row.now c.args.id.now c.requires.known c.in-Ok.keys c.in-Ok.ensures ∙ sym c.requires.both
+
+pub returns-in_ok-delete_each-in-Ok : goal.returns-in_ok-delete_each-in-Ok
+returns-in_ok-delete_each-in-Ok c =
+    keys_out c.args.def.now c.args.row.now c.args.id.now c.requires.known c.args.txns.now c.delete_each.new.txns c.in-Ok.keys c.in-Ok.ensures
+    (c.in_ok-delete_each-in-Ok.ensures.pairs ∙ ap (λ (kss : List (List Bytes)). without_each kss (map txn_pairs c.args.txns.now)) c.lists.ensures) c.in_ok-delete_each-in-Ok.ensures.sound

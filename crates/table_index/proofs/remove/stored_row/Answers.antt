@@ -1,0 +1,8 @@
+use Rattle.std.proofs.Common.{inl, sym}
+use Rattle.table_index.proofs.StoredRows.{only_memory}
+use Rattle.table_index.proofs.remove.stored_row.Goals as goal
+
+pub returns-in-Err : goal.returns-in-Err
+returns-in-Err c =
+    inl (only_memory c.args.def.now c.args.txns.now c.requires.lawful c.requires.held c.args.id.now c.in-Some.row.now
+    (sym c.in-Some.ensures) c.in-Err.error c.in-Err.ensures)
