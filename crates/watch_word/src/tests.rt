@@ -1,0 +1,92 @@
+//! Cells that fire.
+ghost use Rattle.std.specs.Prelude.{◌≡◌, IfOk};
+ghost use Rattle.std.specs.Arc.{arc_value};
+
+use crate::{Book, Front, Watch, WatchCell, fire, open_book, open_cell};
+use std::alloc::{AllocError, Global};
+use std::sync::Arc;
+use std::test::*;
+use std::thread::{Threads, join};
+
+/// A book with one cell, and a front from before.
+fn one_cell(alloc: Global) -> Result<(Arc<Book>, Front, Arc<WatchCell>), AllocError>
+    ensures book { IfOk result (λ t. t.1.book ≡ arc_value t.0) }
+    ensures cell { IfOk result (λ t. (arc_value t.2).book ≡ t.1.book) }
+{
+    let (book, front) = open_book(alloc)?;
+    let cell = open_cell(alloc, &book, &front, 7)?;
+    Ok((book, front, cell))
+}
+
+/// Whether the cell is found fired before it fires, after, and after a second firing.
+fn found(alloc: Global) -> Result<[bool; 3], AllocError> {
+    let (_book, front, cell) = one_cell(alloc)?;
+    let watch = Watch::of(Arc::try_clone(&cell)?);
+    let new = watch.moved(&front).fired;
+    let later = fire(&front, &cell, 3);
+    let fired = watch.moved(&front).fired;
+    let _again = fire(&later, &cell, 4);
+    Ok([new, fired, watch.moved(&later).fired])
+}
+
+#[test]
+fn a_new_cell_is_not_moved_and_a_fired_one_is(rt: HostRuntime) -> Result<(), Fail> {
+    let found = found(rt.alloc())?;
+    assert!(rt; found == [false, true, true]);
+    Ok(())
+}
+
+/// Whether another cell of the book is found fired, and the ids of both.
+fn other(alloc: Global) -> Result<(bool, u64, u64), AllocError> {
+    let (book, front, cell) = one_cell(alloc)?;
+    let other = Watch::of(open_cell(alloc, &book, &front, 8)?);
+    let later = fire(&front, &cell, 1);
+    let shared = other.share()?;
+    Ok((shared.moved(&later.share()).fired, cell.id(), shared.id()))
+}
+
+#[test]
+fn a_firing_leaves_other_cells(rt: HostRuntime) -> Result<(), Fail> {
+    let other = other(rt.alloc())?;
+    assert!(rt; other == (false, 7, 8));
+    Ok(())
+}
+
+/// Two threads fire a cell, and a third cell stays.
+fn by_two<R: Threads + Sync>(rt: &R, alloc: Global) -> Result<(bool, bool), AllocError> {
+    let (_book, front, cell) = one_cell(alloc)?;
+    let watch = Watch::of(Arc::try_clone(&cell)?);
+    let (one, two) = join(
+        rt,
+        || -> Front
+            requires { (arc_value cell).book ≡ front.book }
+            ensures { result.book ≡ front.book }
+        { fire(&front, &cell, 1) },
+        || -> Front
+            requires { (arc_value cell).book ≡ front.book }
+            ensures { result.book ≡ front.book }
+        { fire(&front, &cell, 2) },
+    );
+    Ok((watch.moved(&one).fired, watch.moved(&two).fired))
+}
+
+#[test]
+fn two_threads_fire_one_cell(rt: HostRuntime) -> Result<(), Fail> {
+    let found = by_two(&rt, rt.alloc())?;
+    assert!(rt; found == (true, true));
+    Ok(())
+}
+
+/// What goes to a thread, and what threads share.
+fn for_threads<T: Send + Sync>(value: T) -> T {
+    value
+}
+
+#[test]
+fn all_may_go_to_threads(rt: HostRuntime) -> Result<(), Fail> {
+    let (book, front, cell) = one_cell(rt.alloc())?;
+    let _book = for_threads(book);
+    let _front = for_threads(front);
+    let _watch = for_threads(Watch::of(for_threads(cell)));
+    Ok(())
+}
