@@ -1,0 +1,11 @@
+pub mod CommitLists
+pub mod FreshPasses
+pub mod IdlePasses
+pub mod Gathered
+pub mod Hands
+pub mod Unchanged
+pub mod LoadSteps
+pub mod TurnSteps
+pub mod CommitSteps
+pub mod SeatSteps
+pub mod WholeSeats

@@ -1,0 +1,23 @@
+use Rattle.std.proofs.Common.{rules, ◌<◌, ap, sym, subst, arith}
+use Rattle.std.proofs.lemmas.Grind.{common_steps}
+use mathlib.Core.Option.{none}
+use Rattle.atomic_table.specs.Table.{step}
+use Rattle.db_front.proofs.LoadSteps.{counts, notes}
+use Rattle.db_front.proofs.SeatSteps.{ended}
+use Rattle.db_front.proofs.close.settle.Goals as goal
+
+pub load-count-requires : goal.load-count-requires
+load-count-requires g c = (search rules, first_of (search rules, grind (arith, common_steps)), counts g.V.Version.stands g.V.Version.fired _ _ _ _)
+
+pub load-finished-requires : goal.load-finished-requires
+load-finished-requires g c = (search rules, first_of (search rules, grind (arith, common_steps)), notes g.V.Version.stands g.V.Version.fired _ _ _ _)
+
+pub returns : goal.returns
+returns g c =
+    let t = c.take_turn.ensures.began in
+    let e = c.enter.ensures.took in
+    let free = c.requires.free.0 in
+    let k = ended g.V.Version.stands g.V.Version.fired _ c.load-finished.new.seat.id (step 0 0 0 0 none) c.args.place.me c.take_turn.new.place.me c.enter.new.place.me c.load-count.new.seat.me c.load-finished.new.seat.me
+    t.0 e.0 t.1 c.enter.result.1 c.load-count.result c.load-finished.result _ _
+    (subst (λ n. 0 < n) (sym free.0) free.1) t.2 (ap (λ m. m.0) t.4) e.2 (ap (λ m. m.0) e.4) c.load-count.ensures.2 c.load-finished.ensures.2 c.close_with-closed.ensures.values.2 in
+    (e.0, k.0, k.3, k.1, k.2, k.4, subst (λ v. g.V.Version.stands e.0 v) (sym (ap (λ p. p.0) c.value.view_is)) e.3)

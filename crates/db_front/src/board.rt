@@ -1,0 +1,81 @@
+//! The table that the callers share: four words, and one slot with the current value and its log. A
+//! turn word is 0, or the number of the caller that has the turn. The rule of the table is in
+//! `specs/inner/Kept.antt`.
+use crate::card::Card;
+use crate::version::Version;
+use atomic_table::{Seat, Table, TableRule};
+use std::alloc::Global;
+use std::collections::LinkedList;
+use std::marker::{Model, PhantomData};
+use std::sync::Arc;
+use watch_word::Front;
+
+/// The word that counts the commits.
+pub(crate) const COUNT: usize = 0;
+
+/// The word that counts the finished commits.
+pub(crate) const DONE: usize = 1;
+
+/// The writer's turn.
+pub(crate) const WRITER: usize = 2;
+
+/// The shown turn. Who has it may take the slot's card out.
+pub(crate) const SHOWN: usize = 3;
+
+/// What the table is told once: the opening value and the number of callers.
+#[derive(Drop)]
+pub(crate) struct Opening<V: Drop> {
+    pub(crate) value: Arc<V>,
+    pub(crate) callers: u64,
+}
+
+impl<V: Drop> Model for Opening<V> {
+    ghost use Rattle.std.specs.Prelude.{ℕ};
+    ghost use Rattle.std.specs.Arc.{arc_value};
+
+    ghost Value = { V × ℕ };
+
+    ghost view = { λ o. (arc_value o.value, o.callers) };
+}
+
+/// What a seat knows, in proofs alone: no value of this type is made.
+pub(crate) struct View<V> {
+    /// The caller's number.
+    pub(crate) number: u64,
+    /// The list that it has seen, from the opening value on.
+    pub(crate) seen: LinkedList<(u64, V)>,
+    /// Its own commits.
+    pub(crate) mine: LinkedList<(u64, V)>,
+    /// Further numbers, each with its commits and with the list that it has seen.
+    pub(crate) more: LinkedList<(u64, LinkedList<(u64, V)>, LinkedList<(u64, V)>)>,
+    /// What its loads of the number of commits gave.
+    pub(crate) counts: LinkedList<u64>,
+    /// What its tries for the writer's turn found.
+    pub(crate) tries: LinkedList<u64>,
+    /// 0 without the writer's turn, 1 with it, 2 where it has published, 3 where besides the slot
+    /// has the new log.
+    pub(crate) stage: u64,
+    /// 1 with the shown turn.
+    pub(crate) out: u64,
+    /// The log that was in the slot when the shown turn was taken.
+    pub(crate) log: Front,
+}
+
+/// The rule of the table.
+pub(crate) struct Law<V> {
+    version: PhantomData<V>,
+}
+
+impl<V: Version> TableRule<Option<Card<V>>, View<V>, Opening<V>> for Law<V> {
+    ghost use Rattle.db_front.specs.inner.Kept.{IsKept, first_view};
+
+    ghost holds = { λ key. IsKept V.stands V.fired key.1 };
+
+    ghost first = { first_view };
+}
+
+pub(crate) type Board<V> = atomic_table::Shared<Option<Card<V>>, View<V>, Opening<V>, Law<V>>;
+
+pub(crate) type BoardTable<V> = Table<Option<Card<V>>, View<V>, Opening<V>, Law<V>, Global>;
+
+pub(crate) type Place<V> = Seat<Option<Card<V>>, View<V>>;

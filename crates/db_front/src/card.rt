@@ -1,0 +1,34 @@
+//! What lies in the slot.
+ghost use Rattle.std.specs.Prelude.{◌≡◌, IfOk};
+
+use std::alloc::AllocError;
+use std::marker::Model;
+use std::sync::Arc;
+use watch_word::Front;
+
+/// The current value with a front of the log.
+#[derive(Drop)]
+pub(crate) struct Card<V: Drop> {
+    pub(crate) value: Arc<V>,
+    pub(crate) log: Front,
+}
+
+impl<V: Drop> Model for Card<V> {
+    ghost use Rattle.watch_word.specs.Logs.{Log};
+    ghost use Rattle.std.specs.Arc.{arc_value};
+
+    ghost Value = { V × Log };
+
+    ghost view = { λ c. (arc_value c.value, c.log) };
+}
+
+impl<V: Drop> Card<V> {
+    /// A second owner of the value and of the front.
+    pub(crate) fn share(&self) -> Result<Card<V>, AllocError>
+        ensures { IfOk result (λ c. c ≡ self.now) }
+    {
+        let value = Arc::try_clone(&self.value)?;
+        let log = self.log.share();
+        Ok(Card { value, log })
+    }
+}

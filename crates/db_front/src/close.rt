@@ -1,0 +1,108 @@
+//! The end of the front.
+ghost use Rattle.std.specs.Prelude.{◌≡◌, ℕ, ◌+◌, ◌^◌, ◌<◌, ◌≤◌, List, [], ◌∷◌, ◌++◌, length, map};
+ghost use Rattle.std.specs.Arc.{arc_value};
+ghost use Rattle.db_front.specs.Commits.{IsHistory};
+ghost use Rattle.db_front.specs.Passes.{AreIdle, AreIn};
+ghost use Rattle.db_front.specs.inner.Kept.{HasHand};
+ghost use Rattle.db_front.specs.inner.Seats.{IsSized, IsFree, IsSame, hand_of};
+
+use crate::board::{Board, BoardTable, COUNT, DONE, Place};
+use crate::card::Card;
+use crate::pass::Pass;
+use crate::passes::Passes;
+use crate::plays::{Count, Hand, Note};
+use crate::shared::Shared;
+use crate::shown::Shown;
+use crate::turns::{enter, take_turn};
+use crate::version::Version;
+use std::sync::Wait;
+use std::sync::atomic::AtomicU64;
+
+/// Takes the number of a pass into the seat.
+fn absorb<V: Version>(board: &Board<V>, place: &mut Place<V>, pass: Pass<V>)
+    requires table { (place.old.table_id ≡ board.now.table_id) × IsSized board.now.table_id }
+    requires pass { (pass.table ≡ board.now.table_id) × (pass.stage ≡ 0) }
+    ensures seat { IsSame place.old place.new }
+    ensures joined { place.new.me ≡ (
+      record place.old.me.0 {
+        more = place.old.me.0.more ++ hand_of pass ∷ [];
+      },
+      place.old.me.1,
+    ) }
+{
+    let Pass {
+        place: other,
+        number: _,
+        last: _,
+    } = pass;
+    board.join_seat::<Hand>(place, other);
+}
+
+/// Takes the numbers of all these passes into the seat.
+fn gather<V: Version>(board: &Board<V>, place: &mut Place<V>, mut passes: Passes<V>)
+    requires table { (place.old.table_id ≡ board.now.table_id) × IsSized board.now.table_id }
+    requires idle { AreIdle board.now.table_id passes.passes }
+    requires alone { place.old.me.0.more ≡ [] }
+    ensures seat { IsSame place.old place.new }
+    ensures joined { place.new.me
+        ≡ (record place.old.me.0 { more = map hand_of passes.passes }, place.old.me.1) }
+{
+    while let Some(pass) = passes.take() {
+        absorb(board, place, pass);
+    }
+    passes.end();
+}
+
+/// Takes both turns, and the table apart.
+fn settle<V: Version, R: Wait>(
+    rt: &R,
+    table: BoardTable<V>,
+    sleepers: &AtomicU64,
+    mut place: Place<V>,
+    number: u64,
+) -> Shown<V>
+    requires table { (place.table_id ≡ table.shared.table_id) × IsSized table.shared.table_id }
+    requires free { IsFree place number × (place.me.0.stage ≡ 0) }
+    ensures { (h : List (ℕ × V)) × IsHistory table.shared.key.1 h × HasHand h place.me.0
+        × (result.number + 1 ≡ length h) × (result.finished ≡ result.number)
+        × (result.number ≤ 2 ^ 63) × V.stands h (arc_value result.value) }
+{
+    take_turn(rt, &table.shared, sleepers, &mut place, number);
+    let Card { value, log } = enter(rt, &table.shared, sleepers, &mut place, number);
+    let count = table.shared.load::<Count>(&mut place, COUNT);
+    let finished = table.shared.load::<Note>(&mut place, DONE);
+    let mut closed = table.close_with(place);
+    drop(closed.take(0));
+    closed.free();
+    Shown {
+        value,
+        number: count,
+        finished,
+        log,
+    }
+}
+
+impl<V: Version> Shared<V> {
+    /// Ends the front, and gives the last value with the number of all commits. In their list are the
+    /// own commits of each of these passes, each once and in order. It takes no memory, and waits for
+    /// the turns of callers whose passes aren't among these.
+    pub fn close<R: Wait>(self, rt: &R, mut passes: Passes<V>) -> Shown<V>
+        requires there { 0 < length passes.passes }
+        requires idle { AreIdle self.table passes.passes }
+        ensures { (h : List (ℕ × V)) × IsHistory self.callers h × AreIn h passes.passes
+            × (result.number + 1 ≡ length h) × (result.finished ≡ result.number)
+            × (result.number ≤ 2 ^ 63) × V.stands h (arc_value result.value) }
+    {
+        let Shared { table, sleepers } = self;
+        let Some(first) = passes.take() else {
+            unreachable!()
+        };
+        let Pass {
+            mut place,
+            number,
+            last: _,
+        } = first;
+        gather(&table.shared, &mut place, passes);
+        settle(rt, table, &sleepers, place, number)
+    }
+}

@@ -1,0 +1,224 @@
+//! What callers share, and the calls on it.
+ghost use Rattle.std.specs.Prelude.{IfOk, OnOk, OnErr, ◌≡◌, ◌+◌, ◌-◌, ◌<◌, ◌≤◌, ◌^◌, [], ◌∷◌, ◌++◌, length};
+ghost use Rattle.std.specs.Arc.{arc_value};
+ghost use mathlib.Core.List.{IsPrefix};
+ghost use Rattle.db_front.specs.Commits.{HasFirings, IsLastOf};
+ghost use Rattle.db_front.specs.Passes.{IsNumber, AllOrAllButLast, IfBegun, IfTaken, Won, Lost};
+
+use crate::board::BoardTable;
+use crate::card::Card;
+use crate::commits::{commit, end};
+use crate::pass::Pass;
+use crate::shown::{Ready, Shown};
+use crate::turns::{leave_turn, see, see_begun, take_turn, try_turn};
+use crate::version::Version;
+use std::alloc::AllocError;
+use std::marker::Model;
+use std::sync::atomic::AtomicU64;
+use std::sync::{Arc, Wait};
+use watch_word::Front;
+
+/// The current value and the log of firings, which callers share. Contracts see which object it is
+/// and how many callers it has. A pass belongs to the object that it was made with.
+#[derive(Drop)]
+pub struct Shared<V: Version> {
+    pub(crate) table: BoardTable<V>,
+    /// How many callers sleep until a turn is given back.
+    pub(crate) sleepers: AtomicU64,
+}
+
+impl<V: Version> Model for Shared<V> {
+    ghost use Rattle.db_front.specs.Passes.{Group};
+    ghost use Rattle.db_front.specs.inner.Seats.{IsSized};
+
+    ghost Value = { Group };
+
+    ghost view = { λ s. record {
+      table = s.table.shared.table_id;
+      callers = s.table.shared.key.1;
+    } };
+
+    ghost invariant = { λ s. IsSized s.table.shared.table_id };
+}
+
+impl<V: Version> Shared<V> {
+    /// The value after the whole list of commits that the pass now has seen, which begins with all
+    /// that it had seen. It may wait while another caller looks or commits.
+    ///
+    /// `AllocError` comes where a further owner of the value is refused. The pass may
+    /// have seen more by then.
+    pub fn look<R: Wait>(&self, rt: &R, pass: &mut Pass<V>) -> Result<Shown<V>, AllocError>
+        requires { pass.old.table ≡ self.now.table }
+        ensures pass { pass.new ≡ record pass.old {
+          seen = pass.new.seen;
+          counts = pass.new.counts;
+        } }
+        ensures seen { IsPrefix pass.old.seen pass.new.seen }
+        ensures whole { 0 < pass.old.stage → pass.new.seen ≡ pass.old.seen }
+        ensures counts { IsPrefix pass.old.counts pass.new.counts }
+        ensures room { length pass.new.seen ≤ 2 ^ 63 + 1 }
+        ensures value { IfOk result (λ s. V.stands pass.new.seen (arc_value s.value)) }
+        ensures number { IfOk result (λ s. IsNumber pass.old pass.new s.number) }
+        ensures finished { IfOk result (λ s. AllOrAllButLast s.finished s.number) }
+        ensures own { pass.old.stage ≡ 0 → IsLastOf pass.old.number pass.new.seen
+            → IfOk result (λ s. s.finished ≡ s.number) }
+        ensures log { IfOk result (λ s. HasFirings V.fired s.finished pass.new.seen s.log) }
+    {
+        let board = &self.table.shared;
+        let sleepers = &self.sleepers;
+        let (number, finished, shared) = see(rt, board, sleepers, &mut pass.place, pass.number);
+        pass.last = number;
+        let Card { value, log } = shared?;
+        Ok(Shown {
+            value,
+            number,
+            finished,
+            log,
+        })
+    }
+
+    /// Takes the writer's turn, and waits until it is free. The value shown is the current one until
+    /// the turn is given back or the pass publishes.
+    ///
+    /// After `AllocError`, which comes as in `look`, the pass doesn't have the turn.
+    pub fn begin<R: Wait>(&self, rt: &R, pass: &mut Pass<V>) -> Result<Shown<V>, AllocError>
+        requires own { pass.old.table ≡ self.now.table }
+        requires out { pass.old.stage ≡ 0 }
+        ensures pass { pass.new ≡ record pass.old {
+          seen = pass.new.seen;
+          counts = pass.new.counts;
+          tries = pass.new.tries;
+          stage = pass.new.stage;
+        } }
+        ensures seen { IsPrefix pass.old.seen pass.new.seen }
+        ensures counts { IsPrefix pass.old.counts pass.new.counts }
+        ensures tries { IsPrefix pass.old.tries pass.new.tries }
+        ensures room { length pass.new.seen ≤ 2 ^ 63 + 1 }
+        ensures value { IfOk result (λ s. V.stands pass.new.seen (arc_value s.value)) }
+        ensures number { IfOk result (λ s. IsNumber pass.old pass.new s.number) }
+        ensures finished { IfOk result (λ s. s.finished ≡ s.number) }
+        ensures log { IfOk result (λ s. HasFirings V.fired s.number pass.new.seen s.log) }
+        ensures held { OnOk result (pass.new.stage ≡ 1) }
+        ensures memory { OnErr result (pass.new.stage ≡ 0) }
+    {
+        let board = &self.table.shared;
+        take_turn(rt, board, &self.sleepers, &mut pass.place, pass.number);
+        let (number, shared) = see_begun(rt, board, &self.sleepers, &mut pass.place, pass.number);
+        pass.last = number;
+        let Card { value, log } = shared?;
+        Ok(Shown {
+            value,
+            number,
+            finished: number,
+            log,
+        })
+    }
+
+    /// Makes one try to take the writer's turn. `None` comes exactly where the try found the number of
+    /// another caller. It may wait while another caller looks, and never for the writer's turn.
+    ///
+    /// After `AllocError`, which comes as in `look`, the pass doesn't have the turn.
+    pub fn try_begin<R: Wait>(
+        &self,
+        rt: &R,
+        pass: &mut Pass<V>,
+    ) -> Result<Option<Shown<V>>, AllocError>
+        requires own { pass.old.table ≡ self.now.table }
+        requires out { pass.old.stage ≡ 0 }
+        ensures pass { pass.new ≡ record pass.old {
+          seen = pass.new.seen;
+          counts = pass.new.counts;
+          tries = pass.new.tries;
+          stage = pass.new.stage;
+        } }
+        ensures seen { IsPrefix pass.old.seen pass.new.seen }
+        ensures counts { IsPrefix pass.old.counts pass.new.counts }
+        ensures value { IfBegun result (λ s. V.stands pass.new.seen (arc_value s.value)) }
+        ensures number { IfBegun result (λ s. IsNumber pass.old pass.new s.number) }
+        ensures finished { IfBegun result (λ s. s.finished ≡ s.number) }
+        ensures log { IfBegun result (λ s. HasFirings V.fired s.number pass.new.seen s.log) }
+        ensures won { IfBegun result (λ s. Won pass.old pass.new × (pass.new.stage ≡ 1)) }
+        ensures taken { IfTaken result (Lost pass.old pass.new) }
+        ensures memory { OnErr result (Won pass.old pass.new × (pass.new.stage ≡ 0)) }
+        ensures room { OnErr result (length pass.new.seen ≤ 2 ^ 63 + 1) }
+    {
+        let board = &self.table.shared;
+        let found = try_turn(board, &mut pass.place, pass.number);
+        if found != 0 {
+            return Ok(None);
+        }
+        let (number, shared) = see_begun(rt, board, &self.sleepers, &mut pass.place, pass.number);
+        pass.last = number;
+        let Card { value, log } = shared?;
+        Ok(Some(Shown {
+            value,
+            number,
+            finished: number,
+            log,
+        }))
+    }
+
+    /// Makes a value ready to be published: takes the owners that its commit needs, one for each slot.
+    /// With one slot that is the owner given, and no memory is taken.
+    pub fn ready(&self, value: Arc<V>) -> Result<Ready<V>, AllocError>
+        ensures { IfOk result (λ r. r ≡ arc_value value) }
+    {
+        Ok(Ready { value })
+    }
+
+    /// The commit event. It gives the new number. It takes no memory, and may wait while another
+    /// caller looks.
+    pub fn publish<R: Wait>(&self, rt: &R, pass: &mut Pass<V>, ready: Ready<V>) -> u64
+        requires own { pass.old.table ≡ self.now.table }
+        requires begun { pass.old.stage ≡ 1 }
+        requires room { length pass.old.seen ≤ 2 ^ 63 }
+        requires stands { V.stands (pass.old.seen ++ (pass.old.number, ready) ∷ []) ready }
+        ensures pass { pass.new ≡ record pass.old {
+          seen = pass.old.seen ++ (pass.old.number, ready) ∷ [];
+          mine = pass.old.mine ++ (pass.old.number, ready) ∷ [];
+          stage = 2;
+        } }
+        ensures number { result + 1 ≡ length pass.new.seen }
+    {
+        let board = &self.table.shared;
+        let count = commit(
+            rt,
+            board,
+            &self.sleepers,
+            &mut pass.place,
+            pass.number,
+            ready,
+        );
+        pass.last = count;
+        count
+    }
+
+    /// Shows the log and the finished number, and gives the writer's turn back. It takes no memory, and
+    /// may wait while another caller looks.
+    pub fn finish<R: Wait>(&self, rt: &R, pass: &mut Pass<V>, log: Front)
+        requires own { pass.old.table ≡ self.now.table }
+        requires published { pass.old.stage ≡ 2 }
+        requires log { HasFirings V.fired (length pass.old.seen - 1) pass.old.seen log }
+        ensures { pass.new ≡ record pass.old { stage = 0 } }
+    {
+        let board = &self.table.shared;
+        end(
+            rt,
+            board,
+            &self.sleepers,
+            &mut pass.place,
+            pass.number,
+            pass.last,
+            log,
+        );
+    }
+
+    /// Gives the writer's turn back without a commit. It takes no memory and waits for nobody.
+    pub fn leave(&self, pass: &mut Pass<V>)
+        requires own { pass.old.table ≡ self.now.table }
+        requires begun { pass.old.stage ≡ 1 }
+        ensures { pass.new ≡ record pass.old { stage = 0 } }
+    {
+        leave_turn(&self.table.shared, &self.sleepers, &mut pass.place);
+    }
+}

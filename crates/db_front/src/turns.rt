@@ -1,0 +1,190 @@
+//! Turns: taken, given back, and what is seen while one is held.
+ghost use Rattle.std.specs.Prelude.{IfOk, OnOk, OnErr, ◌≢◌, ◌≡◌, ℕ, ◌+◌, ◌<◌, [], ◌∷◌, ◌++◌, length, None};
+ghost use Rattle.db_front.specs.Commits.{HasFirings};
+ghost use Rattle.db_front.specs.inner.Seats.{IsSized, IsFree, IsSame, Entered, Began, Sees, SeesBegun};
+
+use crate::board::{Board, COUNT, DONE, Place, SHOWN, WRITER};
+use crate::card::Card;
+use crate::plays::{Back, Count, Leave, Note, Take, Try};
+use crate::version::Version;
+use std::alloc::AllocError;
+use std::hint::spin_loop;
+use std::sync::Wait;
+use std::sync::atomic::AtomicU64;
+use std::sync::atomic::Ordering::SeqCst;
+
+/// How often a caller looks at a turn that is taken before it sleeps: a turn at the slot is short.
+const LOOKS: u32 = 100;
+
+/// Returns when the turn may be free: looks at it for a short while, and then sleeps until it is given
+/// back.
+fn rest<V: Version, R: Wait>(
+    rt: &R,
+    board: &Board<V>,
+    sleepers: &AtomicU64,
+    turn: usize,
+    found: u64,
+)
+    requires { turn < board.now.table_id.words }
+{
+    for _ in 0..LOOKS {
+        if board.peek(turn) != found {
+            return;
+        }
+        spin_loop();
+    }
+    sleepers.fetch_add(1, SeqCst);
+    board.park(rt, turn, (found % 4294967296) as u32);
+    sleepers.fetch_sub(1, SeqCst);
+}
+
+/// Wakes a caller that sleeps until the turn is given back. A caller counts itself before it sleeps, and
+/// doesn't sleep where the turn was given back meanwhile, so none is missed.
+pub(crate) fn wake<V: Version>(board: &Board<V>, sleepers: &AtomicU64, turn: usize)
+    requires { turn < board.now.table_id.words }
+{
+    if sleepers.load(SeqCst) != 0 {
+        board.wake_one(turn);
+    }
+}
+
+/// Takes the shown turn, and what lies in the slot.
+pub(crate) fn enter<V: Version, R: Wait>(
+    rt: &R,
+    board: &Board<V>,
+    sleepers: &AtomicU64,
+    place: &mut Place<V>,
+    number: u64,
+) -> Card<V>
+    requires table { (place.old.table_id ≡ board.now.table_id) × IsSized board.now.table_id }
+    requires free { IsFree place.old number }
+    ensures seat { IsSame place.old place.new }
+    ensures took { Entered V.stands place.old place.new result }
+{
+    for _ in rt.forever() {
+        let found = board.compare_exchange::<Take>(place, SHOWN, 0, number);
+        if found == 0 {
+            return board.exchange(place, 0, None).unwrap();
+        }
+        rest(rt, board, sleepers, SHOWN, found);
+    }
+    unreachable!()
+}
+
+/// Puts the card back into the slot, and gives the shown turn back.
+pub(crate) fn give<V: Version>(
+    board: &Board<V>,
+    sleepers: &AtomicU64,
+    place: &mut Place<V>,
+    card: Card<V>,
+)
+    requires table { (place.old.table_id ≡ board.now.table_id) × IsSized board.now.table_id }
+    requires out { (0 < place.old.me.0.out) × (place.old.me.1 ≡ (0, None) ∷ []) }
+    requires stands { V.stands place.old.me.0.seen card.0 }
+    requires log { card.1 ≡ place.old.me.0.log }
+    ensures seat { IsSame place.old place.new }
+    ensures gave { place.new.me ≡ (record place.old.me.0 { out = 0 }, []) }
+{
+    let gone = board.exchange(place, 0, Some(card));
+    let None = gone else { unreachable!() };
+    board.store::<Back>(place, SHOWN, 0);
+    wake(board, sleepers, SHOWN);
+}
+
+/// Looks into the slot: the number of commits, the number of finished ones, and what lies there.
+pub(crate) fn see<V: Version, R: Wait>(
+    rt: &R,
+    board: &Board<V>,
+    sleepers: &AtomicU64,
+    place: &mut Place<V>,
+    number: u64,
+) -> (u64, u64, Result<Card<V>, AllocError>)
+    requires table { (place.old.table_id ≡ board.now.table_id) × IsSized board.now.table_id }
+    requires free { IsFree place.old number }
+    ensures seat { IsSame place.old place.new × (place.new.me.1 ≡ []) }
+    ensures sees { Sees V.fired place.old.me.0 place.new.me.0 result.0 result.1 }
+    ensures value { IfOk result.2 (λ c. V.stands place.new.me.0.seen c.0) }
+    ensures log { IfOk result.2 (λ c. c.1 ≡ place.new.me.0.log) }
+{
+    let card = enter(rt, board, sleepers, place, number);
+    let count = board.load::<Count>(place, COUNT);
+    let finished = board.load::<Note>(place, DONE);
+    let shared = card.share();
+    give(board, sleepers, place, card);
+    (count, finished, shared)
+}
+
+/// Looks into the slot with the writer's turn held, where all commits are finished. For want of
+/// memory it gives the turn back.
+pub(crate) fn see_begun<V: Version, R: Wait>(
+    rt: &R,
+    board: &Board<V>,
+    sleepers: &AtomicU64,
+    place: &mut Place<V>,
+    number: u64,
+) -> (u64, Result<Card<V>, AllocError>)
+    requires table { (place.old.table_id ≡ board.now.table_id) × IsSized board.now.table_id }
+    requires free { IsFree place.old number × (place.old.me.0.stage ≡ 1) }
+    ensures seat { IsSame place.old place.new }
+    ensures view { SeesBegun place.old place.new result.0 }
+    ensures value { IfOk result.1 (λ c. V.stands place.old.me.0.seen c.0) }
+    ensures log { IfOk result.1 (λ c. HasFirings V.fired result.0 place.old.me.0.seen c.1) }
+    ensures held { OnOk result.1 (place.new.me.0.stage ≡ 1) }
+    ensures memory { OnErr result.1 (place.new.me.0.stage ≡ 0) }
+{
+    let (count, _, shared) = see(rt, board, sleepers, place, number);
+    match shared {
+        Ok(card) => (count, Ok(card)),
+        Err(e) => {
+            leave_turn(board, sleepers, place);
+            (count, Err(e))
+        }
+    }
+}
+
+/// Takes the writer's turn.
+pub(crate) fn take_turn<V: Version, R: Wait>(
+    rt: &R,
+    board: &Board<V>,
+    sleepers: &AtomicU64,
+    place: &mut Place<V>,
+    number: u64,
+)
+    requires table { (place.old.table_id ≡ board.now.table_id) × IsSized board.now.table_id }
+    requires free { IsFree place.old number × (place.old.me.0.stage ≡ 0) }
+    ensures seat { IsSame place.old place.new }
+    ensures began { Began place.old place.new }
+{
+    for _ in rt.forever() {
+        let found = board.compare_exchange::<Try>(place, WRITER, 0, number);
+        if found == 0 {
+            return;
+        }
+        rest(rt, board, sleepers, WRITER, found);
+    }
+    unreachable!()
+}
+
+/// One try for the writer's turn.
+pub(crate) fn try_turn<V: Version>(board: &Board<V>, place: &mut Place<V>, number: u64) -> u64
+    requires table { (place.old.table_id ≡ board.now.table_id) × IsSized board.now.table_id }
+    requires free { IsFree place.old number × (place.old.me.0.stage ≡ 0) }
+    ensures seat { IsSame place.old place.new }
+    ensures tries { place.new.me.0.tries ≡ place.old.me.0.tries ++ result ∷ [] }
+    ensures won { result ≡ 0 → Began place.old place.new }
+    ensures lost { result ≢ 0 → (result ≢ number)
+        × (place.new.me ≡ (record place.old.me.0 { tries = place.new.me.0.tries }, [])) }
+{
+    board.compare_exchange::<Try>(place, WRITER, 0, number)
+}
+
+/// Gives the writer's turn back.
+pub(crate) fn leave_turn<V: Version>(board: &Board<V>, sleepers: &AtomicU64, place: &mut Place<V>)
+    requires table { (place.old.table_id ≡ board.now.table_id) × IsSized board.now.table_id }
+    requires held { place.old.me.0.stage ≡ 1 }
+    ensures seat { IsSame place.old place.new }
+    ensures left { place.new.me ≡ (record place.old.me.0 { stage = 0 }, place.old.me.1) }
+{
+    board.store::<Leave>(place, WRITER, 0);
+    wake(board, sleepers, WRITER);
+}
