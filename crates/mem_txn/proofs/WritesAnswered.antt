@@ -1,0 +1,123 @@
+-- What a write transaction answers a write, of what its tables and its list of writes tell.
+use Rattle.std.proofs.Common.{◌≡◌, ◌∙◌, ◌<◌, ◌++◌, ℕ, zero, suc, List, [], ◌∷◌, length, slice_get, Bool, true, false, Option, Some, None, Result, Ok, Err, inl, inr, refl, sym, ap, subst, arith}
+use Rattle.std.specs.Prelude.{◌⊎◌, MatchOption}
+use Rattle.mdb_datum.specs.Row.{Fields}
+use Rattle.mdb_encode.specs.KeyRefusal.{wrong_kind, out_of_range, bad_uuid, too_many, too_long}
+use Rattle.mdb_schema.specs.History.{after_writes, state_or}
+use Rattle.mdb_schema.specs.Refusals.{write_error}
+use Rattle.mdb_schema.specs.Schema.{TableSchema, DbSchema, table_place}
+use Rattle.mdb_schema.specs.State.{State, Table}
+use Rattle.mdb_schema.specs.Write as written
+use Rattle.mdb_schema.specs.Write.{Write, WriteRefusal, Tested, Changed, Stepped, step, step_in}
+use Rattle.mdb_schema.specs.declared.write_error.WriteError.{WriteError}
+use Rattle.mdb_schema.specs.declared.write_error.WriteError.TheVariants.{Memory}
+use Rattle.mdb_schema.proofs.Tables.{table_at-some}
+use Rattle.table_index.specs.Table.{TableChange}
+use Rattle.mem_txn.specs.Changes.{AnswersStep, AnswersTxnWrite, Changes, IsSpoiledBy, name_in, present, table_seen, with_writes}
+use Rattle.mem_txn.specs.Database.{state_seen}
+use Rattle.mem_txn.specs.declared.txn_error.TxnWriteError.{TxnWriteError}
+use Rattle.mem_txn.specs.declared.txn_error.TxnWriteError.TheVariants as write_refused
+use Rattle.mem_txn.specs.inner.VersionTables.{AnswersAt, StandFor, is_memory}
+use Rattle.mem_txn.proofs.StepsMade.{accepted, after_writes-more, refused, table_there}
+use Rattle.mem_txn.proofs.TablesFound.{table_at-none}
+
+pub there_is : {X : Type 0} (xs : List X) (at : ℕ) → at < length xs → (x : X) × (slice_get xs at ≡ Some x)
+there_is [] at within = absurd (omega arith)
+there_is (x ∷ xs) zero within = (x, refl)
+there_is (x ∷ xs) (suc at) within = there_is xs at (omega arith)
+
+-- no refusal is told as want of memory
+pub refusal_told : (why : WriteRefusal) → is_memory (write_error why) ≡ false
+refusal_told written.unknown_table = refl
+refusal_told written.no_id = refl
+refusal_told (written.bad_key place wrong_kind) = refl
+refusal_told (written.bad_key place out_of_range) = refl
+refusal_told (written.bad_key place bad_uuid) = refl
+refusal_told (written.bad_key place too_many) = refl
+refusal_told (written.bad_key place too_long) = refl
+refusal_told (written.missing place) = refl
+refusal_told (written.key_taken place) = refl
+refusal_told written.not_found = refl
+
+module _ {A : Type 0} (gives : Option Fields → A → Type 0) (w : Write) (change : TableSchema → List Fields → Tested Changed)
+    (is_step : (schema : DbSchema) (s : State) → step schema s w ≡ step_in schema s (name_in w) (λ (t : Table). change t.schema t.rows))
+    (old : Changes) (sound : old.spoiled ≡ false) where
+  abbrev change_in : TableChange → Tested Changed
+  change_in t = change t.schema t.rows
+
+  abbrev told : Stepped
+  told = step old.caller.schema (present old) w
+
+  unspoiled : (result : Result A TxnWriteError) (new : Changes) → AnswersTxnWrite gives w false result old new → AnswersTxnWrite gives w old.spoiled result old new
+  unspoiled result new answers = subst (λ (b : Bool). AnswersTxnWrite gives w b result old new) (sym sound) answers
+
+  -- ---- no such table
+
+  pub unknown : (new : Changes) → new ≡ old → table_place (name_in w) old.caller.schema ≡ None → AnswersTxnWrite gives w old.spoiled (Err write_refused.UnknownTable) old new
+  unknown new same none =
+      let result : Result A TxnWriteError = Err write_refused.UnknownTable in
+      unspoiled result new
+      (subst (λ (o : Option Table). MatchOption o ((result ≡ Err write_refused.UnknownTable) × (new ≡ old)) (λ t. AnswersStep gives w told result old new))
+      (sym (table_at-none old.caller.schema (present old) (name_in w) none)) (refl, same))
+
+  module _ (place : ℕ) (found : table_place (name_in w) old.caller.schema ≡ Some place) (tables tables' : List TableChange) (stand : StandFor tables old.caller.schema (present old)) where
+    -- of a table of the schema
+    of_table : (result : Result A TxnWriteError) (new : Changes) (t : TableChange) → slice_get tables place ≡ Some t → AnswersStep gives w told result old new → AnswersTxnWrite gives w old.spoiled result old new
+    of_table result new t there answers =
+        let table : Table = record { place = place; schema = t.schema; rows = t.rows } in
+        let seen : table_seen old (name_in w) ≡ Some table =
+        table_at-some old.caller.schema (present old) (name_in w) table (table_there gives change old.caller.schema (present old) (name_in w) place found tables tables' stand t there) in
+        unspoiled result new
+        (subst (λ (o : Option Table). MatchOption o ((result ≡ Err write_refused.UnknownTable) × (new ≡ old)) (λ t. AnswersStep gives w told result old new)) (sym seen) answers)
+
+    -- ---- accepted
+
+    module _ (x : A) (at : AnswersAt gives change_in place (Ok x) tables tables') (new : Changes) (joined : new ≡ with_writes old (w ∷ [])) where
+      pub joins_answer : AnswersTxnWrite gives w old.spoiled (Ok x) old new
+      joins_answer =
+          let a = accepted gives change old.caller.schema (present old) (name_in w) place found tables tables' stand x at in
+          of_table (Ok x) new at.before at.there
+          (subst (λ (r : Stepped). AnswersStep gives w r (Ok x) old new) (sym (is_step old.caller.schema (present old) ∙ a.step)) (a.given, joined))
+
+    -- the tables stand for the state with the write
+    pub joins_stand : (x : A) → AnswersAt gives change_in place (Ok x) tables tables' → (writes : List Write) → writes ≡ old.writes ++ w ∷ []
+        → StandFor tables' old.caller.schema (after_writes old.caller.schema (state_seen old.caller) writes)
+    joins_stand x at writes joined =
+        let a = accepted gives change old.caller.schema (present old) (name_in w) place found tables tables' stand x at in
+        let same = ap (after_writes old.caller.schema (state_seen old.caller)) joined ∙ after_writes-more old.caller.schema (state_seen old.caller) old.writes w ∙ ap (state_or (present old)) (is_step old.caller.schema (present old) ∙ a.step) in
+        subst (λ (s : State). StandFor tables' old.caller.schema s) (sym same) a.left
+
+    -- ---- refused
+
+    memory_step : (r : Stepped) (e : WriteError) (new : Changes) → e ≡ Memory → IsSpoiledBy old new → AnswersStep gives w r (Err (write_refused.Refused e)) old new
+    memory_step (Ok after) e new memory spoiled = (ap write_refused.Refused memory, spoiled)
+    memory_step (Err why) e new memory spoiled = inr (ap write_refused.Refused memory, spoiled)
+
+    module _ (e : WriteError) (new : Changes) (is : new ≡ record old { spoiled = is_memory e }) where
+      memory_answer : e ≡ Memory → place < length tables → AnswersTxnWrite gives w old.spoiled (Err (write_refused.Refused e)) old new
+      memory_answer memory within =
+          let t = there_is tables place within in
+          of_table (Err (write_refused.Refused e)) new t.0 t.1
+          (memory_step told e new memory (is ∙ ap (λ (b : Bool). let c : Changes = record old { spoiled = b } in c) (ap is_memory memory)))
+
+      -- the tables still stand for the state, unless the transaction is spoiled
+      pub refuses_stand : (e ≡ Memory) ⊎ AnswersAt gives change_in place (Err e) tables tables' → is_memory e ≡ false → StandFor tables' old.caller.schema (present old)
+      refuses_stand (inl memory) quiet = let yes : is_memory e ≡ true = ap is_memory memory in absurd (cc)
+      refuses_stand (inr at) quiet =
+          elim (refused gives change old.caller.schema (present old) (name_in w) place found tables tables' stand e at) [
+            | inl r ↦ subst (λ (ts : List TableChange). StandFor ts old.caller.schema (present old)) (sym r.1.unchanged) stand
+            | inr memory ↦ (let yes : is_memory e ≡ true = ap is_memory memory in absurd (cc))
+          ]
+
+      pub refuses_answer : place < length tables → (e ≡ Memory) ⊎ AnswersAt gives change_in place (Err e) tables tables' → AnswersTxnWrite gives w old.spoiled (Err (write_refused.Refused e)) old new
+      refuses_answer within (inl memory) = memory_answer memory within
+      refuses_answer within (inr at) =
+          elim (refused gives change old.caller.schema (present old) (name_in w) place found tables tables' stand e at) [
+            | inl r ↦ (
+                let quiet : is_memory e ≡ old.spoiled = ap is_memory r.1.error ∙ refusal_told r.0 ∙ sym sound in
+                let same : new ≡ old = is ∙ ap (λ (b : Bool). let c : Changes = record old { spoiled = b } in c) quiet in
+                of_table (Err (write_refused.Refused e)) new at.before at.there
+                (subst (λ (s : Stepped). AnswersStep gives w s (Err (write_refused.Refused e)) old new) (sym (is_step old.caller.schema (present old) ∙ r.1.stepped))
+                (inl (ap write_refused.Refused r.1.error, same))))
+            | inr memory ↦ memory_answer memory within
+          ]

@@ -1,0 +1,4 @@
+pub mod Changes
+pub mod Database
+pub mod Transactions
+pub mod inner

@@ -1,0 +1,7 @@
+pub mod Accepted
+pub mod ChangesView
+pub mod Commits
+pub mod Stored
+pub mod VersionTables
+pub mod Views
+pub mod Wipes

@@ -1,0 +1,75 @@
+-- How the logic stores what contracts see of a database, its callers and their transactions.
+use Rattle.std.specs.Prelude.{◌≡◌, ℕ, Bool, true, false, List, refl}
+use Rattle.std.specs.Coded.{Coded, code_by, coded×, coded_ℕ, coded_bool, coded_list}
+use Rattle.mdb_datum.specs.Row.{Fields}
+use Rattle.mdb_datum.specs.inner.Stored.{fields_code}
+use Rattle.mdb_encode.specs.Bytes.{Bytes}
+use Rattle.mdb_schema.specs.History.{Commit, History}
+use Rattle.mdb_schema.specs.Schema.{DbSchema}
+use Rattle.mdb_schema.specs.State.{State}
+use Rattle.mdb_schema.specs.Write.{Write, put, remove}
+use Rattle.mdb_schema.specs.inner.Stored.{name_code, schema_code}
+use Rattle.mdb_schema.specs.inner.StoredQuery.{rows_code}
+use Rattle.table_index.specs.Table.{TableChange}
+use Rattle.table_index.specs.inner.Stored.{table_change_code}
+use Rattle.mem_txn.specs.Changes.{Changes}
+use Rattle.mem_txn.specs.Database.{Caller, Callers, Database, View}
+
+-- whether a write is a put, with the name of its table and its row
+abbrev pub Parts : Type 0
+Parts = Bool × (Bytes × Fields)
+
+abbrev pub write_parts : Write → Parts
+write_parts (put name row) = (true, (name, row))
+write_parts (remove name row) = (false, (name, row))
+
+abbrev pub write_by : Bool → Bytes → Fields → Write
+write_by true name row = put name row
+write_by false name row = remove name row
+
+pub write_back : (w : Write) → write_by (write_parts w).0 (write_parts w).1.0 (write_parts w).1.1 ≡ w
+write_back (put name row) = refl
+write_back (remove name row) = refl
+
+abbrev pub write_code : Coded Write
+write_code = code_by Parts (coded× coded_bool (coded× name_code fields_code)) write_parts
+    (λ p. write_by p.0 p.1.0 p.1.1) write_back
+
+abbrev pub writes_code : Coded (List Write)
+writes_code = coded_list write_code
+
+abbrev pub commit_code : Coded Commit
+commit_code = code_by (ℕ × List Write) (coded× coded_ℕ writes_code)
+    (λ c. (c.caller, c.writes)) (λ p. record { caller = p.0; writes = p.1 }) (λ _. refl)
+
+abbrev pub state_code : Coded State
+state_code = coded_list rows_code
+
+abbrev pub caller_code : Coded Caller
+caller_code = code_by (ℕ × (DbSchema × History))
+    (coded× coded_ℕ (coded× schema_code (coded_list commit_code)))
+    (λ c. (c.number, (c.schema, c.seen)))
+    (λ p. record { number = p.0; schema = p.1.0; seen = p.1.1 }) (λ _. refl)
+
+abbrev pub callers_code : Coded Callers
+callers_code = code_by (List Caller × ℕ) (coded× (coded_list caller_code) coded_ℕ)
+    (λ c. (c.passes, c.made)) (λ p. record { passes = p.0; made = p.1 }) (λ _. refl)
+
+abbrev pub database_code : Coded Database
+database_code = code_by (DbSchema × (ℕ × State)) (coded× schema_code (coded× coded_ℕ state_code))
+    (λ d. (d.schema, (d.number, d.state)))
+    (λ p. record { schema = p.0; number = p.1.0; state = p.1.1 }) (λ _. refl)
+
+abbrev pub view_code : Coded View
+view_code = code_by (DbSchema × (ℕ × State)) (coded× schema_code (coded× coded_ℕ state_code))
+    (λ v. (v.schema, (v.number, v.state)))
+    (λ p. record { schema = p.0; number = p.1.0; state = p.1.1 }) (λ _. refl)
+
+abbrev pub changes_code : Coded Changes
+changes_code = code_by (Caller × (List Write × Bool))
+    (coded× caller_code (coded× writes_code coded_bool))
+    (λ t. (t.caller, (t.writes, t.spoiled)))
+    (λ p. record { caller = p.0; writes = p.1.0; spoiled = p.1.1 }) (λ _. refl)
+
+abbrev pub tables_code : Coded (List TableChange)
+tables_code = coded_list table_change_code

@@ -1,0 +1,82 @@
+-- Lists of tables, each at its place in the schema.
+use Rattle.std.specs.Prelude.{◌≡◌, ◌⊎◌, ◌++◌, ℕ, Bool, true, false, List, [], ◌∷◌, map, slice_get, slice_set, Some, All}
+use Rattle.std.specs.Prelude.{Option, Result, Ok, Err, MatchResult}
+use Rattle.mdb_datum.specs.Row.{Fields}
+use Rattle.mdb_schema.specs.Answer.{ask_rows}
+use Rattle.mdb_schema.specs.Query.{Query}
+use Rattle.mdb_schema.specs.Refusals.{AnswersAsk, write_error}
+use Rattle.mdb_schema.specs.Schema.{TableSchema, DbSchema}
+use Rattle.mdb_schema.specs.State.{State}
+use Rattle.mdb_schema.specs.Write.{Changed, Tested, Write}
+use Rattle.mdb_schema.specs.declared.answer.Answer.{Answer}
+use Rattle.mdb_schema.specs.declared.ask_error.AskError.{AskError}
+use Rattle.mdb_schema.specs.declared.write_error.WriteError.{WriteError}
+use Rattle.mdb_schema.specs.declared.write_error.WriteError.TheVariants.{Memory}
+use Rattle.table_index.specs.Table.{TableRows, TableChange}
+
+abbrev pub empty_table : TableSchema → TableRows
+empty_table t = record { schema = t; rows = [] }
+
+abbrev pub schemas_of : List TableRows → DbSchema
+schemas_of ts = map (λ (t : TableRows). t.schema) ts
+
+abbrev pub state_of : List TableRows → State
+state_of ts = map (λ (t : TableRows). t.rows) ts
+
+-- a table that is being changed, as it stands
+abbrev pub standing : TableChange → TableRows
+standing t = record { schema = t.schema; rows = t.rows }
+
+-- a table that nobody has written to
+abbrev pub unwritten : TableRows → TableChange
+unwritten t = record { schema = t.schema; rows = t.rows; spoiled = false }
+
+abbrev pub IsSound : TableChange → Type 0
+IsSound t = t.spoiled ≡ false
+
+-- the tables are a state, and each may be written
+pub record StandFor (tables : List TableChange) (schema : DbSchema) (s : State) : Type 0 where
+  pub schemas : schemas_of (map standing tables) ≡ schema
+  pub rows : state_of (map standing tables) ≡ s
+  pub sound : All IsSound tables
+
+-- the answer of a table to a write that leaves these rows, or is refused so; after want of memory
+-- its rows mean nothing
+abbrev pub AnswersRows : {A : Type 0} → (Option Fields → A → Type 0) → Tested Changed
+    → Result A WriteError → TableChange → TableChange → Type 0
+AnswersRows gives (Ok c) result old new =
+    MatchResult result (λ x. gives c.1 x × (new ≡ record old { rows = c.0 })) (λ e. e ≡ Memory)
+AnswersRows gives (Err why) result old new =
+    MatchResult result (λ x. ⊥) (λ e. ((e ≡ write_error why) × (new ≡ old)) ⊎ (e ≡ Memory))
+
+-- the same of the table at a place of a list
+pub record AnswersAt {A : Type 0} (gives : Option Fields → A → Type 0)
+    (change : TableChange → Tested Changed) (place : ℕ) (result : Result A WriteError)
+    (old new : List TableChange) : Type 0 where
+  pub before : TableChange
+  pub after : TableChange
+  pub there : slice_get old place ≡ Some before
+  pub answers : AnswersRows gives (change before) result before after
+  pub set : new ≡ slice_set old place after
+
+-- the answer to a question of the table at a place
+pub record AnswersAskAt (q : Query) (place : ℕ) (result : Result Answer AskError)
+    (tables : List TableChange) : Type 0 where
+  pub asked : TableChange
+  pub there : slice_get tables place ≡ Some asked
+  pub answers : AnswersAsk (ask_rows asked.schema asked.rows q) result
+
+-- a write to the table at a place, and to the list of the accepted writes, which it joins unless it
+-- is refused
+abbrev pub Joins : {A : Type 0} → (Option Fields → A → Type 0) → (TableChange → Tested Changed)
+    → ℕ → Write → Result A WriteError → List TableChange → List TableChange
+    → List Write → List Write → Type 0
+Joins gives change place w result tables tables' writes writes' =
+    MatchResult result
+    (λ x. AnswersAt gives change place (Ok x) tables tables' × (writes' ≡ writes ++ w ∷ []))
+    (λ e. ((e ≡ Memory) ⊎ AnswersAt gives change place (Err e) tables tables') × (writes' ≡ writes))
+
+-- the error is want of memory
+abbrev pub is_memory : WriteError → Bool
+is_memory Memory = true
+is_memory e = false

@@ -1,0 +1,328 @@
+//! A write transaction, but for its deferred items.
+ghost use Rattle.std.specs.Prelude.{◌≡◌, ◌≤◌, ◌<◌, ◌+◌, ◌^◌, false, IfOk, MatchResult, All, Some, length, map, slice_get};
+ghost use Rattle.std.specs.Arc.{arc_value};
+ghost use Rattle.mdb_schema.specs.Answer.{ask};
+ghost use Rattle.mdb_schema.specs.LawfulSchema.{IsLawfulTable};
+ghost use Rattle.mdb_schema.specs.Wipe.{wipe, wipe_by_prefix};
+ghost use Rattle.mdb_schema.specs.Write.{put, remove, put_row, remove_row};
+ghost use Rattle.mem_txn.specs.Changes.{AnswersTxnAsk, AnswersTxnWipe, AnswersTxnWrite, after_commit, begun, gives_replaced, gives_row, present, view_at};
+ghost use Rattle.mem_txn.specs.Database.{state_seen};
+ghost use Rattle.mem_txn.specs.inner.VersionTables.{IsSound, Joins, StandFor, is_memory, schemas_of, standing, state_of};
+ghost use Rattle.mem_txn.specs.inner.Wipes.{wipe_by};
+
+use crate::accepted::{Accepted, Kind};
+use crate::entry::Entry;
+use crate::pass::Pass;
+use crate::txn_error::{TxnAskError, TxnWipeError, TxnWriteError};
+use crate::txn_tables::TxnTables;
+use crate::version::Version;
+use crate::wipe::{self, Wipe, wipe_in};
+use mdb_datum::Row;
+use mdb_schema::{Answer, AskError, Query, TableDef, WriteError};
+use std::alloc::{AllocError, Global};
+use std::marker::Model;
+use std::sync::Arc;
+
+/// A caller's write transaction, seen as `Changes`: the caller, the writes that were accepted, and
+/// whether it is spoiled.
+#[derive(Drop)]
+pub(crate) struct Changes {
+    pass: Pass,
+    number: u64,
+    tables: TxnTables,
+    writes: Vec<Accepted>,
+    spoiled: bool,
+}
+
+impl Model for Changes {
+    ghost use Rattle.mem_txn.specs.Changes.{Changes};
+    ghost use Rattle.mem_txn.specs.inner.Stored.{changes_code};
+
+    ghost Value = { Changes };
+
+    ghost coded = { changes_code };
+
+    ghost use Rattle.mem_txn.specs.inner.ChangesView.{changes_view, AreChanges};
+
+    ghost view = { changes_view };
+
+    ghost invariant = { AreChanges };
+}
+
+impl Changes {
+    /// A transaction without writes, whose tables stand after the commits that its caller has seen.
+    /// It takes no memory.
+    pub(crate) fn begun(pass: Pass, number: u64, tables: TxnTables) -> Changes
+        requires few { length pass.seen < 2 ^ 63 }
+        requires number { number ≡ length pass.seen }
+        requires tables { StandFor tables pass.schema (state_seen pass) }
+        ensures { result ≡ begun pass }
+    {
+        let writes = Vec::new(pass.allocator());
+        Changes {
+            pass,
+            number,
+            tables,
+            writes,
+            spoiled: false,
+        }
+    }
+
+    /// The number of the commit on which it stands.
+    pub(crate) fn number(&self) -> u64
+        ensures number { result ≡ length self.now.caller.seen }
+        ensures few { result < 2 ^ 63 }
+    {
+        self.number
+    }
+
+    /// Whether an earlier write found no memory.
+    pub(crate) fn spoiled(&self) -> bool
+        ensures { result ≡ self.now.spoiled }
+    {
+        self.spoiled
+    }
+
+    /// What a question is answered of the present state.
+    pub(crate) fn ask(&mut self, query: &Query) -> Result<Answer, TxnAskError>
+        ensures answers { AnswersTxnAsk self.old.spoiled
+            (ask self.old.caller.schema (present self.old) query.now) result }
+        ensures unchanged { self.new ≡ self.old }
+    {
+        if self.spoiled {
+            return Err(TxnAskError::Spoiled);
+        }
+        let Some(place) = self.pass.schema().find(query.table().as_str()) else {
+            return Err(TxnAskError::Refused(AskError::UnknownTable));
+        };
+        match self.tables.ask(place, query) {
+            Ok(answer) => Ok(answer),
+            Err(error) => Err(TxnAskError::Refused(error)),
+        }
+    }
+
+    /// Puts a row into the table of a name.
+    pub(crate) fn insert(&mut self, table: &str, row: &Row) -> Result<bool, TxnWriteError>
+        ensures { AnswersTxnWrite gives_replaced (put table.now row.now) self.old.spoiled
+            result self.old self.new }
+    {
+        if self.spoiled {
+            return Err(TxnWriteError::Spoiled);
+        }
+        let Some(place) = self.pass.schema().find(table) else {
+            return Err(TxnWriteError::UnknownTable);
+        };
+        let def = def_at(&self.pass, place);
+        match put_in(place, def, row, &mut self.tables, &mut self.writes) {
+            Ok(replaced) => Ok(replaced),
+            Err(error) => {
+                self.spoiled = is_memory(&error);
+                Err(TxnWriteError::Refused(error))
+            }
+        }
+    }
+
+    /// Takes the row of another's `id` key out of the table of a name, and gives it.
+    pub(crate) fn delete(&mut self, table: &str, row: &Row) -> Result<Row, TxnWriteError>
+        ensures { AnswersTxnWrite gives_row (remove table.now row.now) self.old.spoiled
+            result self.old self.new }
+    {
+        if self.spoiled {
+            return Err(TxnWriteError::Spoiled);
+        }
+        let Some(place) = self.pass.schema().find(table) else {
+            return Err(TxnWriteError::UnknownTable);
+        };
+        let def = def_at(&self.pass, place);
+        match remove_in(place, def, row, &mut self.tables, &mut self.writes) {
+            Ok(old) => Ok(old),
+            Err(error) => {
+                self.spoiled = is_memory(&error);
+                Err(TxnWriteError::Refused(error))
+            }
+        }
+    }
+
+    /// Takes out each row that the `get` of a question's index and arguments lists, once, and gives
+    /// their number.
+    pub(crate) fn delete_all(&mut self, query: &Query) -> Result<u64, TxnWipeError>
+        ensures { AnswersTxnWipe self.old.spoiled query.now.table
+            (wipe self.old.caller.schema (present self.old) query.now) result self.old self.new }
+    {
+        self.wipe(Wipe::Listed, query)
+    }
+
+    /// Does the same, where the name of the index ends in `_prefix`; else it is refused.
+    pub(crate) fn delete_prefix(&mut self, query: &Query) -> Result<u64, TxnWipeError>
+        ensures { AnswersTxnWipe self.old.spoiled query.now.table
+            (wipe_by_prefix self.old.caller.schema (present self.old) query.now) result self.old
+            self.new }
+    {
+        self.wipe(Wipe::ByPrefix, query)
+    }
+
+    fn wipe(&mut self, wipe: Wipe, query: &Query) -> Result<u64, TxnWipeError>
+        ensures { AnswersTxnWipe self.old.spoiled query.now.table
+            (wipe_by wipe self.old.caller.schema (present self.old) query.now) result self.old
+            self.new }
+    {
+        if self.spoiled {
+            return Err(TxnWipeError::Spoiled);
+        }
+        let Some(place) = self.pass.schema().find(query.table().as_str()) else {
+            return Err(TxnWipeError::UnknownTable);
+        };
+        let def = def_at(&self.pass, place);
+        match wipe_in(place, def, wipe, query, &mut self.tables, &mut self.writes) {
+            Ok(count) => Ok(count),
+            Err(error) => {
+                self.spoiled = wipe::is_memory(&error);
+                Err(TxnWipeError::Refused(error))
+            }
+        }
+    }
+
+    /// The present state, as the value after so many commits. It takes memory for a list of the
+    /// tables and for each that is open.
+    pub(crate) fn stand(&mut self, number: u64) -> Result<Version, AllocError>
+        requires sound { self.old.spoiled ≡ false }
+        requires few { number ≤ 2 ^ 63 }
+        ensures value { IfOk result (λ v. v ≡ view_at number self.old) }
+        ensures unchanged { self.new ≡ self.old }
+    {
+        let schema = self.pass.share_schema()?;
+        let tables = self.tables.stand()?;
+        Ok(Version::of(schema, tables, number))
+    }
+
+    /// The value after its commit, and its pass, which has seen the commit; or, for want of memory,
+    /// the pass as it was.
+    pub(crate) fn freeze(self) -> Result<(Arc<Version, Global>, Pass), Pass>
+        requires sound { self.spoiled ≡ false }
+        ensures { MatchResult result
+            (λ made. (arc_value made.0 ≡ view_at (length self.caller.seen + 1) self)
+            × (made.1 ≡ after_commit self))
+            (λ pass. pass ≡ self.caller) }
+    {
+        let Changes {
+            pass,
+            number,
+            tables,
+            writes,
+            spoiled: _,
+        } = self;
+        let mut pass = pass;
+        let Ok(version) = next_version(&pass, tables, number + 1) else {
+            drop(writes);
+            return Err(pass);
+        };
+        let entry = Entry::of(pass.number(), writes);
+        match pass.see(entry) {
+            Ok(()) => Ok((version, pass)),
+            Err(_) => Err(pass),
+        }
+    }
+
+    /// Its pass, which has seen no more than when it began. It takes no memory.
+    pub(crate) fn abort(self) -> Pass
+        ensures { result ≡ self.caller }
+    {
+        let Changes {
+            pass,
+            number: _,
+            tables,
+            writes,
+            spoiled: _,
+        } = self;
+        drop(tables);
+        drop(writes);
+        pass
+    }
+}
+
+/// The value after so many commits, of the tables that the writes end with. All of its memory is
+/// taken here.
+fn next_version(
+    pass: &Pass,
+    tables: TxnTables,
+    number: u64,
+) -> Result<Arc<Version, Global>, AllocError>
+    requires sound { All IsSound tables }
+    requires schemas { schemas_of (map standing tables) ≡ pass.now.schema }
+    requires few { number ≤ 2 ^ 63 }
+    ensures { IfOk result (λ v. arc_value v ≡ record {
+      schema = pass.now.schema;
+      number = number;
+      state = state_of (map standing tables);
+    }) }
+{
+    let schema = pass.share_schema()?;
+    let tables = tables.freeze()?;
+    Ok(Arc::new(pass.allocator(), Version::of(schema, tables, number))?)
+}
+
+/// Whether a write found no memory, which spoils the transaction.
+fn is_memory(error: &WriteError) -> bool
+    ensures { result ≡ is_memory error.now }
+{
+    matches!(error, WriteError::Memory)
+}
+
+/// What the schema says of the table at a place.
+fn def_at(pass: &Pass, place: usize) -> &TableDef
+    requires { place < length pass.now.schema }
+    ensures there { slice_get pass.now.schema place ≡ Some result.now }
+    ensures lawful { IsLawfulTable result.now }
+{
+    match pass.schema().table(place) {
+        Some(def) => def,
+        None => unreachable!(),
+    }
+}
+
+/// Puts a row into the table at a place, and notes the write.
+fn put_in(
+    place: usize,
+    def: &TableDef,
+    row: &Row,
+    tables: &mut TxnTables,
+    writes: &mut Vec<Accepted>,
+) -> Result<bool, WriteError>
+    requires within { place < length tables.old }
+    requires sound { All IsSound tables.old }
+    ensures { Joins gives_replaced (λ t. put_row t.schema row.now t.rows) place
+        (put def.now.name row.now) result tables.old tables.new writes.old.items writes.new.items }
+{
+    let accepted = Accepted::of(Kind::Put, def, row)?;
+    match tables.put(place, row) {
+        Ok(replaced) => {
+            writes.push(accepted)?;
+            Ok(replaced)
+        }
+        Err(error) => Err(error),
+    }
+}
+
+/// Takes the row of another's `id` key out of the table at a place, and notes the write.
+fn remove_in(
+    place: usize,
+    def: &TableDef,
+    row: &Row,
+    tables: &mut TxnTables,
+    writes: &mut Vec<Accepted>,
+) -> Result<Row, WriteError>
+    requires within { place < length tables.old }
+    requires sound { All IsSound tables.old }
+    ensures { Joins gives_row (λ t. remove_row t.schema row.now t.rows) place
+        (remove def.now.name row.now) result tables.old tables.new writes.old.items
+        writes.new.items }
+{
+    let accepted = Accepted::of(Kind::Remove, def, row)?;
+    match tables.remove(place, row) {
+        Ok(old) => {
+            writes.push(accepted)?;
+            Ok(old)
+        }
+        Err(error) => Err(error),
+    }
+}

@@ -1,0 +1,38 @@
+//! What the calls hand back that take a pass or an item.
+use crate::deferred::DeferredList;
+use crate::pass::Pass;
+use crate::txn_error::{BeginError, CommitError};
+
+/// A write transaction that isn't begun.
+#[derive(Drop)]
+pub struct BeginRefused {
+    pub pass: Pass,
+    pub cause: BeginError,
+}
+
+/// A commit that is refused, which has aborted its transaction.
+#[derive(Drop)]
+pub struct CommitRefused {
+    pub pass: Pass,
+    pub cause: CommitError,
+}
+
+/// An item that isn't deferred, for want of memory.
+#[derive(Drop)]
+pub struct DeferRefused<D> {
+    pub item: D,
+}
+
+/// What a commit did: its number, and the deferred items, last deferred first.
+#[derive(Drop)]
+pub struct Receipt<D> {
+    pub number: u64,
+    pub items: DeferredList<D>,
+}
+
+/// A commit that was made.
+#[derive(Drop)]
+pub struct Committed<D> {
+    pub pass: Pass,
+    pub receipt: Receipt<D>,
+}

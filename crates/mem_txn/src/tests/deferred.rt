@@ -1,0 +1,83 @@
+//! Deferred items of a type that isn't copied.
+ghost use Rattle.std.specs.Prelude.{◌≡◌, IfOk};
+ghost use Rattle.mem_txn.specs.Database.{IsOf};
+ghost use Rattle.mem_txn.specs.Transactions.{changes_of};
+
+use super::opened;
+use crate::{Committed, Db, DeferredList, Pass, WriteTxn};
+use std::alloc::Global;
+use std::sync::Wait;
+use std::test::Fail;
+
+const ITEMS: [&str; 4] = ["unlock", "", "notify ann", "notify bob"];
+
+/// Defers each item, and tells whether each was kept.
+fn defer_all(alloc: Global, txn: &mut WriteTxn<String>) -> bool
+    ensures { changes_of txn.new ≡ changes_of txn.old }
+{
+    for item in &ITEMS {
+        let Ok(item) = String::from_str(alloc, item) else {
+            return false;
+        };
+        if txn.defer(item).is_err() {
+            return false;
+        }
+    }
+    true
+}
+
+/// The items of a transaction that is committed.
+fn commit_all<R: Wait>(
+    rt: &R,
+    alloc: Global,
+    db: &mut Db,
+    pass: Pass,
+) -> Result<(Pass, DeferredList<String>), Fail>
+    requires own { IsOf db.old pass }
+    ensures { IfOk result (λ made. IsOf db.new made.0) }
+{
+    let Ok(txn) = db.write(rt, pass) else {
+        return Err(Fail::from("not begun"));
+    };
+    let mut txn = txn;
+    let _kept = defer_all(alloc, &mut txn);
+    match txn.commit(rt, db) {
+        Ok(Committed { pass, receipt }) => Ok((pass, receipt.items)),
+        Err(_) => Err(Fail::from("not committed")),
+    }
+}
+
+/// Takes the items out, and tells whether they are these, last first.
+fn are_taken(items: &mut DeferredList<String>) -> bool {
+    for item in ITEMS.iter().rev() {
+        match items.take() {
+            Some(taken) if taken.as_str() == *item => {}
+            _ => return false,
+        }
+    }
+    items.take().is_none() && items.len() == 0
+}
+
+/// Whether the items are found by their places, last first.
+fn are_placed(items: &DeferredList<String>) -> bool {
+    for (at, item) in ITEMS.iter().rev().enumerate() {
+        match items.get(at) {
+            Some(found) if found.as_str() == *item => {}
+            _ => return false,
+        }
+    }
+    items.get(4).is_none() && items.len() == 4
+}
+
+/// Whether a commit hands the items out.
+fn are_handed_out<R: Wait>(rt: &R, alloc: Global) -> Result<bool, Fail> {
+    let (mut db, pass) = opened(alloc)?;
+    let (_pass, mut items) = commit_all(rt, alloc, &mut db, pass)?;
+    Ok(are_placed(&items) && are_taken(&mut items))
+}
+
+#[test]
+fn the_last_item_deferred_comes_first(rt: HostRuntime) -> Result<(), Fail> {
+    assert!(rt; are_handed_out(&rt, rt.alloc())?);
+    Ok(())
+}

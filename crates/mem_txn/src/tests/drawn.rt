@@ -1,0 +1,141 @@
+//! Rows drawn from a fixed sequence, and tables as plain lists of them.
+ghost use Rattle.std.specs.Prelude.{◌<◌};
+
+use super::is_told;
+use mdb_schema::Answer;
+use std::alloc::Global;
+use std::test::Fail;
+
+/// Six names, each at three ages.
+const ROWS: [&str; 18] = [
+    r#"{"age":1,"name":"a"}"#,
+    r#"{"age":2,"name":"a"}"#,
+    r#"{"age":3,"name":"a"}"#,
+    r#"{"age":1,"name":"ab"}"#,
+    r#"{"age":2,"name":"ab"}"#,
+    r#"{"age":3,"name":"ab"}"#,
+    r#"{"age":1,"name":"abc"}"#,
+    r#"{"age":2,"name":"abc"}"#,
+    r#"{"age":3,"name":"abc"}"#,
+    r#"{"age":1,"name":"b"}"#,
+    r#"{"age":2,"name":"b"}"#,
+    r#"{"age":3,"name":"b"}"#,
+    r#"{"age":1,"name":"ba"}"#,
+    r#"{"age":2,"name":"ba"}"#,
+    r#"{"age":3,"name":"ba"}"#,
+    r#"{"age":1,"name":"c"}"#,
+    r#"{"age":2,"name":"c"}"#,
+    r#"{"age":3,"name":"c"}"#,
+];
+
+/// The row of each name that is there, in the users and then in the notes.
+pub type Plain = [Option<usize>; 12];
+
+/// A question for all rows, or for the users of an age: its table, its index, its arguments, and
+/// how the texts of its rows begin.
+pub type Question = (&'static str, &'static str, &'static str, &'static str);
+
+pub const QUESTIONS: [Question; 5] = [
+    ("users", "id", "[]", "{"),
+    ("users", "age", "[1]", "{\"age\":1"),
+    ("users", "age", "[2]", "{\"age\":2"),
+    ("users", "age", "[3]", "{\"age\":3"),
+    ("notes", "id", "[]", "{"),
+];
+
+/// Numbers by Marsaglia's shifts, the same in each run.
+#[derive(Drop)]
+pub struct Random(pub u64);
+
+impl Random {
+    /// A number below a bound.
+    pub fn below(&mut self, bound: u64) -> u64
+        requires { 0 < bound }
+        ensures { result < bound }
+    {
+        let mut x = self.0;
+        x ^= x << 13;
+        x ^= x >> 7;
+        x ^= x << 17;
+        self.0 = x;
+        x % bound
+    }
+
+    /// A place of a plain list.
+    pub fn place(&mut self) -> usize
+        ensures { result < 12 }
+    {
+        self.below(12) as usize
+    }
+
+    /// A question.
+    pub fn question(&mut self) -> &'static Question {
+        &QUESTIONS[self.below(5) as usize]
+    }
+
+    /// A row of the name at a place.
+    pub fn row(&mut self, place: usize) -> usize
+        requires { place < 12 }
+        ensures { result < 18 }
+    {
+        let name = if place < 6 { place } else { place - 6 };
+        name * 3 + self.below(3) as usize
+    }
+}
+
+/// The table of a place.
+pub fn table_of(place: usize) -> &'static str {
+    if place < 6 { "users" } else { "notes" }
+}
+
+/// The text of a row.
+pub fn text_of(row: usize) -> &'static str {
+    match ROWS.get(row) {
+        Some(text) => text,
+        None => "",
+    }
+}
+
+/// Whether a question lists the row at a place.
+fn is_asked(place: usize, row: usize, question: &Question) -> bool {
+    table_of(place) == question.0 && text_of(row).starts_with(question.3)
+}
+
+/// Takes out the rows that a question lists, and gives their number.
+pub fn wipe_plain(plain: &mut Plain, question: &Question) -> u64 {
+    let mut count = 0u64;
+    for place in 0..12 {
+        if let Some(row) = plain[place] {
+            if is_asked(place, row, question) {
+                plain[place] = None;
+                count = count.saturating_add(1);
+            }
+        }
+    }
+    count
+}
+
+/// The lines of the rows that a question lists.
+fn listed(alloc: Global, plain: &Plain, question: &Question) -> Result<String, Fail> {
+    let mut lines = String::new(alloc);
+    for (place, held) in plain.iter().enumerate() {
+        if let Some(row) = held {
+            if is_asked(place, *row, question) {
+                lines.push_str(text_of(*row))?;
+                lines.push('\n')?;
+            }
+        }
+    }
+    Ok(lines)
+}
+
+/// Whether an answer lists the rows of a plain list.
+pub fn is_alike(
+    alloc: Global,
+    answer: &Answer,
+    plain: &Plain,
+    question: &Question,
+) -> Result<bool, Fail> {
+    let lines = listed(alloc, plain, question)?;
+    is_told(alloc, answer, &lines)
+}

@@ -1,0 +1,315 @@
+//! Thousands of transactions on a database and on plain lists, which answer the same.
+ghost use Rattle.std.specs.Prelude.{◌≡◌, IfOk};
+ghost use Rattle.mem_txn.specs.Database.{IsOf};
+ghost use Rattle.mem_txn.specs.Transactions.{changes_of};
+
+use super::drawn::{Plain, QUESTIONS, Question, Random, is_alike, table_of, text_of, wipe_plain};
+use super::{opened, query_of, row_of};
+use crate::{Committed, Db, Pass, ReadTxn, Snapshot, TxnWriteError, WriteTxn};
+use mdb_datum::Row;
+use mdb_schema::{Ask, Query, WriteError};
+use std::alloc::Global;
+use std::sync::Wait;
+use std::test::Fail;
+
+/// Whether an insert is answered alike.
+fn insert_both(
+    alloc: Global,
+    random: &mut Random,
+    txn: &mut WriteTxn<u8>,
+    plain: &mut Plain,
+) -> Result<bool, Fail>
+    ensures { (changes_of txn.new).caller ≡ (changes_of txn.old).caller }
+{
+    let place = random.place();
+    let row = random.row(place);
+    let held = plain[place];
+    plain[place] = Some(row);
+    match txn.insert(table_of(place), &row_of(alloc, text_of(row))?) {
+        Ok(replaced) => Ok(replaced == held.is_some()),
+        Err(_) => Err(Fail::from("no memory")),
+    }
+}
+
+/// Whether a row is the one that was held.
+fn is_held(row: &Row, held: Option<usize>) -> Result<bool, Fail> {
+    let text = text_of(held.unwrap_or(18));
+    Ok(row.doc()?.as_slice() == text.as_bytes())
+}
+
+/// Whether a delete is answered alike.
+fn delete_both(
+    alloc: Global,
+    random: &mut Random,
+    txn: &mut WriteTxn<u8>,
+    plain: &mut Plain,
+) -> Result<bool, Fail>
+    ensures { (changes_of txn.new).caller ≡ (changes_of txn.old).caller }
+{
+    let place = random.place();
+    let row = random.row(place);
+    let held = plain[place];
+    plain[place] = None;
+    match txn.delete(table_of(place), &row_of(alloc, text_of(row))?) {
+        Ok(old) => is_held(&old, held),
+        Err(TxnWriteError::Refused(WriteError::NotFound)) => Ok(held.is_none()),
+        Err(_) => Err(Fail::from("no memory")),
+    }
+}
+
+/// Whether a wipe is answered alike.
+fn wipe_both(
+    alloc: Global,
+    question: &Question,
+    txn: &mut WriteTxn<u8>,
+    plain: &mut Plain,
+) -> Result<bool, Fail>
+    ensures { (changes_of txn.new).caller ≡ (changes_of txn.old).caller }
+{
+    let count = wipe_plain(plain, question);
+    match txn.delete_all(&asked(alloc, question)?) {
+        Ok(told) => Ok(told == count),
+        Err(_) => Err(Fail::from("no memory")),
+    }
+}
+
+fn asked(alloc: Global, question: &Question) -> Result<Query, Fail> {
+    query_of(alloc, Ask::Get, (question.0, question.1), question.2)
+}
+
+/// Whether a transaction answers alike, and so does its snapshot.
+fn ask_both(
+    alloc: Global,
+    question: &Question,
+    txn: &mut WriteTxn<u8>,
+    plain: &Plain,
+) -> Result<bool, Fail>
+    ensures { (changes_of txn.new).caller ≡ (changes_of txn.old).caller }
+{
+    match txn.ask(&asked(alloc, question)?) {
+        Ok(answer) => is_alike(alloc, &answer, plain, question),
+        Err(_) => Err(Fail::from("no memory")),
+    }
+}
+
+/// Whether the snapshot of a transaction answers alike.
+fn snapshot_both(
+    alloc: Global,
+    question: &Question,
+    txn: &mut WriteTxn<u8>,
+    plain: &Plain,
+) -> Result<bool, Fail>
+    ensures { (changes_of txn.new).caller ≡ (changes_of txn.old).caller }
+{
+    match txn.snapshot() {
+        Ok(snapshot) => is_kept(alloc, &snapshot, plain, question),
+        Err(_) => Err(Fail::from("no memory")),
+    }
+}
+
+fn is_kept(
+    alloc: Global,
+    snapshot: &Snapshot,
+    plain: &Plain,
+    question: &Question,
+) -> Result<bool, Fail> {
+    let answer = snapshot.ask(&asked(alloc, question)?)?;
+    is_alike(alloc, &answer, plain, question)
+}
+
+/// Whether a read transaction answers a question alike.
+fn is_read(
+    alloc: Global,
+    read: &ReadTxn,
+    plain: &Plain,
+    question: &Question,
+) -> Result<bool, Fail> {
+    let answer = read.ask(&asked(alloc, question)?)?;
+    is_alike(alloc, &answer, plain, question)
+}
+
+/// Whether a read transaction answers each question alike.
+pub fn are_read(alloc: Global, read: &ReadTxn, plain: &Plain) -> Result<bool, Fail> {
+    for question in &QUESTIONS {
+        if !is_read(alloc, read, plain, question)? {
+            return Ok(false);
+        }
+    }
+    Ok(true)
+}
+
+/// Whether a drawn operation is answered alike.
+fn operate(
+    alloc: Global,
+    random: &mut Random,
+    txn: &mut WriteTxn<u8>,
+    plain: &mut Plain,
+) -> Result<bool, Fail>
+    ensures { (changes_of txn.new).caller ≡ (changes_of txn.old).caller }
+{
+    let question = random.question();
+    match random.below(12) {
+        0 => wipe_both(alloc, question, txn, plain),
+        1 => ask_both(alloc, question, txn, plain),
+        2 => snapshot_both(alloc, question, txn, plain),
+        3..=5 => delete_both(alloc, random, txn, plain),
+        _ => insert_both(alloc, random, txn, plain),
+    }
+}
+
+/// Whether some operations are answered alike.
+fn operate_often(
+    alloc: Global,
+    random: &mut Random,
+    txn: &mut WriteTxn<u8>,
+    plain: &mut Plain,
+) -> Result<bool, Fail>
+    ensures { (changes_of txn.new).caller ≡ (changes_of txn.old).caller }
+{
+    for _ in 0..random.below(6) {
+        if !operate(alloc, random, txn, plain)? {
+            return Ok(false);
+        }
+    }
+    Ok(true)
+}
+
+/// Ends a transaction by its commit or its abort.
+pub fn end<R: Wait>(rt: &R, commits: bool, db: &mut Db, txn: WriteTxn<u8>) -> Result<Pass, Fail>
+    requires own { IsOf db.old (changes_of txn).caller }
+    ensures { IfOk result (λ pass. IsOf db.new pass) }
+{
+    if !commits {
+        return Ok(txn.abort(db));
+    }
+    match txn.commit(rt, db) {
+        Ok(Committed { pass, .. }) => Ok(pass),
+        Err(_) => Err(Fail::from("no memory")),
+    }
+}
+
+/// Runs a transaction to its end, where it is answered alike.
+fn run_begun<R: Wait>(
+    rt: &R,
+    alloc: Global,
+    random: &mut Random,
+    db: &mut Db,
+    txn: WriteTxn<u8>,
+    plain: &mut Plain,
+) -> Result<Pass, Fail>
+    requires own { IsOf db.old (changes_of txn).caller }
+    ensures { IfOk result (λ pass. IsOf db.new pass) }
+{
+    let mut txn = txn;
+    let mut after = *plain;
+    let commits = random.below(4) != 0;
+    match operate_often(alloc, random, &mut txn, &mut after) {
+        Ok(true) => {
+            if commits {
+                *plain = after;
+            }
+            end(rt, commits, db, txn)
+        }
+        told => {
+            drop(txn.abort(db));
+            Err(cause_of(told))
+        }
+    }
+}
+
+/// Why a transaction is given up.
+pub fn cause_of(told: Result<bool, Fail>) -> Fail {
+    match told {
+        Ok(_) => Fail::from("another answer"),
+        Err(fail) => fail,
+    }
+}
+
+/// Runs a transaction.
+fn run_both<R: Wait>(
+    rt: &R,
+    alloc: Global,
+    random: &mut Random,
+    db: &mut Db,
+    pass: Pass,
+    plain: &mut Plain,
+) -> Result<Pass, Fail>
+    requires own { IsOf db.old pass }
+    ensures { IfOk result (λ pass. IsOf db.new pass) }
+{
+    match db.write(rt, pass) {
+        Ok(txn) => run_begun(rt, alloc, random, db, txn, plain),
+        Err(_) => Err(Fail::from("no memory")),
+    }
+}
+
+/// Runs a transaction, and tells whether the rows after it are alike.
+fn run_read<R: Wait>(
+    rt: &R,
+    alloc: Global,
+    random: &mut Random,
+    db: &mut Db,
+    pass: Pass,
+    plain: &mut Plain,
+) -> Result<(Pass, bool), Fail>
+    requires own { IsOf db.old pass }
+    ensures { IfOk result (λ made. IsOf db.new made.0) }
+{
+    let mut pass = run_both(rt, alloc, random, db, pass, plain)?;
+    let read = db.read(rt, &mut pass)?;
+    let same = are_read(alloc, &read, plain)?;
+    Ok((pass, same))
+}
+
+/// Runs transactions.
+fn run_often<R: Wait>(
+    rt: &R,
+    alloc: Global,
+    random: &mut Random,
+    db: &mut Db,
+    pass: Pass,
+    plain: &mut Plain,
+    count: u64,
+) -> Result<Pass, Fail>
+    requires own { IsOf db.old pass }
+    ensures { IfOk result (λ p. IsOf db.new p) }
+{
+    let mut pass = pass;
+    for _ in 0..count {
+        let (next, same) = run_read(rt, alloc, random, db, pass, plain)?;
+        if !same {
+            return Err(Fail::from("other rows"));
+        }
+        pass = next;
+    }
+    Ok(pass)
+}
+
+/// A snapshot of a snapshot.
+fn kept_of<R: Wait>(rt: &R, db: &mut Db, pass: &mut Pass) -> Result<ReadTxn, Fail>
+    requires own { IsOf db.old pass.old }
+    ensures { IfOk result (λ _. IsOf db.new pass.new) }
+{
+    let read = db.read(rt, pass)?;
+    Ok(read.snapshot()?.snapshot()?)
+}
+
+/// Runs transactions, and tells whether a snapshot stays as it is over the later ones.
+fn is_kept_long<R: Wait>(rt: &R, alloc: Global, db: &mut Db, pass: Pass) -> Result<bool, Fail>
+    requires own { IsOf db.old pass }
+{
+    let mut random = Random(0x9e37_79b9_7f4a_7c15);
+    let mut plain: Plain = [None; 12];
+    let mut pass = run_often(rt, alloc, &mut random, db, pass, &mut plain, 100)?;
+    let before = plain;
+    let kept = kept_of(rt, db, &mut pass)?;
+    drop(run_often(rt, alloc, &mut random, db, pass, &mut plain, 4_000)?);
+    are_read(alloc, &kept, &before)
+}
+
+#[test]
+fn a_long_run_is_as_on_plain_lists(rt: HostRuntime) -> Result<(), Fail> {
+    let (mut db, pass) = opened(rt.alloc())?;
+    assert!(rt; is_kept_long(&rt, rt.alloc(), &mut db, pass)?);
+    Ok(())
+}

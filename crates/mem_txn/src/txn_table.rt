@@ -1,0 +1,136 @@
+//! A table of a write transaction.
+ghost use Rattle.std.specs.Prelude.{◌≡◌, false, IfOk};
+ghost use Rattle.std.specs.Arc.{arc_value};
+ghost use Rattle.mdb_schema.specs.Answer.{ask_rows};
+ghost use Rattle.mdb_schema.specs.Refusals.{AnswersAsk};
+ghost use Rattle.mdb_schema.specs.Write.{put_row, remove_row};
+ghost use Rattle.mem_txn.specs.Changes.{gives_replaced, gives_row};
+ghost use Rattle.mem_txn.specs.inner.VersionTables.{AnswersRows, standing, unwritten};
+ghost use Rattle.mem_txn.specs.inner.Wipes.{AnswersGone, wiped_by};
+
+use crate::wipe::Wipe;
+use mdb_datum::Row;
+use mdb_schema::{Answer, AskError, Query, Rows, WriteError};
+use std::alloc::{AllocError, Global};
+use std::marker::Model;
+use std::sync::Arc;
+use table_index::{Table, TableTxn, WipeError};
+
+/// A table of a write transaction, which is opened at the first write to it; seen as a
+/// `TableChange`.
+#[derive(Drop)]
+pub(crate) struct TxnTable {
+    shared: Arc<Table, Global>,
+    open: Option<TableTxn>,
+}
+
+impl Model for TxnTable {
+    ghost use Rattle.table_index.specs.Table.{TableChange};
+    ghost use Rattle.table_index.specs.inner.Stored.{table_change_code};
+
+    ghost Value = { TableChange };
+
+    ghost coded = { table_change_code };
+
+    ghost use Rattle.mem_txn.specs.inner.ChangesView.{txn_table_view};
+
+    ghost view = { txn_table_view };
+}
+
+impl TxnTable {
+    /// A table that nobody has written to.
+    pub(crate) fn of(shared: Arc<Table, Global>) -> TxnTable
+        ensures { result ≡ unwritten (arc_value shared) }
+    {
+        TxnTable { shared, open: None }
+    }
+
+    /// The open table, which is taken out. After `AllocError` all is as before.
+    fn opened(&mut self) -> Result<TableTxn, AllocError>
+        ensures { IfOk result (λ t. t ≡ self.old) }
+    {
+        match self.open.take() {
+            Some(txn) => Ok(txn),
+            None => self.shared.txn(),
+        }
+    }
+
+    /// Puts a row, and tells whether one was replaced. After want of memory the rows mean nothing.
+    pub(crate) fn put(&mut self, row: &Row) -> Result<bool, WriteError>
+        requires sound { self.old.spoiled ≡ false }
+        ensures { AnswersRows gives_replaced
+            (put_row self.old.schema row.now self.old.rows) result self.old self.new }
+    {
+        let mut txn = self.opened()?;
+        let told = txn.put(row);
+        self.open = Some(txn);
+        told
+    }
+
+    /// Takes out the row of another's `id` key, and gives it. After want of memory the rows mean
+    /// nothing.
+    pub(crate) fn remove(&mut self, row: &Row) -> Result<Row, WriteError>
+        requires sound { self.old.spoiled ≡ false }
+        ensures { AnswersRows gives_row
+            (remove_row self.old.schema row.now self.old.rows) result self.old self.new }
+    {
+        let mut txn = self.opened()?;
+        let told = txn.remove(row);
+        self.open = Some(txn);
+        told
+    }
+
+    /// Takes out the rows of a wipe, and gives them. A table that isn't open is opened once no rule
+    /// refuses the wipe, so that want of memory is never told in place of a rule. After it the rows
+    /// mean nothing.
+    pub(crate) fn wipe(&mut self, wipe: Wipe, query: &Query) -> Result<Rows, WipeError>
+        requires sound { self.old.spoiled ≡ false }
+        ensures { AnswersGone
+            (wiped_by wipe self.old.schema self.old.rows query.now) result self.old self.new }
+    {
+        let mut txn = match self.open.take() {
+            Some(txn) => txn,
+            None => wipe.begin(&self.shared, query)?,
+        };
+        let told = wipe.take(&mut txn, query);
+        self.open = Some(txn);
+        told
+    }
+
+    /// What a question is answered.
+    pub(crate) fn ask(&mut self, query: &Query) -> Result<Answer, AskError>
+        requires sound { self.old.spoiled ≡ false }
+        ensures answers { AnswersAsk
+            (ask_rows self.old.schema self.old.rows query.now) result }
+        ensures unchanged { self.new ≡ self.old }
+    {
+        match &mut self.open {
+            Some(txn) => txn.ask(query),
+            None => self.shared.ask(query),
+        }
+    }
+
+    /// The present table. It takes memory only where the table is open.
+    pub(crate) fn stand(&mut self, alloc: Global) -> Result<Arc<Table, Global>, AllocError>
+        requires sound { self.old.spoiled ≡ false }
+        ensures table { IfOk result (λ t. arc_value t ≡ standing self.old) }
+        ensures unchanged { self.new ≡ self.old }
+    {
+        match &mut self.open {
+            Some(txn) => Ok(Arc::new(alloc, txn.stand()?)?),
+            None => Arc::try_clone(&self.shared),
+        }
+    }
+
+    /// The table that the writes end with. It takes memory only where the table is open.
+    pub(crate) fn freeze(self, alloc: Global) -> Result<Arc<Table, Global>, AllocError>
+        requires sound { self.spoiled ≡ false }
+        ensures { IfOk result (λ t. arc_value t ≡ standing self) }
+    {
+        let TxnTable { shared, open } = self;
+        match open {
+            Some(txn) => Ok(Arc::new(alloc, txn.freeze()?)?),
+            None => Ok(shared),
+        }
+    }
+}

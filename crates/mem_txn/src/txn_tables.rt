@@ -1,0 +1,153 @@
+//! The tables of a write transaction.
+ghost use Rattle.std.specs.Prelude.{◌≡◌, ◌<◌, ◌++◌, ◌∷◌, [], false, IfOk, OnOk, All, length, map, slice_get, Some};
+ghost use Rattle.std.specs.Arc.{arc_value};
+ghost use Rattle.mdb_schema.specs.Write.{put_row, remove_row};
+ghost use Rattle.mem_txn.specs.Changes.{gives_replaced, gives_row};
+ghost use Rattle.mem_txn.specs.inner.VersionTables.{AnswersAskAt, AnswersAt, IsSound, standing, unwritten};
+ghost use Rattle.mem_txn.specs.inner.Wipes.{AnswersGoneAt, wiped_by};
+
+use crate::txn_table::TxnTable;
+use crate::wipe::Wipe;
+use mdb_datum::Row;
+use mdb_schema::{Answer, AskError, Query, Rows, WriteError};
+use std::alloc::{AllocError, Global};
+use std::marker::Model;
+use std::sync::Arc;
+use table_index::{Table, WipeError};
+
+/// The tables of a write transaction, each at its place in the schema; seen as a list.
+#[derive(Drop)]
+pub(crate) struct TxnTables {
+    tables: Vec<TxnTable>,
+}
+
+impl Model for TxnTables {
+    ghost use Rattle.std.specs.Prelude.{List};
+    ghost use Rattle.table_index.specs.Table.{TableChange};
+    ghost use Rattle.mem_txn.specs.inner.Stored.{tables_code};
+
+    ghost Value = { List TableChange };
+
+    ghost coded = { tables_code };
+
+    ghost view = { λ t. t.tables.items };
+}
+
+impl TxnTables {
+    /// Tables that nobody has written to. It takes memory for the list of them.
+    pub(crate) fn of(alloc: Global, shared: &[Arc<Table, Global>]) -> Result<TxnTables, AllocError>
+        ensures { IfOk result (λ tables. tables ≡ map unwritten (map arc_value shared.now)) }
+    {
+        let mut tables = Vec::with_capacity(alloc, shared.len())?;
+        for table in shared {
+            tables.push(TxnTable::of(Arc::try_clone(table)?))?;
+        }
+        Ok(TxnTables { tables })
+    }
+
+    /// Puts a row into the table at a place.
+    pub(crate) fn put(&mut self, place: usize, row: &Row) -> Result<bool, WriteError>
+        requires within { place < length self.old }
+        requires sound { All IsSound self.old }
+        ensures { AnswersAt gives_replaced (λ t. put_row t.schema row.now t.rows) place result
+            self.old self.new }
+    {
+        let table = &mut self.tables[place];
+        table.put(row)
+    }
+
+    /// Takes the row of another's `id` key out of the table at a place, and gives it.
+    pub(crate) fn remove(&mut self, place: usize, row: &Row) -> Result<Row, WriteError>
+        requires within { place < length self.old }
+        requires sound { All IsSound self.old }
+        ensures { AnswersAt gives_row (λ t. remove_row t.schema row.now t.rows) place result
+            self.old self.new }
+    {
+        let table = &mut self.tables[place];
+        table.remove(row)
+    }
+
+    /// Takes the rows of a wipe out of the table at a place, and gives them.
+    pub(crate) fn wipe(
+        &mut self,
+        place: usize,
+        wipe: Wipe,
+        query: &Query,
+    ) -> Result<Rows, WipeError>
+        requires within { place < length self.old }
+        requires sound { All IsSound self.old }
+        ensures { AnswersGoneAt (λ t. wiped_by wipe t.schema t.rows query.now) place result
+            self.old self.new }
+    {
+        let table = &mut self.tables[place];
+        table.wipe(wipe, query)
+    }
+
+    /// What a question of the table at a place is answered.
+    pub(crate) fn ask(&mut self, place: usize, query: &Query) -> Result<Answer, AskError>
+        requires within { place < length self.old }
+        requires sound { All IsSound self.old }
+        ensures answers { AnswersAskAt query.now place result self.old }
+        ensures unchanged { self.new ≡ self.old }
+    {
+        let table = &mut self.tables[place];
+        table.ask(query)
+    }
+
+    /// The present tables. It takes memory for the list of them and for each that is open.
+    pub(crate) fn stand(&mut self) -> Result<Vec<Arc<Table, Global>>, AllocError>
+        requires sound { All IsSound self.old }
+        ensures tables { IfOk result (λ ts. map arc_value ts.items ≡ map standing self.old) }
+        ensures unchanged { self.new ≡ self.old }
+    {
+        let alloc = *self.tables.allocator();
+        standing(alloc, &mut self.tables)
+    }
+
+    /// The tables that the writes end with. It takes memory for the list of them and for each that
+    /// is open.
+    pub(crate) fn freeze(self) -> Result<Vec<Arc<Table, Global>>, AllocError>
+        requires sound { All IsSound self }
+        ensures { IfOk result (λ ts. map arc_value ts.items ≡ map standing self) }
+    {
+        let TxnTables { tables } = self;
+        frozen(*tables.allocator(), tables)
+    }
+}
+
+/// The tables that writes to these end with.
+fn frozen(alloc: Global, tables: Vec<TxnTable>) -> Result<Vec<Arc<Table, Global>>, AllocError>
+    requires sound { All IsSound tables.items }
+    ensures { IfOk result (λ ts. map arc_value ts.items ≡ map standing tables.items) }
+{
+    let mut frozen = Vec::with_capacity(alloc, tables.len())?;
+    for table in tables {
+        freeze_onto(&mut frozen, table)?;
+    }
+    Ok(frozen)
+}
+
+/// Adds the table that writes to one end with.
+fn freeze_onto(frozen: &mut Vec<Arc<Table, Global>>, table: TxnTable) -> Result<(), AllocError>
+    requires sound { table.spoiled ≡ false }
+    ensures { OnOk result (map arc_value frozen.new.items
+        ≡ map arc_value frozen.old.items ++ standing table ∷ []) }
+{
+    let alloc = *frozen.allocator();
+    frozen.push(table.freeze(alloc)?)?;
+    Ok(())
+}
+
+/// The present tables.
+fn standing(alloc: Global, tables: &mut [TxnTable]) -> Result<Vec<Arc<Table, Global>>, AllocError>
+    requires sound { All IsSound tables.old }
+    ensures tables { IfOk result (λ ts. map arc_value ts.items ≡ map standing tables.old) }
+    ensures unchanged { tables.new ≡ tables.old }
+{
+    let mut present = Vec::with_capacity(alloc, tables.len())?;
+    for at in 0..tables.len() {
+        let table = &mut tables[at];
+        present.push(table.stand(alloc)?)?;
+    }
+    Ok(present)
+}

@@ -1,0 +1,112 @@
+//! Wipes of a table, for a write transaction.
+ghost use Rattle.std.specs.Prelude.{◌≡◌, ◌<◌, ◌++◌, ◌∷◌, [], false, All, IfOk, MatchResult, OnOk, length};
+ghost use Rattle.mdb_schema.specs.Wipe.{removals};
+ghost use Rattle.mdb_schema.specs.Write.{remove};
+ghost use Rattle.mem_txn.specs.inner.VersionTables.{IsSound, unwritten};
+ghost use Rattle.mem_txn.specs.inner.Wipes.{JoinsGoneAt, Refuses, is_memory, wiped_by};
+ghost use Rattle.table_index.specs.Table.{AnswersCheck, AnswersTake};
+
+use crate::accepted::{Accepted, Kind};
+use crate::txn_tables::TxnTables;
+use mdb_datum::Row;
+use mdb_schema::{Query, Rows, TableDef};
+use std::alloc::{AllocError, Global};
+use table_index::{Table, TableTxn, WipeError};
+
+/// Which rows a wipe takes out.
+#[derive(Clone, Copy, Debug, PartialEq, Eq)]
+pub(crate) enum Wipe {
+    /// Those that `get` lists by the question's index and arguments.
+    Listed,
+    /// The same, where the name of the index has to end in `_prefix`.
+    ByPrefix,
+}
+
+impl Wipe {
+    /// The rule by which a wipe of a table is refused, if there is one.
+    fn check(self, table: &Table, query: &Query) -> Result<(), WipeError>
+        ensures { AnswersCheck (wiped_by self table.now.schema table.now.rows query.now) result }
+    {
+        match self {
+            Wipe::Listed => table.check_take_all(query),
+            Wipe::ByPrefix => table.check_take_prefix(query),
+        }
+    }
+
+    /// A change that begins with a table, unless a rule refuses the wipe. Want of memory is never
+    /// told in place of a rule.
+    pub(crate) fn begin(self, table: &Table, query: &Query) -> Result<TableTxn, WipeError>
+        ensures { MatchResult result (λ t. t ≡ unwritten table.now)
+            (λ e. Refuses (wiped_by self table.now.schema table.now.rows query.now) e) }
+    {
+        match self.check(table, query) {
+            Ok(()) => Ok(table.txn()?),
+            Err(error) => Err(error),
+        }
+    }
+
+    /// Takes the rows out of an open table, and gives them in the order of their first listing.
+    pub(crate) fn take(self, table: &mut TableTxn, query: &Query) -> Result<Rows, WipeError>
+        requires sound { table.old.spoiled ≡ false }
+        ensures { AnswersTake (wiped_by self table.old.schema table.old.rows query.now) result
+            table.old table.new }
+    {
+        match self {
+            Wipe::Listed => table.take_all(query),
+            Wipe::ByPrefix => table.take_prefix(query),
+        }
+    }
+}
+
+/// Whether a wipe found no memory, which spoils the transaction.
+pub(crate) fn is_memory(error: &WipeError) -> bool
+    ensures { result ≡ is_memory error.now }
+{
+    matches!(error, WipeError::Memory)
+}
+
+/// Wipes the table at a place, and notes the removal of each row. Gives the number of the rows.
+pub(crate) fn wipe_in(
+    place: usize,
+    def: &TableDef,
+    wipe: Wipe,
+    query: &Query,
+    tables: &mut TxnTables,
+    writes: &mut Vec<Accepted>,
+) -> Result<u64, WipeError>
+    requires within { place < length tables.old }
+    requires sound { All IsSound tables.old }
+    ensures { JoinsGoneAt (λ t. wiped_by wipe t.schema t.rows query.now) place def.now.name result
+        tables.old tables.new writes.old.items writes.new.items }
+{
+    let gone = match tables.wipe(place, wipe, query) {
+        Ok(gone) => gone,
+        Err(error) => return Err(error),
+    };
+    let mut noted = removals(*writes.allocator(), def, &gone)?;
+    writes.append(&mut noted)?;
+    Ok(gone.len() as u64)
+}
+
+/// The removals of these rows from a table.
+fn removals(alloc: Global, def: &TableDef, rows: &Rows) -> Result<Vec<Accepted>, AllocError>
+    ensures { IfOk result (λ ws. ws.items ≡ removals def.now.name rows.now) }
+{
+    let mut writes = Vec::with_capacity(alloc, rows.len())?;
+    for at in 0..rows.len() {
+        let Some(row) = rows.get(at) else {
+            unreachable!();
+        };
+        note_removal(&mut writes, def, row)?;
+    }
+    Ok(writes)
+}
+
+/// Adds the removal of a row from a table.
+fn note_removal(writes: &mut Vec<Accepted>, def: &TableDef, row: &Row) -> Result<(), AllocError>
+    ensures { OnOk result
+        (writes.new.items ≡ writes.old.items ++ remove def.now.name row.now ∷ []) }
+{
+    writes.push(Accepted::of(Kind::Remove, def, row)?)?;
+    Ok(())
+}

@@ -1,0 +1,155 @@
+//! Write transactions.
+ghost use Rattle.std.specs.Prelude.{◌≡◌, ◌++◌, ◌∷◌, [], IfErr, OnErr, OnOk, length};
+ghost use Rattle.mdb_schema.specs.Answer.{ask};
+ghost use Rattle.mdb_schema.specs.Wipe.{wipe, wipe_by_prefix};
+ghost use Rattle.mdb_schema.specs.Write.{put, remove};
+ghost use Rattle.mem_txn.specs.Changes.{AnswersTxnAsk, AnswersTxnWipe, AnswersTxnWrite, gives_replaced, gives_row, present, present_view};
+ghost use Rattle.mem_txn.specs.Database.{IsOf};
+ghost use Rattle.mem_txn.specs.Transactions.{AnswersBegin, AnswersCommit, AnswersSnapshot, changes_of, items_of};
+
+use crate::changes::Changes;
+use crate::commit::commit;
+use crate::db::Db;
+use crate::deferred::DeferredList;
+use crate::outcome::{BeginRefused, CommitRefused, Committed, DeferRefused, Receipt};
+use crate::pass::Pass;
+use crate::snapshot::Snapshot;
+use crate::txn_error::{SnapError, TxnAskError, TxnWipeError, TxnWriteError};
+use mdb_datum::Row;
+use mdb_schema::{Answer, Query};
+use std::alloc::AllocFailed;
+use std::sync::Wait;
+
+/// A caller's write transaction. It owns its pass, and has to be spent by [`WriteTxn::commit`] or
+/// [`WriteTxn::abort`]: one that is let go doesn't compile.
+pub struct WriteTxn<D> {
+    pub(crate) changes: Changes,
+    pub(crate) deferred: Vec<D>,
+}
+
+impl<D: Drop> WriteTxn<D> {
+    /// The number of the commit on which it stands.
+    pub fn number(&self) -> u64
+        ensures { result ≡ length (changes_of self.now).caller.seen }
+    {
+        self.changes.number()
+    }
+
+    /// What a question is answered of the state with the transaction's own writes, or the first
+    /// rule that it breaks. Want of memory is never told in place of a rule.
+    pub fn ask(&mut self, query: &Query) -> Result<Answer, TxnAskError>
+        ensures answers { let t = changes_of self.old in
+            AnswersTxnAsk t.spoiled (ask t.caller.schema (present t) query.now) result }
+        ensures changes { changes_of self.new ≡ changes_of self.old }
+        ensures items { items_of self.new ≡ items_of self.old }
+    {
+        self.changes.ask(query)
+    }
+
+    /// Puts a row into the table of a name, and tells whether a row of its `id` key was replaced. A
+    /// refusal changes nothing. Want of memory spoils the transaction.
+    pub fn insert(&mut self, table: &str, row: &Row) -> Result<bool, TxnWriteError>
+        ensures answers { let t = changes_of self.old in
+            AnswersTxnWrite gives_replaced (put table.now row.now) t.spoiled result t
+            (changes_of self.new) }
+        ensures items { items_of self.new ≡ items_of self.old }
+    {
+        self.changes.insert(table, row)
+    }
+
+    /// Takes the row of another's `id` key out of the table of a name, and gives it. A refusal
+    /// changes nothing. Want of memory spoils the transaction.
+    pub fn delete(&mut self, table: &str, row: &Row) -> Result<Row, TxnWriteError>
+        ensures answers { let t = changes_of self.old in
+            AnswersTxnWrite gives_row (remove table.now row.now) t.spoiled result t
+            (changes_of self.new) }
+        ensures items { items_of self.new ≡ items_of self.old }
+    {
+        self.changes.delete(table, row)
+    }
+
+    /// Takes out each row that the `get` of a question's index and arguments lists, and gives how
+    /// many there were. A rule that the question breaks is told before any want of memory, and
+    /// changes nothing. Want of memory spoils the transaction.
+    pub fn delete_all(&mut self, query: &Query) -> Result<u64, TxnWipeError>
+        ensures answers { let t = changes_of self.old in
+            AnswersTxnWipe t.spoiled query.now.table
+            (wipe t.caller.schema (present t) query.now) result t (changes_of self.new) }
+        ensures items { items_of self.new ≡ items_of self.old }
+    {
+        self.changes.delete_all(query)
+    }
+
+    /// Does the same, where the name of the index ends in `_prefix`; else it is refused.
+    pub fn delete_prefix(&mut self, query: &Query) -> Result<u64, TxnWipeError>
+        ensures answers { let t = changes_of self.old in
+            AnswersTxnWipe t.spoiled query.now.table
+            (wipe_by_prefix t.caller.schema (present t) query.now) result t
+            (changes_of self.new) }
+        ensures items { items_of self.new ≡ items_of self.old }
+    {
+        self.changes.delete_prefix(query)
+    }
+
+    /// Keeps an item for the commit to hand out. After a refusal, for want of memory, all is as
+    /// before.
+    pub fn defer(&mut self, item: D) -> Result<(), DeferRefused<D>>
+        ensures kept { OnOk result (items_of self.new ≡ items_of self.old ++ item ∷ []) }
+        ensures unchanged { OnErr result (items_of self.new ≡ items_of self.old) }
+        ensures item { IfErr result (λ refused. refused.item ≡ item) }
+        ensures changes { changes_of self.new ≡ changes_of self.old }
+    {
+        match self.deferred.push(item) {
+            Ok(()) => Ok(()),
+            Err(AllocFailed { value }) => Err(DeferRefused { item: value }),
+        }
+    }
+
+    /// The present state, with the transaction's own writes. It takes memory for a list of the
+    /// tables, and for the indexes of those that were written. After a refusal all is as before.
+    pub fn snapshot(&mut self) -> Result<Snapshot, SnapError>
+        ensures answers { let t = changes_of self.old in
+            AnswersSnapshot t.spoiled (present_view t) result }
+        ensures changes { changes_of self.new ≡ changes_of self.old }
+        ensures items { items_of self.new ≡ items_of self.old }
+    {
+        if self.changes.spoiled() {
+            return Err(SnapError::Spoiled);
+        }
+        let number = self.changes.number();
+        match self.changes.stand(number) {
+            Ok(version) => Ok(Snapshot::of(version)),
+            Err(_) => Err(SnapError::Memory),
+        }
+    }
+
+    /// Gives the pass back, and drops the writes and the deferred items. It takes no memory.
+    pub fn abort(self, _db: &mut Db) -> Pass
+        requires own { IsOf _db.old (changes_of self).caller }
+        ensures pass { result ≡ (changes_of self).caller }
+        ensures db { _db.new ≡ _db.old }
+    {
+        let WriteTxn { changes, deferred } = self;
+        drop(deferred);
+        changes.abort()
+    }
+
+    /// Makes the writes a commit, and hands the deferred items out, last deferred first. All memory
+    /// is taken before the new state is shown. A commit that is refused has aborted the
+    /// transaction.
+    pub fn commit<R: Wait>(self, _rt: &R, db: &mut Db) -> Result<Committed<D>, CommitRefused>
+        requires own { IsOf db.old (changes_of self).caller }
+        ensures { AnswersCommit self result db.old db.new }
+    {
+        let WriteTxn { changes, deferred } = self;
+        let number = changes.number() + 1;
+        match commit(changes, db) {
+            Ok(pass) => {
+                let items = DeferredList::of(deferred);
+                let receipt = Receipt { number, items };
+                Ok(Committed { pass, receipt })
+            }
+            Err(refused) => Err(refused),
+        }
+    }
+}
