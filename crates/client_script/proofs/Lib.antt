@@ -1,7 +1,11 @@
+pub mod AloneIsLegal
 pub mod BlankEnds
 pub mod DocParts
 pub mod ErrorWords
 pub mod LimitDigits
 pub mod LineReturns
 pub mod LineSplits
+pub mod LongerHistory
+pub mod OneClient
+pub mod OneHistory
 pub mod ScriptAnswered

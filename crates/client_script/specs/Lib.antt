@@ -1,7 +1,15 @@
+pub mod Alone
+pub mod Client
 pub mod CommandWord
 pub mod Grammar
+pub mod inner
+pub mod Legal
 pub mod Lines
 pub mod Parts
 pub mod Refusal
+pub mod RefusedWord
+pub mod Reply
 pub mod Script
-pub mod inner
+pub mod Session
+pub mod Turn
+pub mod worked

@@ -1,0 +1,450 @@
+-- A client that is alone in its database has one legal output.
+use Rattle.std.proofs.Common.{arith, lit≤, ◌≡◌, refl, ap, subst, sym, ◌∙◌, ℕ, suc, ◌+◌, ◌<◌, ◌≤◌, ◌⊎◌, inl, inr, List, [], ◌∷◌, ◌++◌, length, map, Option, Some, None, Ok, Err, slice_get, take, drop, false, Contains, IsPermutation}
+use Rattle.std.specs.Bool.{⊤}
+use Rattle.std.specs.List.{enumerate_from}
+use Rattle.std.specs.Prelude.{not, codes, ◌==◌, is_some, reverse}
+use Rattle.std.proofs.lemmas.Bool.{false_from_ne_true, eqb-true, cases_lt}
+use Rattle.std.proofs.lemmas.List.{take-append-drop, length-append, length-take-le, append-nil, length-map}
+use Rattle.std.proofs.Math.Seq.{take-length, take-suc}
+use Rattle.std.proofs.lemmas.Option.{slice_get_within, get_or_from_slice_get}
+use Rattle.std.proofs.lemmas.List.FromFn.{length-enumerate_from}
+use Rattle.std.proofs.lemmas.List.Sorted.{length_permutation, Contains-permutation}
+use Rattle.mdb_datum.specs.Bytes.{Bytes}
+use Rattle.mdb_datum.specs.Row.{Fields}
+use Rattle.mdb_schema.proofs.Membership.{Contains-nil, Contains-first, Contains-later, Contains-cons_cases, Contains-from_map}
+use Rattle.mdb_schema.specs.Answer.{Asked, ask}
+use Rattle.mdb_schema.specs.History.{Commit, History}
+use Rattle.mdb_schema.specs.Query.{Query}
+use Rattle.mdb_schema.specs.Schema.{DbSchema}
+use Rattle.mdb_schema.specs.State.{State}
+use Rattle.mdb_schema.specs.Tests.{◌>>=◌, needed, passed}
+use Rattle.mdb_schema.specs.Wipe.{wipe, wipe_by_prefix}
+use Rattle.mdb_schema.specs.Write.{Write, put, remove, step}
+use Rattle.client_script.specs.Alone.{alone, then_told, joined, commit_printed}
+use Rattle.client_script.specs.Client.{Sight, Writing, Transaction, closed, reading, writing, Snapshot, Client, at_start, state_seen, snapshot_named, none_open, some_open, read_open, write_open, sight_of, Judged}
+use Rattle.client_script.specs.Legal.{Legal, printed, number_printed, all_printed, callers}
+use Rattle.client_script.specs.Reply.{Reply, read_at, write_at, ended, committed, aborted, inserted, replaced, deleted, wiped, deferred, answered, kept_at, kept_within, refused, output_text}
+use Rattle.client_script.specs.Session.{IsEntry, Answers, Runs, Session, Sessions}
+use Rattle.client_script.specs.Turn.{Turn, turn, write_turn, wipe_turn, question_turn, outcome, stepped, asked, indexes_of, with_writes, insert_reply, commit_limit, snapshot_reply}
+use Rattle.client_script.specs.declared.command.Command.{Command}
+use Rattle.client_script.specs.declared.command.Command.TheVariants as command
+use Rattle.client_script.specs.declared.line.Line.{Line}
+use Rattle.client_script.proofs.LongerHistory.{IsWithin, AllWithin, StandsWithin, next_within, turn_longer, start_within}
+
+-- ---- the open transaction stands on the last number that was told
+
+abbrev pub StandsOn : ℕ → Transaction → Type 0
+StandsOn k closed = ⊤
+StandsOn k (reading m) = m ≡ k
+StandsOn k (writing t) = t.number ≡ k
+
+pub record IsOn (k : ℕ) (v : Client) : Type 0 where
+  pub last : v.last ≡ k
+  pub transaction : StandsOn k v.transaction
+
+-- a line makes no commit, and the client is on the same number; or it makes the next one
+pub data Keeps (k : ℕ) (v : Client) (p : Reply × Client) : Type 0 where
+  same : number_printed p.0 ≡ [] → commit_printed p.0 v.transaction ≡ [] → IsOn k p.1 → Keeps k v p
+  commits : (t : Writing) (texts : List Bytes) → v.transaction ≡ writing t → p.0 ≡ committed (suc k) texts → IsOn (suc k) p.1 → Keeps k v p
+
+keeps_then : {A : Type 0} (k : ℕ) (v : Client) (j : Judged A) (f : A → Turn) → IsOn k v → ((a : A) → j ≡ Ok a → Keeps k v (outcome v (f a))) → Keeps k v (outcome v (j >>= f))
+keeps_then k v (Ok a) f on each = each a refl
+keeps_then k v (Err rule) f on each = same refl refl on
+
+on_as : (k : ℕ) (v : Client) (t : Transaction) (ss : List Snapshot) → IsOn k v → StandsOn k t → IsOn k (record { last = v.last; transaction = t; snapshots = ss })
+on_as k v t ss on stands = record { last = on.last; transaction = stands }
+
+pub writing_is : (t : Transaction) (x : Writing) → write_open t ≡ Ok x → t ≡ writing x
+writing_is closed x e = cc
+writing_is (reading m) x e = cc
+writing_is (writing t) x e = cc
+
+writing_on : (k : ℕ) (t : Transaction) (x : Writing) → write_open t ≡ Ok x → StandsOn k t → x.number ≡ k
+writing_on k t x e on = subst (StandsOn k) (writing_is t x e) on
+
+keeps_writing : (k : ℕ) (v : Client) (f : Writing → Turn) → IsOn k v → ((x : Writing) → v.transaction ≡ writing x → x.number ≡ k → Keeps k v (outcome v (f x))) → Keeps k v (outcome v (write_open v.transaction >>= f))
+keeps_writing k v f on each = keeps_then k v (write_open v.transaction) f on (λ x e. each x (writing_is v.transaction x e) (writing_on k v.transaction x e on.transaction))
+
+pub insert_prints : (was : Option Fields) → number_printed (insert_reply was) ≡ []
+insert_prints None = refl
+insert_prints (Some row) = refl
+
+insert_commits : (was : Option Fields) (t : Transaction) → commit_printed (insert_reply was) t ≡ []
+insert_commits None t = refl
+insert_commits (Some row) t = refl
+
+pub snapshot_prints : (t : Transaction) (s : Sight) → number_printed (snapshot_reply t s) ≡ []
+snapshot_prints closed s = refl
+snapshot_prints (reading m) s = refl
+snapshot_prints (writing t) s = refl
+
+snapshot_commits : (t : Transaction) (s : Sight) (t' : Transaction) → commit_printed (snapshot_reply t s) t' ≡ []
+snapshot_commits closed s t' = refl
+snapshot_commits (reading m) s t' = refl
+snapshot_commits (writing t) s t' = refl
+
+keeps_write : (k : ℕ) (schema : DbSchema) (H : History) (v : Client) (w : Write) (table : Bytes) (reply : Option Fields → Reply) → ((was : Option Fields) → number_printed (reply was) ≡ []) → ((was : Option Fields) (t : Transaction) → commit_printed (reply was) t ≡ []) → IsOn k v → Keeps k v (outcome v (write_turn schema H v w table reply))
+keeps_write k schema H v w table reply prints makes on = keeps_writing k v _ on (λ x is stands. keeps_then k v (stepped (indexes_of schema table) (step schema (state_seen schema H (sight_of x)) w)) (λ was. Ok (reply was, with_writes (w ∷ []) x v)) on (λ was e. same (prints was) (makes was v.transaction) (on_as k v _ v.snapshots on stands)))
+
+keeps_wipe : (k : ℕ) (wiping : State → Asked (List Write)) (schema : DbSchema) (H : History) (v : Client) → IsOn k v → Keeps k v (outcome v (wipe_turn wiping schema H v))
+keeps_wipe k wiping schema H v on = keeps_writing k v _ on (λ x is stands. keeps_then k v (asked (wiping (state_seen schema H (sight_of x)))) (λ gone. Ok (wiped (length gone), with_writes gone x v)) on (λ gone e. same refl refl (on_as k v _ v.snapshots on stands)))
+
+keeps_question : (k : ℕ) (schema : DbSchema) (H : History) (v : Client) (sight : Judged Sight) (q : Query) → IsOn k v → Keeps k v (outcome v (question_turn schema H v sight q))
+keeps_question k schema H v sight q on = keeps_then k v sight _ on (λ s e. keeps_then k v (asked (ask schema (state_seen schema H s) q)) (λ a. Ok (answered a, v)) on (λ a e. same refl refl on))
+
+next_on : (k n : ℕ) → n ≡ k → n + 1 ≡ suc k
+next_on k n e = search (arith, e)
+
+pub keeps : (k : ℕ) (schema : DbSchema) (H : History) (v : Client) (c : Command) → IsOn k v → Keeps k v (outcome v (turn schema H k v c))
+keeps k schema H v command.Read on = keeps_then k v (none_open v.transaction) _ on (λ u e. same refl refl (record { last = refl; transaction = refl }))
+keeps k schema H v command.Write on = keeps_then k v (none_open v.transaction) _ on (λ u e. keeps_then k v (passed (codes "commits-spent") (not (k == commit_limit))) _ on (λ u' e'. same refl refl (record { last = refl; transaction = refl })))
+keeps k schema H v command.End on = keeps_then k v (read_open v.transaction) _ on (λ m e. same refl refl (on_as k v closed v.snapshots on tt))
+keeps k schema H v command.Commit on = keeps_writing k v _ on (λ x is stands. commits x (reverse x.texts) is (ap (λ (m : ℕ). committed m (reverse x.texts)) (next_on k x.number stands)) (record { last = next_on k x.number stands; transaction = tt }))
+keeps k schema H v command.Abort on = keeps_writing k v _ on (λ x is stands. same refl refl (on_as k v closed v.snapshots on tt))
+keeps k schema H v (command.Insert table row) on = keeps_write k schema H v (put table row) table insert_reply insert_prints insert_commits on
+keeps k schema H v (command.Delete table row) on = keeps_write k schema H v (remove table row) table (λ was. deleted) (λ was. refl) (λ was t. refl) on
+keeps k schema H v (command.DeleteAll q) on = keeps_wipe k (λ s. wipe schema s q) schema H v on
+keeps k schema H v (command.DeletePrefix q) on = keeps_wipe k (λ s. wipe_by_prefix schema s q) schema H v on
+keeps k schema H v (command.Defer text) on = keeps_writing k v _ on (λ x is stands. same refl refl (on_as k v _ v.snapshots on stands))
+keeps k schema H v (command.Question q) on = keeps_question k schema H v (some_open v.transaction) q on
+keeps k schema H v (command.Snapshot name) on = keeps_then k v (some_open v.transaction) _ on (λ s e. keeps_then k v (passed (codes "name-taken") (not (is_some (snapshot_named name v.snapshots)))) _ on (λ u e'. same (snapshot_prints v.transaction s) (snapshot_commits v.transaction s v.transaction) (on_as k v v.transaction _ on on.transaction)))
+keeps k schema H v (command.InSnapshot name q) on = keeps_question k schema H v (needed (codes "unknown-name") (snapshot_named name v.snapshots)) q on
+keeps k schema H v (command.Watch name q) on = same refl refl on
+keeps k schema H v (command.WatchIn name snapshot q) on = same refl refl on
+keeps k schema H v (command.Check name) on = same refl refl on
+keeps k schema H v (command.Add set name) on = same refl refl on
+keeps k schema H v (command.AddLimit set limit name other) on = same refl refl on
+keeps k schema H v (command.Size set) on = same refl refl on
+keeps k schema H v (command.Wait set) on = same refl refl on
+keeps k schema H v (command.WaitUntil set until) on = same refl refl on
+
+-- ---- the numbers that are printed rise
+
+abbrev pub StandsFrom : ℕ → Transaction → Type 0
+StandsFrom n closed = ⊤
+StandsFrom n (reading m) = n ≤ m
+StandsFrom n (writing t) = n ≤ t.number
+
+abbrev pub AllAbove : ℕ → List ℕ → Type 0
+AllAbove n [] = ⊤
+AllAbove n (m ∷ ms) = (n < m) × AllAbove n ms
+
+above_from : (n n' : ℕ) (ms : List ℕ) → n ≤ n' → AllAbove n' ms → AllAbove n ms
+above_from n n' [] le all = tt
+above_from n n' (m ∷ ms) le all = (let lt = all.0 in omega arith, above_from n n' ms le all.1)
+
+above_both : (n : ℕ) (ms ns : List ℕ) → AllAbove n ms → AllAbove n ns → AllAbove n (ms ++ ns)
+above_both n [] ns all others = others
+above_both n (m ∷ ms) ns all others = (all.0, above_both n ms ns all.1 others)
+
+pub above_each : (n : ℕ) (ms : List ℕ) (m : ℕ) → AllAbove n ms → Contains ms m → n < m
+above_each n [] m all within = absurd (Contains-nil m within)
+above_each n (x ∷ ms) m all within = elim (Contains-cons_cases x ms m within) [ inl e ↦ subst (λ (y : ℕ). n < y) e all.0 | inr later ↦ above_each n ms m all.1 later ]
+
+pub record Rises (last : ℕ) (p : Reply × Client) : Type 0 where
+  pub later : last ≤ p.1.last
+  pub stands : StandsFrom p.1.last p.1.transaction
+  pub above : AllAbove last (number_printed p.0)
+
+rises_then : {A : Type 0} (v : Client) (j : Judged A) (f : A → Turn) → StandsFrom v.last v.transaction → ((a : A) → j ≡ Ok a → Rises v.last (outcome v (f a))) → Rises v.last (outcome v (j >>= f))
+rises_then v (Ok a) f from each = each a refl
+rises_then v (Err rule) f from each = record { later = search (arith); stands = from; above = tt }
+
+rises_same : (v : Client) (r : Reply) (t : Transaction) (ss : List Snapshot) → StandsFrom v.last t → number_printed r ≡ [] → Rises v.last (r, record { last = v.last; transaction = t; snapshots = ss })
+rises_same v r t ss from none = record { later = search (arith); stands = from; above = subst (AllAbove v.last) (sym none) tt }
+
+rises_at : (v : Client) (r : Reply) (now : ℕ) (t : Transaction) → v.last ≤ now → StandsFrom now t → number_printed r ≡ [] → Rises v.last (r, record { last = now; transaction = t; snapshots = v.snapshots })
+rises_at v r now t le from none = record { later = le; stands = from; above = subst (AllAbove v.last) (sym none) tt }
+
+writing_from : (n : ℕ) (t : Transaction) (x : Writing) → write_open t ≡ Ok x → StandsFrom n t → n ≤ x.number
+writing_from n t x e from = subst (StandsFrom n) (writing_is t x e) from
+
+rises_writing : (v : Client) (f : Writing → Turn) → StandsFrom v.last v.transaction → ((x : Writing) → v.last ≤ x.number → Rises v.last (outcome v (f x))) → Rises v.last (outcome v (write_open v.transaction >>= f))
+rises_writing v f from each = rises_then v (write_open v.transaction) f from (λ x e. each x (writing_from v.last v.transaction x e from))
+
+rises_write : (schema : DbSchema) (H : History) (v : Client) (w : Write) (table : Bytes) (reply : Option Fields → Reply) → ((was : Option Fields) → number_printed (reply was) ≡ []) → StandsFrom v.last v.transaction → Rises v.last (outcome v (write_turn schema H v w table reply))
+rises_write schema H v w table reply prints from = rises_writing v _ from (λ x le. rises_then v (stepped (indexes_of schema table) (step schema (state_seen schema H (sight_of x)) w)) (λ was. Ok (reply was, with_writes (w ∷ []) x v)) from (λ was e. rises_same v (reply was) _ v.snapshots le (prints was)))
+
+rises_wipe : (wiping : State → Asked (List Write)) (schema : DbSchema) (H : History) (v : Client) → StandsFrom v.last v.transaction → Rises v.last (outcome v (wipe_turn wiping schema H v))
+rises_wipe wiping schema H v from = rises_writing v _ from (λ x le. rises_then v (asked (wiping (state_seen schema H (sight_of x)))) (λ gone. Ok (wiped (length gone), with_writes gone x v)) from (λ gone e. rises_same v (wiped (length gone)) _ v.snapshots le refl))
+
+rises_question : (schema : DbSchema) (H : History) (v : Client) (sight : Judged Sight) (q : Query) → StandsFrom v.last v.transaction → Rises v.last (outcome v (question_turn schema H v sight q))
+rises_question schema H v sight q from = rises_then v sight _ from (λ s e. rises_then v (asked (ask schema (state_seen schema H s) q)) (λ a. Ok (answered a, v)) from (λ a e. rises_same v (answered a) v.transaction v.snapshots from refl))
+
+pub self_le : (n : ℕ) → n ≤ n
+self_le n = search (arith)
+
+pub rises : (schema : DbSchema) (H : History) (now : ℕ) (v : Client) (c : Command) → v.last ≤ now → StandsFrom v.last v.transaction → Rises v.last (outcome v (turn schema H now v c))
+rises schema H now v command.Read le from = rises_then v (none_open v.transaction) _ from (λ u e. rises_at v _ now _ le (self_le now) refl)
+rises schema H now v command.Write le from = rises_then v (none_open v.transaction) _ from (λ u e. rises_then v (passed (codes "commits-spent") (not (now == commit_limit))) _ from (λ u' e'. rises_at v _ now _ le (self_le now) refl))
+rises schema H now v command.End le from = rises_then v (read_open v.transaction) _ from (λ m e. rises_same v _ closed v.snapshots tt refl)
+rises schema H now v command.Commit le from = rises_writing v _ from (λ x le'. record { later = search (arith, le'); stands = tt; above = (search (arith, le'), tt) })
+rises schema H now v command.Abort le from = rises_writing v _ from (λ x le'. rises_same v _ closed v.snapshots tt refl)
+rises schema H now v (command.Insert table row) le from = rises_write schema H v (put table row) table insert_reply insert_prints from
+rises schema H now v (command.Delete table row) le from = rises_write schema H v (remove table row) table (λ was. deleted) (λ was. refl) from
+rises schema H now v (command.DeleteAll q) le from = rises_wipe (λ s. wipe schema s q) schema H v from
+rises schema H now v (command.DeletePrefix q) le from = rises_wipe (λ s. wipe_by_prefix schema s q) schema H v from
+rises schema H now v (command.Defer text) le from = rises_writing v _ from (λ x le'. rises_same v _ _ v.snapshots le' refl)
+rises schema H now v (command.Question q) le from = rises_question schema H v (some_open v.transaction) q from
+rises schema H now v (command.Snapshot name) le from = rises_then v (some_open v.transaction) _ from (λ s e. rises_then v (passed (codes "name-taken") (not (is_some (snapshot_named name v.snapshots)))) _ from (λ u e'. rises_same v (snapshot_reply v.transaction s) v.transaction _ from (snapshot_prints v.transaction s)))
+rises schema H now v (command.InSnapshot name q) le from = rises_question schema H v (needed (codes "unknown-name") (snapshot_named name v.snapshots)) q from
+rises schema H now v (command.Watch name q) le from = rises_same v _ v.transaction v.snapshots from refl
+rises schema H now v (command.WatchIn name snapshot q) le from = rises_same v _ v.transaction v.snapshots from refl
+rises schema H now v (command.Check name) le from = rises_same v _ v.transaction v.snapshots from refl
+rises schema H now v (command.Add set name) le from = rises_same v _ v.transaction v.snapshots from refl
+rises schema H now v (command.AddLimit set limit name other) le from = rises_same v _ v.transaction v.snapshots from refl
+rises schema H now v (command.Size set) le from = rises_same v _ v.transaction v.snapshots from refl
+rises schema H now v (command.Wait set) le from = rises_same v _ v.transaction v.snapshots from refl
+rises schema H now v (command.WaitUntil set until) le from = rises_same v _ v.transaction v.snapshots from refl
+
+pub all_rise : (schema : DbSchema) (H : History) (client : ℕ) (v : Client) (ls : List Line) (rs : List Reply) (end : Client) → Runs schema H client v ls rs end → StandsFrom v.last v.transaction → AllAbove v.last (printed rs)
+all_rise schema H client v [] [] end runs from = tt
+all_rise schema H client v [] (r ∷ rs) end runs from = absurd runs
+all_rise schema H client v (l ∷ ls) [] end runs from = absurd runs
+all_rise schema H client v (l ∷ ls) (r ∷ rs) end (next, a, runs) from =
+    let up : Rises v.last (r, next) = subst (Rises v.last) a.says (rises schema H a.now v l.command a.not_older from) in
+    above_both v.last (number_printed r) (printed rs) up.above (above_from v.last next.last (printed rs) up.later (all_rise schema H client next ls rs end runs up.stands))
+
+-- ---- a line gives the same at any number, or tells the number
+
+Tells : (now : ℕ) → Reply × Client → Reply × Client → Type 0
+Tells now p q = (p ≡ q) ⊎ ((p.1.last ≡ now) × (number_printed p.0 ≡ []))
+
+tells_then : {A : Type 0} (now : ℕ) (v : Client) (j : Judged A) (f g : A → Turn) → ((a : A) → Tells now (outcome v (f a)) (outcome v (g a))) → Tells now (outcome v (j >>= f)) (outcome v (j >>= g))
+unfolding Tells
+tells_then now v (Ok a) f g each = each a
+tells_then now v (Err rule) f g each = inl refl
+
+pub below_limit : (n : ℕ) → n < commit_limit → (n == commit_limit) ≡ false
+below_limit n lt = false_from_ne_true (n == commit_limit) (λ e. below n lt (eqb-true n commit_limit e))
+  where
+    below : (n : ℕ) → n < commit_limit → n ≡ commit_limit → ⊥
+    below n lt e = omega arith
+
+tells : (schema : DbSchema) (H : History) (k now : ℕ) (v : Client) (c : Command) → k < commit_limit → now < commit_limit → Tells now (outcome v (turn schema H now v c)) (outcome v (turn schema H k v c))
+unfolding Tells
+tells schema H k now v command.Read few few' = tells_then now v (none_open v.transaction) _ _ (λ u. inr (refl, refl))
+tells schema H k now v command.Write few few' = rw (below_limit k few, below_limit now few') (tells_then now v (none_open v.transaction) _ _ (λ u. inr (refl, refl)))
+tells schema H k now v command.End few few' = inl refl
+tells schema H k now v command.Commit few few' = inl refl
+tells schema H k now v command.Abort few few' = inl refl
+tells schema H k now v (command.Insert table row) few few' = inl refl
+tells schema H k now v (command.Delete table row) few few' = inl refl
+tells schema H k now v (command.DeleteAll q) few few' = inl refl
+tells schema H k now v (command.DeletePrefix q) few few' = inl refl
+tells schema H k now v (command.Defer text) few few' = inl refl
+tells schema H k now v (command.Question q) few few' = inl refl
+tells schema H k now v (command.Snapshot name) few few' = inl refl
+tells schema H k now v (command.InSnapshot name q) few few' = inl refl
+tells schema H k now v (command.Watch name q) few few' = inl refl
+tells schema H k now v (command.WatchIn name snapshot q) few few' = inl refl
+tells schema H k now v (command.Check name) few few' = inl refl
+tells schema H k now v (command.Add set name) few few' = inl refl
+tells schema H k now v (command.AddLimit set limit name other) few few' = inl refl
+tells schema H k now v (command.Size set) few few' = inl refl
+tells schema H k now v (command.Wait set) few few' = inl refl
+tells schema H k now v (command.WaitUntil set until) few few' = inl refl
+
+-- ---- one client
+
+from_on : (k : ℕ) (v : Client) → IsOn k v → StandsFrom v.last v.transaction
+from_on k v on = subst (λ (n : ℕ). StandsFrom n v.transaction) (sym on.last) (from v.transaction on.transaction)
+  where
+    from : (t : Transaction) → StandsOn k t → StandsFrom k t
+    from closed stands = tt
+    from (reading m) stands = search (arith, stands)
+    from (writing t) stands = search (arith, stands)
+
+-- what is printed from here on has each number from k to the last of the history
+Prints : (k last : ℕ) → List ℕ → Type 0
+Prints k last ms = (m : ℕ) → k < m → m ≤ last → Contains ms m
+
+-- the line's turn looks at no commit after the first k
+turn_here : (schema : DbSchema) (H : History) (k : ℕ) (v : Client) (c : Command) → k ≤ length H → IsWithin k v → turn schema (take k H) (length (take k H)) v c ≡ turn schema H k v c
+turn_here schema H k v c there within =
+    let size : length (take k H) ≡ k = length-take-le k H there in
+    ap (λ (n : ℕ). turn schema (take k H) n v c) size
+    ∙ sym (turn_longer schema (take k H) (drop k H) k v c (subst (λ (n : ℕ). IsWithin n v) (sym size) within))
+    ∙ ap (λ (G : History). turn schema G k v c) (take-append-drop k H)
+
+-- so it is the line's turn at number k that was told
+told_here : (schema : DbSchema) (H : History) (k : ℕ) (v next : Client) (l : Line) (ls : List Line) (r : Reply) (rs : List Reply) (end : Client) → (a : Answers schema H 1 v l.command r next) → Runs schema H 1 next ls rs end → IsOn k v → length H < commit_limit → Prints k (length H) (number_printed r ++ printed rs) → outcome v (turn schema H k v l.command) ≡ (r, next)
+unfolding Tells Prints
+told_here schema H k v next l ls r rs end a runs on few prints = elim (cases_lt k a.now) [
+  | inl lt ↦ elim (tells schema H k a.now v l.command (let there = a.there in omega arith) (let there = a.there in omega arith)) [
+    | inl e ↦ sym e ∙ a.says
+    | inr told ↦ absurd (too_late lt (ap (λ (p : Reply × Client). p.1.last) (sym a.says) ∙ told.0) (ap (λ (p : Reply × Client). number_printed p.0) (sym a.says) ∙ told.1))
+  ]
+  | inr le ↦ ap (λ (n : ℕ). outcome v (turn schema H n v l.command)) (here le) ∙ a.says
+]
+  where
+    here : a.now ≤ k → k ≡ a.now
+    here le = let low = a.not_older in let is = on.last in omega arith
+
+    from_next : StandsFrom next.last next.transaction
+    from_next = (subst (Rises v.last) a.says (rises schema H a.now v l.command a.not_older (from_on k v on))).stands
+
+    too_late : k < a.now → next.last ≡ a.now → number_printed r ≡ [] → ⊥
+    too_late lt last none =
+        let later = subst (λ (ms : List ℕ). Contains (ms ++ printed rs) (suc k)) none (prints (suc k) (search (arith)) (let there = a.there in omega arith)) in
+        let above = above_each next.last (printed rs) (suc k) (all_rise schema H 1 next ls rs end runs from_next) later in
+        omega arith
+
+all_within_up : (k : ℕ) (ss : List Snapshot) → AllWithin k ss → AllWithin (suc k) ss
+all_within_up k [] all = tt
+all_within_up k (s ∷ ss) all = (let le = all.0 in omega arith, all_within_up k ss all.1)
+
+stands_within_up : (k : ℕ) (t : Transaction) → StandsWithin k t → StandsWithin (suc k) t
+stands_within_up k closed le = tt
+stands_within_up k (reading m) le = omega arith
+stands_within_up k (writing t) le = omega arith
+
+pub within_up : (k : ℕ) (v : Client) → IsWithin k v → IsWithin (suc k) v
+within_up k v within = record { transaction = stands_within_up k v.transaction within.transaction; snapshots = all_within_up k v.snapshots within.snapshots }
+
+-- at the end of the script all commits are told
+all_told : (H : History) (k : ℕ) → k ≤ length H → Prints k (length H) [] → take k H ≡ H
+unfolding Prints
+all_told H k there prints = elim (cases_lt k (length H)) [
+  | inl lt ↦ absurd (Contains-nil (suc k) (prints (suc k) (search (arith)) lt))
+  | inr le ↦ ap (λ (n : ℕ). take n H) (same le) ∙ take-length H
+]
+  where
+    same : length H ≤ k → k ≡ length H
+    same le = omega arith
+
+-- a line that makes no commit leaves the history as it is
+no_commit : (others : List Reply × History) (H : History) (r : Reply) (t : Transaction) → commit_printed r t ≡ [] → H ++ commit_printed r t ≡ H
+no_commit others H r t none = ap (λ (cs : History). H ++ cs) none ∙ append-nil H
+
+-- a commit that is told is the next of the history
+next_commit : (H : History) (k : ℕ) (t : Writing) (r : Reply) (texts : List Bytes) → r ≡ committed (suc k) texts → t.number ≡ k → IsEntry H 1 (writing t) r → take k H ++ commit_printed r (writing t) ≡ take (suc k) H
+next_commit H k t r texts is stands entry =
+    let there = subst (λ (x : Reply). IsEntry H 1 (writing t) x) is entry in
+    let at : slice_get H k ≡ Some (record { caller = 1; writes = t.writes }) = subst (λ (n : ℕ). slice_get H n ≡ Some (record { caller = 1; writes = t.writes })) stands there in
+    ap (λ (x : Reply). take k H ++ commit_printed x (writing t)) is
+    ∙ sym (take-suc H k (record { caller = 1; writes = t.writes }) (slice_get_within H k _ at) ∙ ap (λ (c : Commit). take k H ++ c ∷ []) (get_or_from_slice_get H k _ _ at))
+
+within_history : (H : History) (k : ℕ) (t : Writing) (r : Reply) (texts : List Bytes) → r ≡ committed (suc k) texts → t.number ≡ k → IsEntry H 1 (writing t) r → suc k ≤ length H
+within_history H k t r texts is stands entry = slice_get_within H k _ (subst (λ (n : ℕ). slice_get H n ≡ Some (record { caller = 1; writes = t.writes })) stands (subst (λ (x : Reply). IsEntry H 1 (writing t) x) is entry))
+
+module _ (schema : DbSchema) (H : History) (few : length H < commit_limit) where
+  -- the replies are those to a client that is alone, and its commits are the history
+  Alone : ℕ → Client → List Line → List Reply → Type 0
+  Alone k v ls rs = alone schema ls (take k H) v ≡ (rs, H)
+
+  first_told : (k : ℕ) (v next : Client) (l : Line) (ls : List Line) (r : Reply) (rs : List Reply) (G : History) → k ≤ length H → IsWithin k v → outcome v (turn schema H k v l.command) ≡ (r, next) → take k H ++ commit_printed r v.transaction ≡ G → alone schema ls G next ≡ (rs, H) → Alone k v (l ∷ ls) (r ∷ rs)
+  unfolding Alone
+  first_told k v next l ls r rs G there within told grown others =
+      ap (λ (t : Turn). then_told (alone schema ls) (take k H) v.transaction (outcome v t)) (turn_here schema H k v l.command there within)
+      ∙ ap (λ (p : Reply × Client). then_told (alone schema ls) (take k H) v.transaction p) told
+      ∙ ap (λ (F : History). joined r (alone schema ls F next)) grown
+      ∙ ap (joined r) others
+
+  later : (k : ℕ) (r : Reply) (rs : List Reply) → number_printed r ≡ [] → Prints k (length H) (number_printed r ++ printed rs) → Prints k (length H) (printed rs)
+  unfolding Prints
+  later k r rs none prints m lt le = subst (λ (ms : List ℕ). Contains (ms ++ printed rs) m) none (prints m lt le)
+
+  later_commit : (k : ℕ) (r : Reply) (rs : List Reply) (texts : List Bytes) → r ≡ committed (suc k) texts → Prints k (length H) (number_printed r ++ printed rs) → Prints (suc k) (length H) (printed rs)
+  unfolding Prints
+  later_commit k r rs texts is prints m lt le = elim (Contains-cons_cases (suc k) (printed rs) m (subst (λ (x : Reply). Contains (number_printed x ++ printed rs) m) is (prints m (omega arith) le))) [
+    | inl e ↦ absurd (not_itself e)
+    | inr within ↦ within
+  ]
+    where
+      not_itself : suc k ≡ m → ⊥
+      not_itself e = omega arith
+
+  -- the rest of the script, at whatever number
+  Others : Client → List Line → List Reply → Type 0
+  Others next ls rs = (k : ℕ) → IsOn k next → IsWithin k next → k ≤ length H → Prints k (length H) (printed rs) → Alone k next ls rs
+
+  one_line : (k : ℕ) (v next : Client) (l : Line) (ls : List Line) (r : Reply) (rs : List Reply) → IsOn k v → IsWithin k v → k ≤ length H → Prints k (length H) (number_printed r ++ printed rs) → IsEntry H 1 v.transaction r → outcome v (turn schema H k v l.command) ≡ (r, next) → IsWithin k next → Others next ls rs → Keeps k v (r, next) → Alone k v (l ∷ ls) (r ∷ rs)
+  unfolding Others Alone
+  one_line k v next l ls r rs on within there prints made told within' others (same none makes on') = first_told k v next l ls r rs (take k H) there within told (no_commit (rs, H) (take k H) r v.transaction makes) (others k on' within' there (later k r rs none prints))
+  one_line k v next l ls r rs on within there prints made told within' others (commits t texts is told_commit on') =
+      let entry : IsEntry H 1 (writing t) r = subst (λ (x : Transaction). IsEntry H 1 x r) is made in
+      let stands : t.number ≡ k = subst (StandsOn k) is on.transaction in
+      first_told k v next l ls r rs (take (suc k) H) there within told (ap (λ (x : Transaction). take k H ++ commit_printed r x) is ∙ next_commit H k t r texts told_commit stands entry) (others (suc k) on' (within_up k next within') (within_history H k t r texts told_commit stands entry) (later_commit k r rs texts told_commit prints))
+
+  only_alone : (ls : List Line) (rs : List Reply) (v end : Client) (k : ℕ) → Runs schema H 1 v ls rs end → IsOn k v → IsWithin k v → k ≤ length H → Prints k (length H) (printed rs) → Alone k v ls rs
+  unfolding Alone Others
+  only_alone [] [] v end k runs on within there prints = ap (λ (G : History). ([], G)) (all_told H k there prints)
+  only_alone [] (r ∷ rs) v end k runs on within there prints = absurd runs
+  only_alone (l ∷ ls) [] v end k runs on within there prints = absurd runs
+  only_alone (l ∷ ls) (r ∷ rs) v end k (next, a, runs) on within there prints =
+      let told : outcome v (turn schema H k v l.command) ≡ (r, next) = told_here schema H k v next l ls r rs end a runs on few prints in
+      one_line k v next l ls r rs on within there prints a.entry told (subst (λ (p : Reply × Client). IsWithin k p.1) told (next_within k schema H k v l.command (self_le k) within)) (λ k' on' within' there' prints'. only_alone ls rs next end k' runs on' within' there' prints') (subst (λ (p : Reply × Client). Keeps k v p) told (keeps k schema H v l.command on))
+
+-- ---- the whole output
+
+number_few : (r : Reply) → length (number_printed r) ≤ 1
+number_few (committed m texts) = lit≤ tt
+number_few (read_at n) = lit≤ tt
+number_few (write_at n) = lit≤ tt
+number_few ended = lit≤ tt
+number_few aborted = lit≤ tt
+number_few inserted = lit≤ tt
+number_few replaced = lit≤ tt
+number_few deleted = lit≤ tt
+number_few (wiped k) = lit≤ tt
+number_few deferred = lit≤ tt
+number_few (answered a) = lit≤ tt
+number_few (kept_at n) = lit≤ tt
+number_few (kept_within n) = lit≤ tt
+number_few (refused rule) = lit≤ tt
+
+printed_few : (schema : DbSchema) (H : History) (client : ℕ) (v : Client) (ls : List Line) (rs : List Reply) (end : Client) → Runs schema H client v ls rs end → length (printed rs) ≤ length ls
+printed_few schema H client v [] [] end runs = lit≤ tt
+printed_few schema H client v [] (r ∷ rs) end runs = absurd runs
+printed_few schema H client v (l ∷ ls) [] end runs = absurd runs
+printed_few schema H client v (l ∷ ls) (r ∷ rs) end (next, a, runs) =
+    let one = number_few r in
+    let others = printed_few schema H client next ls rs end runs in
+    rw (length-append (number_printed r) (printed rs)) (omega arith)
+
+-- each number from n on stands in a numbered list
+pub numbered : {A : Type 0} (n : ℕ) (xs : List A) (m : ℕ) → n ≤ m → m < n + length xs → (x : A) × Contains (enumerate_from n xs) (m, x)
+numbered n [] m low high = absurd (none high)
+  where
+    none : m < n + 0 → ⊥
+    none lt = omega arith
+numbered n (x ∷ xs) m low high = elim (cases_lt n m) [
+  | inl lt ↦ let rest = numbered (n + 1) xs m (omega arith) (omega arith) in (rest.0, Contains-later (n, x) (enumerate_from (n + 1) xs) (m, rest.0) rest.1)
+  | inr le ↦ (x, subst (λ (k : ℕ). Contains (enumerate_from n (x ∷ xs)) (k, x)) (same le) (Contains-first (n, x) (enumerate_from (n + 1) xs)))
+]
+  where
+    same : m ≤ n → n ≡ m
+    same le = omega arith
+
+module _ (schema : DbSchema) (H : History) (script : List Line) (rs : List Reply) (numbers : IsPermutation (enumerate_from 1 (callers H)) (all_printed 1 (rs ∷ []))) where
+  told_each : Prints 0 (length H) (printed rs)
+  unfolding Prints
+  told_each m lt le =
+      let at = numbered 1 (callers H) m lt (rw (length-map H (λ (c : Commit). c.caller)) (omega arith)) in
+      let within : Contains (map (λ n. (n, 1)) (printed rs) ++ []) (m, at.0) = Contains-permutation _ _ (m, at.0) numbers at.1 in
+      let from = Contains-from_map (λ n. (n, 1)) (printed rs) (m, at.0) (subst (λ (ps : List (ℕ × ℕ)). Contains ps (m, at.0)) (append-nil (map (λ n. (n, 1)) (printed rs))) within) in
+      subst (Contains (printed rs)) (ap (λ (p : ℕ × ℕ). p.0) from.2) from.1
+
+  as_many : length H ≡ length (printed rs)
+  as_many =
+      sym (length-enumerate_from 1 (callers H) ∙ length-map H (λ (c : Commit). c.caller))
+      ∙ sym (length_permutation _ _ numbers)
+      ∙ ap length (append-nil (map (λ n. (n, 1)) (printed rs)))
+      ∙ length-map (printed rs) (λ n. (n, 1))
+
+  pub one_session : length script < commit_limit → Session schema H 1 script rs → alone schema script [] at_start ≡ (rs, H)
+  unfolding Alone Prints
+  one_session few (end, runs) =
+      let size = as_many in
+      let lines = printed_few schema H 1 at_start script rs end runs in
+      only_alone schema H (omega arith) script rs at_start end 0 runs (record { last = refl; transaction = tt }) (start_within 0) (search (arith)) told_each
+
+-- for one client the legal outputs are one text, and their histories one history
+pub one_output : (schema : DbSchema) (name : Bytes) (script : List Line) (out : Bytes) → length script < commit_limit → Legal schema (name ∷ []) (script ∷ []) out → out ≡ output_text 1 (name ∷ []) (script ∷ []) ((alone schema script [] at_start).0 ∷ [])
+one_output schema name script out few legal = of legal.replies legal.written legal.numbers legal.sessions
+  where
+    of : (rss : List (List Reply)) → out ≡ output_text 1 (name ∷ []) (script ∷ []) rss → IsPermutation (enumerate_from 1 (callers legal.history)) (all_printed 1 rss) → Sessions schema legal.history 1 (script ∷ []) rss → out ≡ output_text 1 (name ∷ []) (script ∷ []) ((alone schema script [] at_start).0 ∷ [])
+    of [] written numbers sessions = absurd sessions
+    of (rs ∷ []) written numbers sessions = written ∙ ap (λ (p : List Reply × History). output_text 1 (name ∷ []) (script ∷ []) (p.0 ∷ [])) (sym (one_session schema legal.history script rs numbers few sessions.0))
+    of (rs ∷ rs' ∷ rss) written numbers sessions = absurd sessions.1

@@ -1,0 +1,4 @@
+pub mod Told
+pub mod WorkedCatalogue
+pub mod WorkedReplies
+pub mod WorkedSessions

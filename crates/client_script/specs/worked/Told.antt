@@ -1,0 +1,48 @@
+-- What a client that is alone is told to a script, over the schema of the worked theorems.
+use Rattle.std.specs.Prelude.{◌++◌, List, [], ◌∷◌, length, Option, Some, None, Result, Ok, Err}
+use Rattle.mdb_datum.specs.Bytes.{Bytes}
+use Rattle.mdb_schema.specs.Schema.{DbSchema}
+use Rattle.mdb_schema.specs.worked.Apart.{asked_code}
+use Rattle.mdb_schema.specs.worked.Sample.{sample}
+use Rattle.client_script.specs.Alone.{alone}
+use Rattle.client_script.specs.Client.{at_start}
+use Rattle.client_script.specs.Refusal.{ScriptRefusal}
+use Rattle.client_script.specs.Reply.{Reply, read_at, write_at, ended, committed, aborted, inserted, replaced, deleted, wiped, deferred, answered, kept_at, kept_within, refused}
+use Rattle.client_script.specs.Script.{script_in}
+use Rattle.client_script.specs.declared.line.Line.{Line}
+
+abbrev pub told_over : DbSchema → Result (List Line) ScriptRefusal → List Reply
+told_over schema (Ok lines) = (alone schema lines [] at_start).0
+told_over schema (Err r) = []
+
+-- the replies to a client file
+abbrev pub replies_over : DbSchema → Bytes → List Reply
+replies_over schema script = told_over schema (script_in script)
+
+abbrev pub replies_to : Bytes → List Reply
+replies_to script = replies_over sample script
+
+-- replies that differ have different codes
+abbrev texts_code : List Bytes → Bytes
+texts_code [] = 0 ∷ []
+texts_code (t ∷ ts) = 1 ∷ length t ∷ t ++ texts_code ts
+
+abbrev code_of : Reply → Bytes
+code_of (read_at n) = 0 ∷ n ∷ []
+code_of (write_at n) = 1 ∷ n ∷ []
+code_of ended = 2 ∷ []
+code_of (committed n texts) = 3 ∷ n ∷ texts_code texts
+code_of aborted = 4 ∷ []
+code_of inserted = 5 ∷ []
+code_of replaced = 6 ∷ []
+code_of deleted = 7 ∷ []
+code_of (wiped k) = 8 ∷ k ∷ []
+code_of deferred = 9 ∷ []
+code_of (answered a) = 10 ∷ asked_code (Ok a)
+code_of (kept_at n) = 11 ∷ n ∷ []
+code_of (kept_within n) = 12 ∷ n ∷ []
+code_of (refused rule) = 13 ∷ rule
+
+abbrev pub reply_code : Option Reply → Bytes
+reply_code None = []
+reply_code (Some r) = code_of r
