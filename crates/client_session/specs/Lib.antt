@@ -1,0 +1,3 @@
+pub mod Answered
+pub mod Progress
+pub mod inner

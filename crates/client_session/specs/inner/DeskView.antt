@@ -1,0 +1,48 @@
+-- A desk, as the definitions of sessions see it.
+use Rattle.std.specs.Prelude.{◌≡◌, ◌≤◌, false, length, option_map}
+use Rattle.mdb_datum.specs.Bytes.{Bytes}
+use Rattle.mem_txn.specs.Database.{Caller, View}
+use Rattle.client_script.proofs.LongerHistory.{IsWithin}
+use Rattle.client_script.specs.Client.{Client, Sight, snapshot_named, state_seen}
+use Rattle.client_script.specs.Reply.{Reply}
+use Rattle.client_script.specs.Session.{Answers}
+use Rattle.client_script.specs.Turn.{is_of_watches}
+use Rattle.client_script.specs.declared.command.Command.{Command}
+use Rattle.client_script.specs.declared.command.Command.TheVariants as command
+use Rattle.client_session.specs.declared.desk.Desk.{Desk}
+use Rattle.client_session.specs.inner.KeptView.{seen_in}
+use Rattle.client_session.specs.inner.OpenView.{caller_of, transaction_of, Stands, Grows, IsNumbered}
+
+-- what is seen, to be asked
+abbrev pub view_of : Caller → Sight → View
+view_of p s = record { schema = p.schema; number = s.number; state = state_seen p.schema p.seen s }
+
+-- the desk has what the client knows: its transaction is what is open, each snapshot sees what it kept
+pub record Follows (d : Desk) (v : Client) : Type 0 where
+  pub transaction : v.transaction ≡ transaction_of d.open
+  pub last : v.last ≤ length (caller_of d.open).seen
+  pub within : IsWithin (length (caller_of d.open).seen) v
+  pub snapshots : (name : Bytes) → seen_in d.snapshots name
+      ≡ option_map (view_of (caller_of d.open)) (snapshot_named name v.snapshots)
+  pub stands : Stands d.open
+
+-- a line's reply, in the history that the caller has seen then, whatever the client knows
+pub record Replied (c : Command) (old new : Desk) (r : Reply) (v : Client) : Type 0 where
+  pub next : Client
+  pub answers : Answers (caller_of old.open).schema (caller_of new.open).seen
+      (caller_of old.open).number v c r next
+  pub follows : Follows new next
+
+pub record RepliesTo (c : Command) (old new : Desk) (r : Reply) : Type 0 where
+  pub replied : (v : Client) → Follows old v → Replied c old new r v
+  pub grows : Grows (caller_of old.open) (caller_of new.open) (transaction_of old.open) r
+  pub numbered : IsNumbered (caller_of old.open) (transaction_of old.open) r
+
+-- a command that neither begins nor ends a transaction, and isn't one of the six of watches
+abbrev pub IsRequest : Command → Type 0
+IsRequest command.Read = ⊥
+IsRequest command.Write = ⊥
+IsRequest command.End = ⊥
+IsRequest command.Commit = ⊥
+IsRequest command.Abort = ⊥
+IsRequest c = is_of_watches c ≡ false

@@ -1,0 +1,73 @@
+-- What is open, as the definitions of sessions see it.
+use Rattle.std.specs.Prelude.{◌≡◌, ◌≤◌, ◌+◌, ◌++◌, ℕ, false, [], ◌∷◌, length, map, ⊤}
+use Rattle.std.specs.List.{enumerate_from}
+use Rattle.client_script.specs.Legal.{callers, number_printed}
+use Rattle.mdb_schema.specs.History.{History}
+use Rattle.mem_txn.specs.Database.{Caller, View}
+use Rattle.mem_txn.specs.Transactions.{changes_of, items_of}
+use Rattle.mdb_schema.specs.History.{state_at}
+use Rattle.client_script.specs.Client.{Transaction, closed, reading, writing, Client}
+use Rattle.client_script.specs.Reply.{Reply, committed}
+use Rattle.client_script.specs.Turn.{turn, outcome}
+use Rattle.client_script.specs.declared.command.Command.{Command}
+use Rattle.client_session.specs.declared.open.Open.{Open}
+use Rattle.client_session.specs.declared.open.Open.TheVariants as opens
+
+-- the caller whose pass it is
+abbrev pub caller_of : Open → Caller
+caller_of (opens.Nothing pass) = pass
+caller_of (opens.Reading pass txn) = pass
+caller_of (opens.Writing txn) = (changes_of txn).caller
+
+abbrev pub transaction_of : Open → Transaction
+transaction_of (opens.Nothing pass) = closed
+transaction_of (opens.Reading pass txn) = reading txn.number
+transaction_of (opens.Writing txn) = writing (record {
+  number = length (changes_of txn).caller.seen;
+  writes = (changes_of txn).writes;
+  texts = items_of txn;
+})
+
+-- the state after the first n commits that a caller has seen, to be asked
+abbrev pub view_at_commit : Caller → ℕ → View
+view_at_commit p n = record { schema = p.schema; number = n; state = state_at p.schema p.seen n }
+
+-- a read transaction sees the state after a commit that its caller has seen; a write transaction isn't
+-- spoiled
+abbrev pub Stands : Open → Type 0
+Stands (opens.Nothing pass) = ⊤
+Stands (opens.Reading pass txn) =
+    (txn.number ≤ length pass.seen) × (txn ≡ view_at_commit pass txn.number)
+Stands (opens.Writing txn) = (changes_of txn).spoiled ≡ false
+
+-- the commit that a reply tells
+abbrev pub made : ℕ → Transaction → Reply → History
+made caller (writing t) (committed m texts) =
+    record { caller = caller; writes = t.writes } ∷ []
+made caller t r = []
+
+-- the caller has seen the commit that the reply tells, and no other
+abbrev pub Grows : Caller → Caller → Transaction → Reply → Type 0
+Grows old new t r = new ≡ record old { seen = old.seen ++ made old.number t r }
+
+-- a commit that is told has the next number
+abbrev pub IsNumbered : Caller → Transaction → Reply → Type 0
+IsNumbered old t r = map (λ m. (m, old.number)) (number_printed r)
+    ≡ enumerate_from (length old.seen + 1) (callers (made old.number t r))
+
+-- a line's turn over what is open: the reply, and what the client then knows
+pub record Turns (c : Command) (old new : Open) (r : Reply) (v : Client) : Type 0 where
+  pub next : Client
+  pub says : outcome v (turn (caller_of old).schema (caller_of old).seen
+      (length (caller_of old).seen) v c) ≡ (r, next)
+  pub transaction : next.transaction ≡ transaction_of new
+  pub snapshots : next.snapshots ≡ v.snapshots
+  pub last : next.last ≤ length (caller_of new).seen
+
+-- the same, whatever else the client knows
+pub record TurnsTo (c : Command) (old new : Open) (r : Reply) : Type 0 where
+  pub turns : (v : Client) → v.transaction ≡ transaction_of old
+      → v.last ≤ length (caller_of old).seen → Turns c old new r v
+  pub stands : Stands new
+  pub grows : Grows (caller_of old) (caller_of new) (transaction_of old) r
+  pub numbered : IsNumbered (caller_of old) (transaction_of old) r

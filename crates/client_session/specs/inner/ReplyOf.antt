@@ -1,0 +1,23 @@
+-- Replies, as the definitions of sessions see them.
+use Rattle.mdb_schema.specs.Schema.{DbSchema}
+use Rattle.mem_txn.specs.Transactions.{deferred_items}
+use Rattle.client_script.specs.Reply as said
+use Rattle.client_session.specs.declared.reply.Reply.{Reply}
+use Rattle.client_session.specs.declared.reply.Reply.TheVariants as reply
+use Rattle.client_session.specs.inner.RuleName.{rule_name}
+
+abbrev pub reply_of : DbSchema → Reply → said.Reply
+reply_of schema (reply.ReadAt n) = said.read_at n
+reply_of schema (reply.WriteAt n) = said.write_at n
+reply_of schema reply.Ended = said.ended
+reply_of schema (reply.Committed r) = said.committed r.number (deferred_items r.items)
+reply_of schema reply.Aborted = said.aborted
+reply_of schema reply.Inserted = said.inserted
+reply_of schema reply.Replaced = said.replaced
+reply_of schema reply.Deleted = said.deleted
+reply_of schema (reply.Wiped k) = said.wiped k
+reply_of schema reply.Deferred = said.deferred
+reply_of schema (reply.Answered a) = said.answered a
+reply_of schema (reply.KeptAt n) = said.kept_at n
+reply_of schema (reply.KeptWithin n) = said.kept_within n
+reply_of schema (reply.Refused rule) = said.refused (rule_name schema rule)

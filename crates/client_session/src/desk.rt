@@ -1,0 +1,164 @@
+//! What a session has between two lines, and a line's turn.
+ghost use Rattle.std.specs.Prelude.{◌≡◌, IfOk, false};
+ghost use Rattle.mem_txn.specs.Database.{IsOf};
+ghost use Rattle.client_script.specs.Turn.{is_of_watches};
+ghost use Rattle.client_script.specs.declared.command.Command.TheVariants as command;
+ghost use Rattle.client_session.specs.inner.DeskView.{IsRequest, RepliesTo};
+ghost use Rattle.client_session.specs.inner.OpenView.{caller_of, Stands};
+ghost use Rattle.client_session.specs.inner.ReplyOf.{reply_of};
+
+use crate::kept::Kept;
+use crate::open::Open;
+use crate::refusal::{question_rule, refused};
+use crate::reply::Reply;
+use crate::rule::Rule;
+use crate::snapshots::Snapshots;
+use client_script::Command;
+use mdb_datum::Text;
+use mdb_schema::{Query, Schema};
+use mem_txn::{Db, Pass, SnapError};
+use std::alloc::{AllocError, Global};
+use std::sync::Wait;
+
+/// What is open, and the named snapshots.
+pub(crate) struct Desk {
+    pub(crate) open: Open,
+    pub(crate) snapshots: Snapshots,
+}
+
+impl Desk {
+    /// Carries out a command, and gives the reply. After `AllocError` a write transaction may still be
+    /// open.
+    pub(crate) fn turn<R: Wait>(
+        self,
+        rt: &R,
+        alloc: Global,
+        db: &mut Db,
+        command: &Command,
+    ) -> (Desk, Result<Reply, AllocError>)
+        requires own { IsOf db.old (caller_of self.open) }
+        requires stands { Stands self.open }
+        requires known { is_of_watches command.now ≡ false }
+        ensures turn { IfOk result.1 (λ r. RepliesTo command.now self result.0
+            (reply_of (caller_of self.open).schema r)) }
+        ensures own { IsOf db.new (caller_of result.0.open) }
+        ensures caller { (caller_of result.0.open).number ≡ (caller_of self.open).number }
+    {
+        let Desk { open, snapshots } = self;
+        match command {
+            Command::Read => {
+                let (open, told) = open.read(rt, db);
+                (Desk { open, snapshots }, told)
+            }
+            Command::Write => {
+                let (open, told) = open.write(rt, db);
+                (Desk { open, snapshots }, told)
+            }
+            Command::End => {
+                let (open, reply) = open.end();
+                (Desk { open, snapshots }, Ok(reply))
+            }
+            Command::Commit => {
+                let (open, told) = open.commit(rt, db);
+                (Desk { open, snapshots }, told)
+            }
+            Command::Abort => {
+                let (open, reply) = open.abort(db);
+                (Desk { open, snapshots }, Ok(reply))
+            }
+            command => {
+                let mut desk = Desk { open, snapshots };
+                let told = desk.request(alloc, db.schema(), command);
+                (desk, told)
+            }
+        }
+    }
+
+    /// Carries out a command that neither begins nor ends a transaction.
+    fn request(
+        &mut self,
+        alloc: Global,
+        schema: &Schema,
+        command: &Command,
+    ) -> Result<Reply, AllocError>
+        requires stands { Stands self.old.open }
+        requires schema { schema.now ≡ (caller_of self.old.open).schema }
+        requires request { IsRequest command.now }
+        ensures turn { IfOk result (λ r. RepliesTo command.now self.old self.new
+            (reply_of (caller_of self.old.open).schema r)) }
+        ensures caller { caller_of self.new.open ≡ caller_of self.old.open }
+    {
+        match command {
+            Command::Insert { table, row } => self.open.insert(schema, table, row),
+            Command::Delete { table, row } => self.open.delete(schema, table, row),
+            Command::DeleteAll { query } => self.open.delete_all(query),
+            Command::DeletePrefix { query } => self.open.delete_prefix(query),
+            Command::Defer { text } => self.open.defer(alloc, text),
+            Command::Question { query } => self.open.ask(query),
+            Command::Snapshot { name } => self.keep(alloc, name),
+            Command::InSnapshot { name, query } => self.ask_snapshot(name, query),
+            _ => unreachable!(),
+        }
+    }
+
+    /// Keeps the present state under a name.
+    fn keep(&mut self, alloc: Global, name: &Text) -> Result<Reply, AllocError>
+        requires stands { Stands self.old.open }
+        ensures turn { IfOk result (λ r. RepliesTo (command.Snapshot name.now) self.old self.new
+            (reply_of (caller_of self.old.open).schema r)) }
+        ensures caller { caller_of self.new.open ≡ caller_of self.old.open }
+    {
+        match &mut self.open {
+            Open::Nothing(_) => Ok(Reply::Refused(Rule::NoTransaction)),
+            Open::Reading(_, txn) => {
+                if self.snapshots.has(name) {
+                    return Ok(Reply::Refused(Rule::NameTaken));
+                }
+                let number = txn.number();
+                let kept = Kept::Committed(txn.snapshot()?);
+                self.snapshots.keep(alloc, name, kept)?;
+                Ok(Reply::KeptAt(number))
+            }
+            Open::Writing(txn) => {
+                if self.snapshots.has(name) {
+                    return Ok(Reply::Refused(Rule::NameTaken));
+                }
+                let number = txn.number();
+                match txn.snapshot() {
+                    Ok(snapshot) => {
+                        let kept = Kept::Uncommitted(snapshot);
+                        self.snapshots.keep(alloc, name, kept)?;
+                        Ok(Reply::KeptWithin(number))
+                    }
+                    Err(SnapError::Memory | SnapError::Spoiled) => Err(AllocError),
+                }
+            }
+        }
+    }
+
+    /// What a question of a snapshot is answered.
+    fn ask_snapshot(&self, name: &Text, query: &Query) -> Result<Reply, AllocError>
+        requires stands { Stands self.now.open }
+        ensures { IfOk result (λ r. RepliesTo (command.InSnapshot name.now query.now) self.now
+            self.now (reply_of (caller_of self.now.open).schema r)) }
+    {
+        let Some(kept) = self.snapshots.get(name) else {
+            return Ok(Reply::Refused(Rule::UnknownName));
+        };
+        match kept.ask(query) {
+            Ok(answer) => Ok(Reply::Answered(answer)),
+            Err(error) => refused(question_rule(error)),
+        }
+    }
+
+    /// The pass, after what is open was ended or aborted.
+    pub(crate) fn close(self, db: &mut Db) -> Pass
+        requires own { IsOf db.old (caller_of self.open) }
+        ensures pass { result ≡ caller_of self.open }
+        ensures db { db.new ≡ db.old }
+    {
+        let Desk { open, snapshots } = self;
+        drop(snapshots);
+        open.close(db)
+    }
+}

@@ -1,0 +1,174 @@
+//! The answers to the lines of a script.
+ghost use Rattle.std.specs.Prelude.{◌≡◌, ◌++◌, OnOk, length, decimal, codes};
+ghost use Rattle.mdb_datum.specs.Written.{row_text};
+ghost use Rattle.mem_txn.specs.Transactions.{deferred_items};
+ghost use Rattle.client_script.specs.Reply.{answer_text, did_lines, line_text, reply_text, row_lines};
+ghost use Rattle.client_session.specs.inner.ReplyOf.{reply_of};
+ghost use Rattle.client_session.specs.inner.RuleName.{rule_name};
+
+use crate::rule::Rule;
+use mdb_datum::{Row, Text};
+use mdb_schema::{Answer, Rows, Schema};
+use mem_txn::{DeferredList, Receipt};
+use std::alloc::AllocError;
+
+/// The answer to one line.
+#[derive(Drop)]
+pub(crate) enum Reply {
+    /// A read transaction stands on the commit of this number.
+    ReadAt(u64),
+    /// A write transaction stands on the commit of this number.
+    WriteAt(u64),
+    Ended,
+    /// A new commit, and the deferred texts.
+    Committed(Receipt<Text>),
+    Aborted,
+    Inserted,
+    Replaced,
+    Deleted,
+    /// How many rows a wipe took out.
+    Wiped(u64),
+    Deferred,
+    Answered(Answer),
+    /// A snapshot stands on the commit of this number.
+    KeptAt(u64),
+    /// A snapshot stands on the commit of this number, with its transaction's writes.
+    KeptWithin(u64),
+    /// The line breaks this rule.
+    Refused(Rule),
+}
+
+impl Reply {
+    /// Adds `LINE: ANSWER` and a line feed.
+    pub(crate) fn write(
+        self,
+        line: u32,
+        schema: &Schema,
+        out: &mut Vec<u8>,
+    ) -> Result<(), AllocError>
+        ensures { OnOk result
+            (out.new.items ≡ out.old.items ++ line_text line (reply_of schema.now self)) }
+    {
+        write_number(u64::from(line), out)?;
+        out.extend_from_slice(b": ")?;
+        self.write_answer(schema, out)?;
+        out.push(b'\n')?;
+        Ok(())
+    }
+
+    /// Adds the answer alone.
+    fn write_answer(self, schema: &Schema, out: &mut Vec<u8>) -> Result<(), AllocError>
+        ensures { OnOk result
+            (out.new.items ≡ out.old.items ++ reply_text (reply_of schema.now self)) }
+    {
+        match self {
+            Reply::ReadAt(number) => write_at(b"read @", number, out),
+            Reply::WriteAt(number) => write_at(b"write @", number, out),
+            Reply::Ended => out.extend_from_slice(b"ended"),
+            Reply::Committed(receipt) => write_commit(receipt, out),
+            Reply::Aborted => out.extend_from_slice(b"aborted"),
+            Reply::Inserted => out.extend_from_slice(b"inserted"),
+            Reply::Replaced => out.extend_from_slice(b"replaced"),
+            Reply::Deleted => out.extend_from_slice(b"deleted"),
+            Reply::Wiped(count) => write_at(b"deleted ", count, out),
+            Reply::Deferred => out.extend_from_slice(b"deferred"),
+            Reply::Answered(answer) => write_rows(&answer, out),
+            Reply::KeptAt(number) => write_at(b"snapshot @", number, out),
+            Reply::KeptWithin(number) => write_within(number, out),
+            Reply::Refused(rule) => write_refused(rule, schema, out),
+        }
+    }
+}
+
+/// Adds a word and a number.
+fn write_at(word: &[u8], number: u64, out: &mut Vec<u8>) -> Result<(), AllocError>
+    ensures { OnOk result (out.new.items ≡ out.old.items ++ (word.now ++ decimal number)) }
+{
+    out.extend_from_slice(word)?;
+    write_number(number, out)
+}
+
+/// Adds a number in decimal.
+fn write_number(number: u64, out: &mut Vec<u8>) -> Result<(), AllocError>
+    ensures { OnOk result (out.new.items ≡ out.old.items ++ decimal number) }
+{
+    let mut buffer = itoa::Buffer::new();
+    out.extend_from_slice(buffer.format(number).as_bytes())
+}
+
+/// Adds what a snapshot of a write transaction is answered.
+fn write_within(number: u64, out: &mut Vec<u8>) -> Result<(), AllocError>
+    ensures { OnOk result (out.new.items ≡ out.old.items
+        ++ (codes "snapshot @" ++ (decimal number ++ codes "+"))) }
+{
+    write_at(b"snapshot @", number, out)?;
+    out.extend_from_slice(b"+")
+}
+
+/// Adds the name of the rule that a line breaks.
+fn write_refused(rule: Rule, schema: &Schema, out: &mut Vec<u8>) -> Result<(), AllocError>
+    ensures { OnOk result (out.new.items ≡ out.old.items
+        ++ (codes "refused " ++ rule_name schema.now rule)) }
+{
+    out.extend_from_slice(b"refused ")?;
+    rule.write(schema, out)
+}
+
+/// Adds a commit's number, and a line for each deferred text.
+fn write_commit(receipt: Receipt<Text>, out: &mut Vec<u8>) -> Result<(), AllocError>
+    ensures { OnOk result (out.new.items ≡ out.old.items ++ (codes "commit @"
+        ++ (decimal receipt.number ++ did_lines (deferred_items receipt.items)))) }
+{
+    let Receipt { number, items } = receipt;
+    write_at(b"commit @", number, out)?;
+    write_deferred(&items, out)
+}
+
+/// Adds a line for each deferred text.
+fn write_deferred(items: &DeferredList<Text>, out: &mut Vec<u8>) -> Result<(), AllocError>
+    ensures { OnOk result (out.new.items ≡ out.old.items ++ did_lines (deferred_items items.now)) }
+{
+    for at in 0..items.len() {
+        let Some(text) = items.get(at) else {
+            unreachable!();
+        };
+        out.extend_from_slice(b"\n  did ")?;
+        out.extend_from_slice(text.as_str().as_bytes())?;
+    }
+    Ok(())
+}
+
+/// Adds the answer to a question: a row or `none`, or a count and a line for each row.
+fn write_rows(answer: &Answer, out: &mut Vec<u8>) -> Result<(), AllocError>
+    ensures { OnOk result (out.new.items ≡ out.old.items ++ answer_text answer.now) }
+{
+    match answer {
+        Answer::One(None) => out.extend_from_slice(b"none"),
+        Answer::One(Some(row)) => write_row(row, out),
+        Answer::Many(rows) => write_list(rows, out),
+    }
+}
+
+/// Adds a row that was asked for.
+fn write_row(row: &Row, out: &mut Vec<u8>) -> Result<(), AllocError>
+    ensures { OnOk result (out.new.items ≡ out.old.items ++ (codes "row " ++ row_text row.now)) }
+{
+    out.extend_from_slice(b"row ")?;
+    row.append_doc(out)
+}
+
+/// Adds how many rows there are, and a line for each.
+fn write_list(rows: &Rows, out: &mut Vec<u8>) -> Result<(), AllocError>
+    ensures { OnOk result (out.new.items ≡ out.old.items
+        ++ (codes "rows " ++ (decimal (length rows.now) ++ row_lines rows.now))) }
+{
+    write_at(b"rows ", rows.len() as u64, out)?;
+    for at in 0..rows.len() {
+        let Some(row) = rows.get(at) else {
+            unreachable!();
+        };
+        out.extend_from_slice(b"\n  ")?;
+        row.append_doc(out)?;
+    }
+    Ok(())
+}

@@ -1,0 +1,133 @@
+//! The requests to the open transaction that leave it open.
+ghost use Rattle.std.specs.Prelude.{◌≡◌, IfOk};
+ghost use Rattle.client_script.specs.declared.command.Command.TheVariants as command;
+ghost use Rattle.client_session.specs.inner.OpenView.{caller_of, Stands, TurnsTo};
+ghost use Rattle.client_session.specs.inner.ReplyOf.{reply_of};
+
+use crate::open::Open;
+use crate::refusal::{question_rule, refused, txn_question_rule, wipe_rule, write_rule};
+use crate::reply::Reply;
+use crate::rule::Rule;
+use mdb_datum::{Row, Text};
+use mdb_schema::{Query, Schema};
+use std::alloc::{AllocError, Global};
+
+impl Open {
+    /// What a question is answered.
+    pub(crate) fn ask(&mut self, query: &Query) -> Result<Reply, AllocError>
+        requires stands { Stands self.old }
+        ensures turn { IfOk result (λ r. TurnsTo (command.Question query.now) self.old self.new
+            (reply_of (caller_of self.old).schema r)) }
+        ensures caller { caller_of self.new ≡ caller_of self.old }
+    {
+        match self {
+            Open::Nothing(_) => Ok(Reply::Refused(Rule::NoTransaction)),
+            Open::Reading(_, txn) => match txn.ask(query) {
+                Ok(answer) => Ok(Reply::Answered(answer)),
+                Err(error) => refused(question_rule(error)),
+            },
+            Open::Writing(txn) => match txn.ask(query) {
+                Ok(answer) => Ok(Reply::Answered(answer)),
+                Err(error) => refused(txn_question_rule(error)),
+            },
+        }
+    }
+
+    /// Puts a row.
+    pub(crate) fn insert(
+        &mut self,
+        schema: &Schema,
+        table: &Text,
+        row: &Row,
+    ) -> Result<Reply, AllocError>
+        requires stands { Stands self.old }
+        requires schema { schema.now ≡ (caller_of self.old).schema }
+        ensures turn { IfOk result (λ r. TurnsTo (command.Insert table.now row.now) self.old
+            self.new (reply_of schema.now r)) }
+        ensures caller { caller_of self.new ≡ caller_of self.old }
+    {
+        match self {
+            Open::Nothing(_) => Ok(Reply::Refused(Rule::NoTransaction)),
+            Open::Reading(_, _) => Ok(Reply::Refused(Rule::ReadOnly)),
+            Open::Writing(txn) => match txn.insert(table.as_str(), row) {
+                Ok(true) => Ok(Reply::Replaced),
+                Ok(false) => Ok(Reply::Inserted),
+                Err(error) => refused(write_rule(schema, table, error)),
+            },
+        }
+    }
+
+    /// Takes the row of another's `id` key out.
+    pub(crate) fn delete(
+        &mut self,
+        schema: &Schema,
+        table: &Text,
+        row: &Row,
+    ) -> Result<Reply, AllocError>
+        requires stands { Stands self.old }
+        requires schema { schema.now ≡ (caller_of self.old).schema }
+        ensures turn { IfOk result (λ r. TurnsTo (command.Delete table.now row.now) self.old
+            self.new (reply_of schema.now r)) }
+        ensures caller { caller_of self.new ≡ caller_of self.old }
+    {
+        match self {
+            Open::Nothing(_) => Ok(Reply::Refused(Rule::NoTransaction)),
+            Open::Reading(_, _) => Ok(Reply::Refused(Rule::ReadOnly)),
+            Open::Writing(txn) => match txn.delete(table.as_str(), row) {
+                Ok(_) => Ok(Reply::Deleted),
+                Err(error) => refused(write_rule(schema, table, error)),
+            },
+        }
+    }
+
+    /// Takes out the rows that Get lists.
+    pub(crate) fn delete_all(&mut self, query: &Query) -> Result<Reply, AllocError>
+        requires stands { Stands self.old }
+        ensures turn { IfOk result (λ r. TurnsTo (command.DeleteAll query.now) self.old self.new
+            (reply_of (caller_of self.old).schema r)) }
+        ensures caller { caller_of self.new ≡ caller_of self.old }
+    {
+        match self {
+            Open::Nothing(_) => Ok(Reply::Refused(Rule::NoTransaction)),
+            Open::Reading(_, _) => Ok(Reply::Refused(Rule::ReadOnly)),
+            Open::Writing(txn) => match txn.delete_all(query) {
+                Ok(count) => Ok(Reply::Wiped(count)),
+                Err(error) => refused(wipe_rule(error)),
+            },
+        }
+    }
+
+    /// The same by an index's name with `_prefix`.
+    pub(crate) fn delete_prefix(&mut self, query: &Query) -> Result<Reply, AllocError>
+        requires stands { Stands self.old }
+        ensures turn { IfOk result (λ r. TurnsTo (command.DeletePrefix query.now) self.old self.new
+            (reply_of (caller_of self.old).schema r)) }
+        ensures caller { caller_of self.new ≡ caller_of self.old }
+    {
+        match self {
+            Open::Nothing(_) => Ok(Reply::Refused(Rule::NoTransaction)),
+            Open::Reading(_, _) => Ok(Reply::Refused(Rule::ReadOnly)),
+            Open::Writing(txn) => match txn.delete_prefix(query) {
+                Ok(count) => Ok(Reply::Wiped(count)),
+                Err(error) => refused(wipe_rule(error)),
+            },
+        }
+    }
+
+    /// Keeps a text for the commit to hand out.
+    pub(crate) fn defer(&mut self, alloc: Global, text: &Text) -> Result<Reply, AllocError>
+        requires stands { Stands self.old }
+        ensures turn { IfOk result (λ r. TurnsTo (command.Defer text.now) self.old self.new
+            (reply_of (caller_of self.old).schema r)) }
+        ensures caller { caller_of self.new ≡ caller_of self.old }
+    {
+        match self {
+            Open::Nothing(_) => Ok(Reply::Refused(Rule::NoTransaction)),
+            Open::Reading(_, _) => Ok(Reply::Refused(Rule::ReadOnly)),
+            Open::Writing(txn) => match txn.defer(Text::of(alloc, text.as_str())?) {
+                Ok(()) => Ok(Reply::Deferred),
+                Err(_) => Err(AllocError),
+            },
+        }
+    }
+}

@@ -1,0 +1,144 @@
+//! Whole sessions: scripts with the text of their answers, worked from the format of both.
+ghost use Rattle.std.specs.Prelude.{◌≡◌, ◌∷◌, [], IfOk, IsTrue};
+ghost use Rattle.client_script.proofs.AloneIsLegal.{AreKnown};
+ghost use Rattle.client_script.specs.Turn.{is_of_watches};
+ghost use Rattle.mem_txn.specs.Database.{IsOf, new_callers, new_database};
+
+use crate::Session;
+use client_script::{Command, Script, read_script};
+use mdb_ports::OpenGate;
+use mdb_schema::{Schema, read_schema};
+use mem_txn::{Db, Passes};
+use std::alloc::Global;
+use std::sync::Wait;
+use std::test::Fail;
+
+mod catalogue;
+mod users;
+
+/// A script, and the text of its answers in a new database.
+type Case = (&'static str, &'static str);
+
+/// The schema that a text reads as.
+fn schema_of(alloc: Global, text: &str) -> Result<Schema, Fail> {
+    match read_schema(alloc, text.as_bytes()) {
+        Ok(schema) => Ok(schema),
+        Err(_) => Err(Fail::from("no schema")),
+    }
+}
+
+/// Whether a command is one of watches.
+fn is_of_watches(command: &Command) -> bool
+    ensures { result ≡ is_of_watches command.now }
+{
+    match command {
+        Command::Watch { .. }
+        | Command::WatchIn { .. }
+        | Command::Check { .. }
+        | Command::Add { .. }
+        | Command::AddLimit { .. }
+        | Command::Size { .. }
+        | Command::Wait { .. }
+        | Command::WaitUntil { .. } => true,
+        _ => false,
+    }
+}
+
+/// Whether no command of a script is one of watches.
+fn are_known(script: &Script) -> bool
+    ensures { IsTrue result → AreKnown script.now }
+{
+    for at in 0..script.len() {
+        let Some(line) = script.get(at) else {
+            return false;
+        };
+        if is_of_watches(&line.command) {
+            return false;
+        }
+    }
+    true
+}
+
+/// The script that a text reads as. One with a command of watches fails.
+fn script_of(alloc: Global, text: &str) -> Result<Script, Fail>
+    ensures { IfOk result AreKnown }
+{
+    let Ok(script) = read_script(alloc, text.as_bytes()) else {
+        return Err(Fail::from("no script"));
+    };
+    if !are_known(&script) {
+        return Err(Fail::from("a command of watches"));
+    }
+    Ok(script)
+}
+
+/// A new database with the schema that a text reads as, and the pass of its one caller.
+fn new_db(alloc: Global, schema: &str) -> Result<(Db, Passes), Fail>
+    ensures db { IfOk result (λ made. made.0 ≡ new_database made.0.schema) }
+    ensures passes { IfOk result (λ made. made.1 ≡ new_callers made.0.schema 1) }
+{
+    Ok(Db::create(alloc, schema_of(alloc, schema)?, 1)?)
+}
+
+/// A session of the first pass, with the script that a text reads as.
+fn session_of(alloc: Global, passes: &mut Passes, script: &str) -> Result<Session, Fail>
+    ensures known { IfOk result (λ s. AreKnown s.script) }
+    ensures pass { IfOk result
+        (λ s. passes.old ≡ record passes.new { passes = s.caller ∷ passes.new.passes }) }
+{
+    let script = script_of(alloc, script)?;
+    match passes.take() {
+        Some(pass) => Ok(Session::new(alloc, pass.number(), script, pass)),
+        None => Err(Fail::from("no pass")),
+    }
+}
+
+/// A new database, and a session of its one caller.
+fn opened(alloc: Global, schema: &str, script: &str) -> Result<(Db, Passes, Session), Fail>
+    ensures own { IfOk result (λ made. IsOf made.0 made.2.caller) }
+    ensures one { IfOk result (λ made. made.1 ≡ record { passes = []; made = 1 }) }
+    ensures known { IfOk result (λ made. AreKnown made.2.script) }
+{
+    let (db, mut passes) = new_db(alloc, schema)?;
+    match session_of(alloc, &mut passes, script) {
+        Ok(session) => Ok((db, passes, session)),
+        Err(fail) => Err(fail),
+    }
+}
+
+/// Runs a session, and tells whether the text of its answers is this. It fails for want of memory.
+fn tells<R: Wait>(rt: &R, db: &mut Db, session: &mut Session, answers: &str) -> Result<bool, Fail>
+    requires own { IsOf db.old session.old.caller }
+    requires known { AreKnown session.old.script }
+    ensures own { IsOf db.new session.new.caller }
+    ensures script { session.new.script ≡ session.old.script }
+{
+    session.run(rt, db, &OpenGate)?;
+    Ok(session.answers() == answers.as_bytes())
+}
+
+/// Ends a session and closes its database, and gives the number of commits.
+fn close<R: Wait>(rt: &R, db: Db, passes: Passes, session: Session) -> u64
+    requires own { IsOf db session.caller }
+    requires one { passes ≡ record { passes = []; made = 1 } }
+    ensures { result ≡ db.number }
+{
+    let mut passes = passes;
+    passes.give(session.end());
+    db.close(rt, passes).number()
+}
+
+/// Whether a script is answered so in a new database. It fails for want of memory, and where a text
+/// can't be read.
+fn is_answered<R: Wait>(
+    rt: &R,
+    alloc: Global,
+    schema: &str,
+    script: &str,
+    answers: &str,
+) -> Result<bool, Fail> {
+    let (mut db, passes, mut session) = opened(alloc, schema, script)?;
+    let told = tells(rt, &mut db, &mut session, answers);
+    close(rt, db, passes, session);
+    told
+}
