@@ -1,6 +1,5 @@
 -- What a client is told that is alone is legal output.
 use Rattle.std.proofs.Common.{arith, ◌≡◌, refl, ap, subst, sym, ◌∙◌, ℕ, suc, ◌+◌, List, [], ◌∷◌, ◌++◌, length, map, Some, slice_get, false, IsPermutation}
-use Rattle.std.specs.Bool.{⊤}
 use Rattle.std.specs.List.{enumerate_from}
 use Rattle.std.proofs.lemmas.List.{append-nil, length-append, append_assoc, map-append, length-map}
 use Rattle.std.proofs.lemmas.List.Sorted.{IsPermutation-refl}
@@ -11,16 +10,11 @@ use Rattle.client_script.specs.Alone.{alone, then_told, joined, commit_printed}
 use Rattle.client_script.specs.Client.{Writing, Transaction, closed, reading, writing, Client, at_start}
 use Rattle.client_script.specs.Legal.{Legal, printed, number_printed, callers}
 use Rattle.client_script.specs.Reply.{Reply, read_at, write_at, ended, committed, aborted, inserted, replaced, deleted, wiped, deferred, answered, kept_at, kept_within, refused, output_text}
-use Rattle.client_script.specs.Session.{IsEntry, Runs}
+use Rattle.client_script.specs.Session.{AreKnown, IsEntry, Runs}
 use Rattle.client_script.specs.Turn.{turn, outcome, is_of_watches}
 use Rattle.client_script.specs.declared.line.Line.{Line}
-use Rattle.client_script.proofs.LongerHistory.{IsWithin, next_within, turn_longer, start_within}
+use Rattle.client_script.proofs.LongerHistory.{IsWithin, no_entry, next_within, turn_longer, start_within}
 use Rattle.client_script.proofs.OneClient.{IsOn, StandsOn, Keeps, same, commits, keeps, within_up}
-
--- no line has one of the six words of watches
-abbrev pub AreKnown : List Line → Type 0
-AreKnown [] = ⊤
-AreKnown (l ∷ ls) = (is_of_watches l.command ≡ false) × AreKnown ls
 
 -- what is told from a history on: it grows by the commits that are printed, numbered on, and the
 -- replies are a session of the grown history
@@ -30,24 +24,6 @@ record Lives (schema : DbSchema) (ls : List Line) (H : History) (v : Client) (to
   end : Client
   runs : Runs schema told.1 1 v ls told.0 end
   numbers : map (λ m. (m, 1)) (printed told.0) ≡ enumerate_from (length H + 1) (callers more)
-
-entry_none : (H : History) (t : Transaction) (r : Reply) → number_printed r ≡ [] → IsEntry H 1 t r
-entry_none H closed r none = tt
-entry_none H (reading m) r none = tt
-entry_none H (writing t) (committed m texts) none = cc
-entry_none H (writing t) (read_at n) none = tt
-entry_none H (writing t) (write_at n) none = tt
-entry_none H (writing t) ended none = tt
-entry_none H (writing t) aborted none = tt
-entry_none H (writing t) inserted none = tt
-entry_none H (writing t) replaced none = tt
-entry_none H (writing t) deleted none = tt
-entry_none H (writing t) (wiped k) none = tt
-entry_none H (writing t) deferred none = tt
-entry_none H (writing t) (answered a) none = tt
-entry_none H (writing t) (kept_at n) none = tt
-entry_none H (writing t) (kept_within n) none = tt
-entry_none H (writing t) (refused rule) none = tt
 
 enumerate_both : {A : Type 0} (n k : ℕ) (xs ys : List A) → n + length xs ≡ k → enumerate_from n (xs ++ ys) ≡ enumerate_from n xs ++ enumerate_from k ys
 enumerate_both n k [] ys e = ap (λ (m : ℕ). enumerate_from m ys) (here e)
@@ -90,7 +66,7 @@ module _ (schema : DbSchema) (H : History) (v : Client) (l : Line) (ls : List Li
       }
 
   first_same : (told : List Reply × History) → v.last ≡ length H → IsWithin (length H) v → is_of_watches l.command ≡ false → outcome v (turn schema H (length H) v l.command) ≡ (r, next) → number_printed r ≡ [] → Lives schema ls H next told → Lives schema (l ∷ ls) H v (joined r told)
-  first_same told last within known says none lives = first told [] last within known says (λ more grown. entry_none told.1 v.transaction r none) (ap (map (λ m. (m, 1))) none) (subst (λ (G : History). Lives schema ls G next told) (sym (append-nil H)) lives)
+  first_same told last within known says none lives = first told [] last within known says (λ more grown. no_entry told.1 1 v.transaction r none) (ap (map (λ m. (m, 1))) none) (subst (λ (G : History). Lives schema ls G next told) (sym (append-nil H)) lives)
 
   first_commit : (told : List Reply × History) (t : Writing) (texts : List Bytes) → v.transaction ≡ writing t → t.number ≡ length H → r ≡ committed (suc (length H)) texts → v.last ≡ length H → IsWithin (length H) v → is_of_watches l.command ≡ false → outcome v (turn schema H (length H) v l.command) ≡ (r, next) → Lives schema ls (H ++ record { caller = 1; writes = t.writes } ∷ []) next told → Lives schema (l ∷ ls) H v (joined r told)
   first_commit told t texts is stands commit last within known says lives = first told (record { caller = 1; writes = t.writes } ∷ []) last within known says (λ more grown. entry more grown) (ap (λ (x : Reply). map (λ m. (m, 1)) (number_printed x)) commit ∙ number) lives

@@ -2,6 +2,7 @@ pub mod AloneIsLegal
 pub mod BlankEnds
 pub mod DocParts
 pub mod ErrorWords
+pub mod FewCommits
 pub mod LimitDigits
 pub mod LineReturns
 pub mod LineSplits

@@ -2,7 +2,7 @@
 use Rattle.std.proofs.Common.{arith, ◌≡◌, refl, ap, subst, sym, ◌∙◌, ℕ, zero, suc, ◌+◌, ◌≤◌, List, [], ◌∷◌, ◌++◌, length, Option, Some, None, Ok, Err, slice_get, false}
 use Rattle.std.specs.Bool.{⊤}
 use Rattle.std.specs.Str.{bytes_eq}
-use Rattle.std.specs.Prelude.{if◌then◌else◌, is_some, not, Bool, true, codes, ◌==◌}
+use Rattle.std.specs.Prelude.{if◌then◌else◌, is_some, not, nat_lt, Bool, true, codes}
 use Rattle.std.proofs.lemmas.List.{take-append-le, length-append}
 use Rattle.mdb_datum.specs.Bytes.{Bytes}
 use Rattle.mdb_datum.specs.Row.{Fields}
@@ -17,7 +17,8 @@ use Rattle.mdb_schema.specs.Wipe.{wipe, wipe_by_prefix}
 use Rattle.client_script.specs.Client.{Sight, Writing, Transaction, closed, reading, writing, Snapshot, Client, at_start, state_seen, snapshot_named, none_open, some_open, read_open, write_open, sight_of, Judged}
 use Rattle.client_script.specs.Reply.{Reply, read_at, write_at, ended, committed, aborted, inserted, replaced, deleted, wiped, deferred, answered, kept_at, kept_within, refused}
 use Rattle.client_script.specs.Turn.{Turn, insert_reply, turn, write_turn, wipe_turn, question_turn, outcome, stepped, asked, indexes_of, with_writes, commit_limit}
-use Rattle.client_script.specs.Session.{IsEntry, Answers, Runs, Session}
+use Rattle.client_script.specs.Legal.{number_printed}
+use Rattle.client_script.specs.Session.{IsCommit, IsEntry, Answers, Runs, Session}
 use Rattle.client_script.specs.declared.command.Command.{Command}
 use Rattle.client_script.specs.declared.command.Command.TheVariants as command
 use Rattle.client_script.specs.declared.line.Line.{Line}
@@ -154,7 +155,7 @@ all_within_more n (x ∷ ss) s all one = (all.0, all_within_more n ss s all.1 on
 
 pub next_within : (n : ℕ) (schema : DbSchema) (H : History) (now : ℕ) (v : Client) (c : Command) → now ≤ n → IsWithin n v → IsWithin n (outcome v (turn schema H now v c)).1
 next_within n schema H now v command.Read there within = within_then n v (none_open v.transaction) _ within (λ u e. within_as n v now (reading now) within there)
-next_within n schema H now v command.Write there within = within_then n v (none_open v.transaction) _ within (λ u e. within_then n v (passed (codes "commits-spent") (not (now == commit_limit))) _ within (λ u' e'. within_as n v now _ within there))
+next_within n schema H now v command.Write there within = within_then n v (none_open v.transaction) _ within (λ u e. within_then n v (passed (codes "commits-spent") (nat_lt now commit_limit)) _ within (λ u' e'. within_as n v now _ within there))
 next_within n schema H now v command.End there within = within_then n v (read_open v.transaction) _ within (λ m e. within_as n v v.last closed within tt)
 next_within n schema H now v command.Commit there within = with_writing n v _ within (λ x stands. within_as n v (x.number + 1) closed within tt)
 next_within n schema H now v command.Abort there within = with_writing n v _ within (λ x stands. within_as n v v.last closed within tt)
@@ -182,23 +183,43 @@ get_longer [] more n e = cc
 get_longer (y ∷ xs) more zero e = e
 get_longer (y ∷ xs) more (suc n) e = get_longer xs more n e
 
+commit_longer : (H more : History) (client : ℕ) (t : Transaction) → IsCommit H client t → IsCommit (H ++ more) client t
+commit_longer H more client closed made = made
+commit_longer H more client (reading n) made = made
+commit_longer H more client (writing t) made = get_longer H more t.number made
+
 entry_longer : (H more : History) (client : ℕ) (t : Transaction) (r : Reply) → IsEntry H client t r → IsEntry (H ++ more) client t r
-entry_longer H more client (writing t) (committed m texts) entry = get_longer H more t.number entry
-entry_longer H more client (writing t) (read_at n) entry = tt
-entry_longer H more client (writing t) (write_at n) entry = tt
-entry_longer H more client (writing t) ended entry = tt
-entry_longer H more client (writing t) aborted entry = tt
-entry_longer H more client (writing t) inserted entry = tt
-entry_longer H more client (writing t) replaced entry = tt
-entry_longer H more client (writing t) deleted entry = tt
-entry_longer H more client (writing t) (wiped k) entry = tt
-entry_longer H more client (writing t) deferred entry = tt
-entry_longer H more client (writing t) (answered a) entry = tt
-entry_longer H more client (writing t) (kept_at n) entry = tt
-entry_longer H more client (writing t) (kept_within n) entry = tt
-entry_longer H more client (writing t) (refused rule) entry = tt
-entry_longer H more client closed r entry = tt
-entry_longer H more client (reading n) r entry = tt
+entry_longer H more client t (committed m texts) entry = commit_longer H more client t entry
+entry_longer H more client t (read_at n) entry = tt
+entry_longer H more client t (write_at n) entry = tt
+entry_longer H more client t ended entry = tt
+entry_longer H more client t aborted entry = tt
+entry_longer H more client t inserted entry = tt
+entry_longer H more client t replaced entry = tt
+entry_longer H more client t deleted entry = tt
+entry_longer H more client t (wiped k) entry = tt
+entry_longer H more client t deferred entry = tt
+entry_longer H more client t (answered a) entry = tt
+entry_longer H more client t (kept_at n) entry = tt
+entry_longer H more client t (kept_within n) entry = tt
+entry_longer H more client t (refused rule) entry = tt
+
+-- where no commit is told, there is none to be an entry
+pub no_entry : (H : History) (client : ℕ) (t : Transaction) (r : Reply) → number_printed r ≡ [] → IsEntry H client t r
+no_entry H client t (committed m texts) none = cc
+no_entry H client t (read_at n) none = tt
+no_entry H client t (write_at n) none = tt
+no_entry H client t ended none = tt
+no_entry H client t aborted none = tt
+no_entry H client t inserted none = tt
+no_entry H client t replaced none = tt
+no_entry H client t deleted none = tt
+no_entry H client t (wiped k) none = tt
+no_entry H client t deferred none = tt
+no_entry H client t (answered a) none = tt
+no_entry H client t (kept_at n) none = tt
+no_entry H client t (kept_within n) none = tt
+no_entry H client t (refused rule) none = tt
 
 longer_there : (H more : History) (n : ℕ) → n ≤ length H → n ≤ length (H ++ more)
 longer_there H more n there = rw (length-append H more) (search (arith))

@@ -2,8 +2,8 @@
 use Rattle.std.proofs.Common.{arith, lit≤, ◌≡◌, refl, ap, subst, sym, ◌∙◌, ℕ, suc, ◌+◌, ◌<◌, ◌≤◌, ◌⊎◌, inl, inr, List, [], ◌∷◌, ◌++◌, length, map, Option, Some, None, Ok, Err, slice_get, take, drop, false, Contains, IsPermutation}
 use Rattle.std.specs.Bool.{⊤}
 use Rattle.std.specs.List.{enumerate_from}
-use Rattle.std.specs.Prelude.{not, codes, ◌==◌, is_some, reverse}
-use Rattle.std.proofs.lemmas.Bool.{false_from_ne_true, eqb-true, cases_lt}
+use Rattle.std.specs.Prelude.{not, nat_lt, codes, is_some, reverse}
+use Rattle.std.proofs.lemmas.Bool.{lt-ltb, cases_lt}
 use Rattle.std.proofs.lemmas.List.{take-append-drop, length-append, length-take-le, append-nil, length-map}
 use Rattle.std.proofs.Math.Seq.{take-length, take-suc}
 use Rattle.std.proofs.lemmas.Option.{slice_get_within, get_or_from_slice_get}
@@ -97,7 +97,7 @@ next_on k n e = search (arith, e)
 
 pub keeps : (k : ℕ) (schema : DbSchema) (H : History) (v : Client) (c : Command) → IsOn k v → Keeps k v (outcome v (turn schema H k v c))
 keeps k schema H v command.Read on = keeps_then k v (none_open v.transaction) _ on (λ u e. same refl refl (record { last = refl; transaction = refl }))
-keeps k schema H v command.Write on = keeps_then k v (none_open v.transaction) _ on (λ u e. keeps_then k v (passed (codes "commits-spent") (not (k == commit_limit))) _ on (λ u' e'. same refl refl (record { last = refl; transaction = refl })))
+keeps k schema H v command.Write on = keeps_then k v (none_open v.transaction) _ on (λ u e. keeps_then k v (passed (codes "commits-spent") (nat_lt k commit_limit)) _ on (λ u' e'. same refl refl (record { last = refl; transaction = refl })))
 keeps k schema H v command.End on = keeps_then k v (read_open v.transaction) _ on (λ m e. same refl refl (on_as k v closed v.snapshots on tt))
 keeps k schema H v command.Commit on = keeps_writing k v _ on (λ x is stands. commits x (reverse x.texts) is (ap (λ (m : ℕ). committed m (reverse x.texts)) (next_on k x.number stands)) (record { last = next_on k x.number stands; transaction = tt }))
 keeps k schema H v command.Abort on = keeps_writing k v _ on (λ x is stands. same refl refl (on_as k v closed v.snapshots on tt))
@@ -176,7 +176,7 @@ self_le n = search (arith)
 
 pub rises : (schema : DbSchema) (H : History) (now : ℕ) (v : Client) (c : Command) → v.last ≤ now → StandsFrom v.last v.transaction → Rises v.last (outcome v (turn schema H now v c))
 rises schema H now v command.Read le from = rises_then v (none_open v.transaction) _ from (λ u e. rises_at v _ now _ le (self_le now) refl)
-rises schema H now v command.Write le from = rises_then v (none_open v.transaction) _ from (λ u e. rises_then v (passed (codes "commits-spent") (not (now == commit_limit))) _ from (λ u' e'. rises_at v _ now _ le (self_le now) refl))
+rises schema H now v command.Write le from = rises_then v (none_open v.transaction) _ from (λ u e. rises_then v (passed (codes "commits-spent") (nat_lt now commit_limit)) _ from (λ u' e'. rises_at v _ now _ le (self_le now) refl))
 rises schema H now v command.End le from = rises_then v (read_open v.transaction) _ from (λ m e. rises_same v _ closed v.snapshots tt refl)
 rises schema H now v command.Commit le from = rises_writing v _ from (λ x le'. record { later = search (arith, le'); stands = tt; above = (search (arith, le'), tt) })
 rises schema H now v command.Abort le from = rises_writing v _ from (λ x le'. rises_same v _ closed v.snapshots tt refl)
@@ -215,16 +215,10 @@ unfolding Tells
 tells_then now v (Ok a) f g each = each a
 tells_then now v (Err rule) f g each = inl refl
 
-pub below_limit : (n : ℕ) → n < commit_limit → (n == commit_limit) ≡ false
-below_limit n lt = false_from_ne_true (n == commit_limit) (λ e. below n lt (eqb-true n commit_limit e))
-  where
-    below : (n : ℕ) → n < commit_limit → n ≡ commit_limit → ⊥
-    below n lt e = omega arith
-
 tells : (schema : DbSchema) (H : History) (k now : ℕ) (v : Client) (c : Command) → k < commit_limit → now < commit_limit → Tells now (outcome v (turn schema H now v c)) (outcome v (turn schema H k v c))
 unfolding Tells
 tells schema H k now v command.Read few few' = tells_then now v (none_open v.transaction) _ _ (λ u. inr (refl, refl))
-tells schema H k now v command.Write few few' = rw (below_limit k few, below_limit now few') (tells_then now v (none_open v.transaction) _ _ (λ u. inr (refl, refl)))
+tells schema H k now v command.Write few few' = rw (lt-ltb k commit_limit few, lt-ltb now commit_limit few') (tells_then now v (none_open v.transaction) _ _ (λ u. inr (refl, refl)))
 tells schema H k now v command.End few few' = inl refl
 tells schema H k now v command.Commit few few' = inl refl
 tells schema H k now v command.Abort few few' = inl refl

@@ -1,7 +1,7 @@
 -- The scripts and the replies to them fix the history.
 use Rattle.std.proofs.Common.{arith, ◌≡◌, refl, ap, subst, sym, ◌∙◌, ℕ, zero, suc, ◌+◌, ◌<◌, ◌≤◌, ◌⊎◌, inl, inr, List, [], ◌∷◌, ◌++◌, length, map, Some, None, Option, Ok, Err, slice_get, take, drop, get_or, Contains, IsPermutation}
 use Rattle.std.specs.List.{enumerate_from}
-use Rattle.std.specs.Prelude.{Bool, true, false, not, codes, ◌==◌, is_some, reverse}
+use Rattle.std.specs.Prelude.{Bool, true, false, not, nat_lt, codes, is_some, reverse}
 use Rattle.std.proofs.lemmas.List.{take-append-drop, length-take-le, length-map}
 use Rattle.std.proofs.lemmas.List.FromFn.{length-enumerate_from}
 use Rattle.std.proofs.lemmas.List.Sorted.{length_permutation, Contains-permutation}
@@ -54,7 +54,7 @@ agree_write v now now' false false = λ e. refl
 agree : (schema : DbSchema) (H : History) (now now' : ℕ) (v : Client) (c : Command) → Agree (outcome v (turn schema H now v c)) (outcome v (turn schema H now' v c))
 unfolding Agree read_number
 agree schema H now now' v command.Read = agree_then v (none_open v.transaction) _ _ (λ u e. ap (λ (n : ℕ). with_transaction n (reading n) v) (ap read_number e))
-agree schema H now now' v command.Write = agree_then v (none_open v.transaction) _ _ (λ u. agree_write v now now' (not (now == commit_limit)) (not (now' == commit_limit)))
+agree schema H now now' v command.Write = agree_then v (none_open v.transaction) _ _ (λ u. agree_write v now now' (nat_lt now commit_limit) (nat_lt now' commit_limit))
 agree schema H now now' v command.End = λ e. refl
 agree schema H now now' v command.Commit = λ e. refl
 agree schema H now now' v command.Abort = λ e. refl
@@ -88,7 +88,7 @@ within_then k v (Err rule) f within each = λ le. within
 next_within_told : (k : ℕ) (schema : DbSchema) (H : History) (now : ℕ) (v : Client) (c : Command) → IsWithin k v → Within k v (outcome v (turn schema H now v c))
 unfolding Within
 next_within_told k schema H now v command.Read within = within_then k v (none_open v.transaction) _ within (λ u le. record { transaction = le; snapshots = within.snapshots })
-next_within_told k schema H now v command.Write within = within_then k v (none_open v.transaction) _ within (λ u. within_then k v (passed (codes "commits-spent") (not (now == commit_limit))) _ within (λ u' le. record { transaction = le; snapshots = within.snapshots }))
+next_within_told k schema H now v command.Write within = within_then k v (none_open v.transaction) _ within (λ u. within_then k v (passed (codes "commits-spent") (nat_lt now commit_limit)) _ within (λ u' le. record { transaction = le; snapshots = within.snapshots }))
 next_within_told k schema H now v command.End within = λ le. next_within k schema H k v command.End (self_le k) within
 next_within_told k schema H now v command.Commit within = λ le. next_within k schema H k v command.Commit (self_le k) within
 next_within_told k schema H now v command.Abort within = λ le. next_within k schema H k v command.Abort (self_le k) within
@@ -129,7 +129,7 @@ number_told (refused rule) m within = absurd (Contains-nil m within)
 
 -- ---- the same client in two histories
 
-either : (ms ns : List ℕ) (m : ℕ) → Contains (ms ++ ns) m → Contains ms m ⊎ Contains ns m
+pub either : (ms ns : List ℕ) (m : ℕ) → Contains (ms ++ ns) m → Contains ms m ⊎ Contains ns m
 either [] ns m within = inr within
 either (x ∷ ms) ns m within = elim (Contains-cons_cases x (ms ++ ns) m within) [
   | inl e ↦ inl (subst (λ (y : ℕ). Contains (x ∷ ms) y) e (Contains-first x ms))
@@ -171,7 +171,7 @@ commits_one v x texts next is m within = (x, is, of (Contains-cons_cases (x.numb
 
 commits_of : (schema : DbSchema) (H : History) (now : ℕ) (v : Client) (c : Command) → Commits v (outcome v (turn schema H now v c))
 commits_of schema H now v command.Read = commits_then v (none_open v.transaction) _ (λ u e. commits_none v _ refl)
-commits_of schema H now v command.Write = commits_then v (none_open v.transaction) _ (λ u e. commits_then v (passed (codes "commits-spent") (not (now == commit_limit))) _ (λ u' e'. commits_none v _ refl))
+commits_of schema H now v command.Write = commits_then v (none_open v.transaction) _ (λ u e. commits_then v (passed (codes "commits-spent") (nat_lt now commit_limit)) _ (λ u' e'. commits_none v _ refl))
 commits_of schema H now v command.End = commits_then v (read_open v.transaction) _ (λ m e. commits_none v _ refl)
 commits_of schema H now v command.Commit = commits_then v (write_open v.transaction) _ (λ x e. commits_one v x (reverse x.texts) (after_commit x v) (writing_is v.transaction x e))
 commits_of schema H now v command.Abort = commits_then v (write_open v.transaction) _ (λ x e. commits_none v _ refl)
@@ -192,6 +192,11 @@ commits_of schema H now v (command.Size set) = commits_none v (refused [], v) re
 commits_of schema H now v (command.Wait set) = commits_none v (refused [], v) refl
 commits_of schema H now v (command.WaitUntil set until) = commits_none v (refused [], v) refl
 
+-- so a line that was answered with the number of a commit ended that transaction
+pub commit_told : (schema : DbSchema) (H : History) (client : ℕ) (v next : Client) (c : Command) (r : Reply) (m : ℕ) → Answers schema H client v c r next → Contains (number_printed r) m → (t : Writing) × (v.transaction ≡ writing t) × (t.number + 1 ≡ m)
+unfolding Commits
+commit_told schema H client v next c r m a told = subst (λ (p : Reply × Client). Commits v p) a.says (commits_of schema H a.now v c) m told
+
 module _ (schema : DbSchema) (H H' : History) (client : ℕ) where
   first_k : (k : ℕ) → k ≤ length H → k ≤ length H' → take k H ≡ take k H' → (now : ℕ) (v : Client) (c : Command) → IsWithin k v → turn schema H now v c ≡ turn schema H' now v c
   first_k k there there' same now v c within =
@@ -209,10 +214,9 @@ module _ (schema : DbSchema) (H H' : History) (client : ℕ) where
       sym (ap (λ (p : Reply × Client). p.1) here) ∙ agree schema H' a.now a'.now v c replies ∙ ap (λ (p : Reply × Client). p.1) a'.says
 
   one_entry : (k : ℕ) (v : Client) (c : Command) (r : Reply) (next next' : Client) → Answers schema H client v c r next → Answers schema H' client v c r next' → Contains (number_printed r) (suc k) → slice_get H k ≡ slice_get H' k
-  unfolding Commits
   one_entry k v c r next next' a a' here =
       let told = number_told r (suc k) here in
-      let open_one = subst (λ (p : Reply × Client). Commits v p) a.says (commits_of schema H a.now v c) (suc k) here in
+      let open_one = commit_told schema H client v next c r (suc k) a here in
       let stands : open_one.0.number ≡ k = (let e = open_one.2 in omega arith) in
       entry_is H client k v.transaction r told.0 told.1 open_one.0 open_one.1 stands a.entry
       ∙ sym (entry_is H' client k v.transaction r told.0 told.1 open_one.0 open_one.1 stands a'.entry)
@@ -237,10 +241,10 @@ module _ (schema : DbSchema) (H H' : History) (client : ℕ) where
 
 -- ---- all clients
 
-pair_of : (n : ℕ) (ms : List ℕ) (m j : ℕ) → Contains {X = ℕ × ℕ} (map (λ x. (x, j)) ms) (m, n) → Contains ms m
+pub pair_of : (n : ℕ) (ms : List ℕ) (m j : ℕ) → Contains {X = ℕ × ℕ} (map (λ x. (x, j)) ms) (m, n) → Contains ms m
 pair_of n ms m j within = let from = Contains-from_map (λ x. (x, j)) ms (m, n) within in subst (Contains ms) (ap (λ (p : ℕ × ℕ). p.0) from.2) from.1
 
-either_pair : (ps qs : List (ℕ × ℕ)) (p : ℕ × ℕ) → Contains (ps ++ qs) p → Contains ps p ⊎ Contains qs p
+pub either_pair : (ps qs : List (ℕ × ℕ)) (p : ℕ × ℕ) → Contains (ps ++ qs) p → Contains ps p ⊎ Contains qs p
 either_pair [] qs p within = inr within
 either_pair (x ∷ ps) qs p within = elim (Contains-cons_cases x (ps ++ qs) p within) [
   | inl e ↦ inl (subst (λ (y : ℕ × ℕ). Contains (x ∷ ps) y) e (Contains-first x ps))

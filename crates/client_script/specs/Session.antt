@@ -2,18 +2,29 @@
 use Rattle.std.specs.Prelude.{◌≡◌, ◌≤◌, ◌+◌, ℕ, false, List, [], ◌∷◌, length, Some, slice_get, ⊤}
 use Rattle.mdb_schema.specs.History.{History}
 use Rattle.mdb_schema.specs.Schema.{DbSchema}
-use Rattle.client_script.specs.Client.{Client, Transaction, writing, at_start}
+use Rattle.client_script.specs.Client.{Client, Transaction, closed, reading, writing, at_start}
 use Rattle.client_script.specs.Reply.{Reply, committed}
 use Rattle.client_script.specs.Turn.{turn, outcome, is_of_watches}
 use Rattle.client_script.specs.declared.command.Command.{Command}
 use Rattle.client_script.specs.declared.line.Line.{Line}
 
--- a commit that is printed is the history's entry of its number: this client, with just the writes of
--- its transaction
-abbrev pub IsEntry : History → ℕ → Transaction → Reply → Type 0
-IsEntry H client (writing t) (committed m texts) =
+-- the commit that ends a write transaction is the history's entry of its number: this client, with
+-- just the writes of the transaction; there is none of any other transaction
+abbrev pub IsCommit : History → ℕ → Transaction → Type 0
+IsCommit H client closed = ⊥
+IsCommit H client (reading n) = ⊥
+IsCommit H client (writing t) =
     slice_get H t.number ≡ Some (record { caller = client; writes = t.writes })
+
+-- so a commit that is printed is an entry
+abbrev pub IsEntry : History → ℕ → Transaction → Reply → Type 0
+IsEntry H client t (committed m texts) = IsCommit H client t
 IsEntry H client t r = ⊤
+
+-- no line has one of the six words of watches
+abbrev pub AreKnown : List Line → Type 0
+AreKnown [] = ⊤
+AreKnown (l ∷ ls) = (is_of_watches l.command ≡ false) × AreKnown ls
 
 -- a line is answered so, after some number of commits: as many as the client was told of or more
 pub record Answers (schema : DbSchema) (H : History) (client : ℕ) (v : Client) (c : Command)

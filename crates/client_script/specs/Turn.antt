@@ -1,6 +1,6 @@
 -- What a line is answered: the reply, with what the client then knows, or the name of the first rule
 -- that the line breaks.
-use Rattle.std.specs.Prelude.{◌+◌, ◌^◌, ◌==◌, ◌++◌, ℕ, Bool, true, false, not, List, [], ◌∷◌, length, reverse, Option, Some, None, is_some, Ok, Err, slice_get, codes}
+use Rattle.std.specs.Prelude.{◌+◌, ◌^◌, ◌++◌, ℕ, Bool, true, false, not, nat_lt, List, [], ◌∷◌, length, reverse, Option, Some, None, is_some, Ok, Err, slice_get, codes}
 use Rattle.mdb_datum.specs.Bytes.{Bytes}
 use Rattle.mdb_datum.specs.Row.{Fields}
 use Rattle.mdb_schema.specs.Answer.{Asked, ask}
@@ -108,15 +108,15 @@ question_turn schema H v sight q = do
   a ← asked (ask schema (state_seen schema H s) q)
   Ok (answered a, v)
 
--- A line's turn. `read` and `write` begin a transaction after `now` commits. The six words of watches
--- have no turn yet.
+-- A line's turn. `read` and `write` begin a transaction after `now` commits, `write` only where a
+-- history can have one more. The six words of watches have no turn yet.
 abbrev pub turn : DbSchema → History → ℕ → Client → Command → Turn
 turn schema H now v command.Read = do
   free ← none_open v.transaction
   Ok (read_at now, with_transaction now (reading now) v)
 turn schema H now v command.Write = do
   free ← none_open v.transaction
-  few ← passed (codes "commits-spent") (not (now == commit_limit))
+  few ← passed (codes "commits-spent") (nat_lt now commit_limit)
   Ok (write_at now, with_transaction now (writing (record { number = now; writes = []; texts = [] })) v)
 turn schema H now v command.End = do
   n ← read_open v.transaction
@@ -146,8 +146,22 @@ turn schema H now v (command.InSnapshot name q) =
     question_turn schema H v (needed (codes "unknown-name") (snapshot_named name v.snapshots)) q
 turn schema H now v c = Err []
 
--- the line's word is one of the six of watches
+-- The line's word is one of the six of watches: `watch`, in two forms, `check`, `add`, `add-limit`,
+-- `size`, and `wait`, in two forms. The other thirteen kinds of lines come first.
 abbrev pub is_of_watches : Command → Bool
+is_of_watches command.Read = false
+is_of_watches command.Write = false
+is_of_watches command.End = false
+is_of_watches command.Commit = false
+is_of_watches command.Abort = false
+is_of_watches (command.Insert table row) = false
+is_of_watches (command.Delete table row) = false
+is_of_watches (command.DeleteAll q) = false
+is_of_watches (command.DeletePrefix q) = false
+is_of_watches (command.Defer text) = false
+is_of_watches (command.Question q) = false
+is_of_watches (command.Snapshot name) = false
+is_of_watches (command.InSnapshot name q) = false
 is_of_watches (command.Watch name q) = true
 is_of_watches (command.WatchIn name snapshot q) = true
 is_of_watches (command.Check name) = true
@@ -156,7 +170,6 @@ is_of_watches (command.AddLimit set limit name other) = true
 is_of_watches (command.Size set) = true
 is_of_watches (command.Wait set) = true
 is_of_watches (command.WaitUntil set until) = true
-is_of_watches c = false
 
 -- what is printed, and what the client knows then: a line that breaks a rule is answered with its name
 -- and changes nothing

@@ -1,5 +1,6 @@
 pub mod FirstLine
 pub mod GrammarParts
+pub mod LaterWord
 pub mod LineAnswer
 pub mod LineDoc
 pub mod ScriptAnswer

@@ -1,4 +1,5 @@
 pub mod Told
 pub mod WorkedCatalogue
+pub mod WorkedClients
 pub mod WorkedReplies
 pub mod WorkedSessions

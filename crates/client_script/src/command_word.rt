@@ -1,6 +1,7 @@
 //! The words that commands begin with.
 ghost use Rattle.std.specs.Prelude.{◌≡◌, option_map};
 ghost use Rattle.client_script.specs.CommandWord.{ask_named, command_named};
+ghost use Rattle.client_script.specs.inner.LaterWord.{later_named, row_named};
 ghost use Rattle.client_script.specs.declared.command_word.CommandWord.TheVariants as command_word;
 
 use mdb_schema::Ask;
@@ -71,6 +72,37 @@ fn question_named(word: &str) -> Option<CommandWord>
     Some(CommandWord::Question(ask_named(word)?))
 }
 
+/// The command of this word, which is of snapshots, watches or sets, or of a question.
+fn later_named(word: &str) -> Option<CommandWord>
+    ensures { result ≡ later_named word.now }
+{
+    match word {
+        "snapshot" => Some(CommandWord::Snapshot),
+        "in" => Some(CommandWord::In),
+        "watch" => Some(CommandWord::Watch),
+        "check" => Some(CommandWord::Check),
+        "add" => Some(CommandWord::Add),
+        "add-limit" => Some(CommandWord::AddLimit),
+        "size" => Some(CommandWord::Size),
+        "wait" => Some(CommandWord::Wait),
+        _ => question_named(word),
+    }
+}
+
+/// The command of this word, which is of rows or deferred texts, or comes later.
+fn row_named(word: &str) -> Option<CommandWord>
+    ensures { result ≡ row_named word.now }
+{
+    match word {
+        "insert" => Some(CommandWord::Insert),
+        "delete" => Some(CommandWord::Delete),
+        "delete-all" => Some(CommandWord::DeleteAll),
+        "delete-prefix" => Some(CommandWord::DeletePrefix),
+        "defer" => Some(CommandWord::Defer),
+        _ => later_named(word),
+    }
+}
+
 /// The command of this word.
 pub(crate) fn command_named(word: &str) -> Option<CommandWord>
     ensures { result ≡ command_named word.now }
@@ -81,19 +113,6 @@ pub(crate) fn command_named(word: &str) -> Option<CommandWord>
         "end" => Some(CommandWord::End),
         "commit" => Some(CommandWord::Commit),
         "abort" => Some(CommandWord::Abort),
-        "insert" => Some(CommandWord::Insert),
-        "delete" => Some(CommandWord::Delete),
-        "delete-all" => Some(CommandWord::DeleteAll),
-        "delete-prefix" => Some(CommandWord::DeletePrefix),
-        "defer" => Some(CommandWord::Defer),
-        "snapshot" => Some(CommandWord::Snapshot),
-        "in" => Some(CommandWord::In),
-        "watch" => Some(CommandWord::Watch),
-        "check" => Some(CommandWord::Check),
-        "add" => Some(CommandWord::Add),
-        "add-limit" => Some(CommandWord::AddLimit),
-        "size" => Some(CommandWord::Size),
-        "wait" => Some(CommandWord::Wait),
-        _ => question_named(word),
+        _ => row_named(word),
     }
 }

@@ -2,9 +2,9 @@
 ghost use Rattle.std.specs.Prelude.{◌≡◌};
 ghost use Rattle.std.specs.Result.{result_map_both};
 ghost use Rattle.client_script.specs.Grammar.{alone, of_row, of_query, of_text, of_name, of_snapshot, watch_of, watch_in, of_watch, of_add, of_add_limit, wait_until, of_wait, command_of, command_in};
-ghost use Rattle.client_script.specs.inner.GrammarParts.{table_and_row, asked_of, one_name, limit_words, until_word};
+ghost use Rattle.client_script.specs.inner.GrammarParts.{table_and_row, named_row, named_query, watch_kept, asked_of, one_name, two_words, two_names, limit_words, words_behind, until_word};
 ghost use Rattle.client_script.specs.inner.LineAnswer.{Answers, rule_of};
-ghost use Rattle.client_script.specs.inner.WordView.{word_of, limit_words_view};
+ghost use Rattle.client_script.specs.inner.WordView.{word_of, question_view, limit_words_view};
 ghost use Rattle.client_script.specs.declared.command.Command.TheVariants as commands;
 
 use crate::command::Command;
@@ -12,7 +12,7 @@ use crate::command_word::{CommandWord, command_named};
 use crate::line_error::LineError;
 use crate::line_rule::LineRule;
 use crate::parts::{limit_in, name_in, next_word, nothing, row_in, something};
-use crate::question::{query_in, question_by, question_in, question_of};
+use crate::question::{Question, query_in, question_by, question_in, question_of};
 use crate::word::{Word, first_word};
 use mdb_datum::{Row, Text};
 use mdb_schema::{Ask, Query};
@@ -27,12 +27,44 @@ struct LimitWords<'a> {
     other: &'a str,
 }
 
-/// A command whose word stands alone.
-fn alone(command: Command, rest: &str) -> Result<Command, LineRule>
-    ensures { result_map_both (λ c. c) rule_of result ≡ alone command rest.now }
+/// `read`.
+fn of_read(rest: &str) -> Result<Command, LineError>
+    ensures { Answers (λ c. c) (alone commands.Read rest.now) result }
 {
     nothing(rest)?;
-    Ok(command)
+    Ok(Command::Read)
+}
+
+/// `write`.
+fn of_write(rest: &str) -> Result<Command, LineError>
+    ensures { Answers (λ c. c) (alone commands.Write rest.now) result }
+{
+    nothing(rest)?;
+    Ok(Command::Write)
+}
+
+/// `end`.
+fn of_end(rest: &str) -> Result<Command, LineError>
+    ensures { Answers (λ c. c) (alone commands.End rest.now) result }
+{
+    nothing(rest)?;
+    Ok(Command::End)
+}
+
+/// `commit`.
+fn of_commit(rest: &str) -> Result<Command, LineError>
+    ensures { Answers (λ c. c) (alone commands.Commit rest.now) result }
+{
+    nothing(rest)?;
+    Ok(Command::Commit)
+}
+
+/// `abort`.
+fn of_abort(rest: &str) -> Result<Command, LineError>
+    ensures { Answers (λ c. c) (alone commands.Abort rest.now) result }
+{
+    nothing(rest)?;
+    Ok(Command::Abort)
 }
 
 /// The table and the row of `insert` and `delete`.
@@ -41,7 +73,14 @@ fn table_and_row(alloc: Global, rest: &str) -> Result<(Text, Row), LineError>
 {
     let table = next_word(rest)?;
     let document = something(table.rest)?;
-    let name = name_in(alloc, table.text)?;
+    named_row(alloc, table.text, document)
+}
+
+/// A name and a row.
+fn named_row(alloc: Global, name: &str, document: &str) -> Result<(Text, Row), LineError>
+    ensures { Answers (λ p. p) (named_row name.now document.now) result }
+{
+    let name = name_in(alloc, name)?;
     let row = row_in(alloc, document)?;
     Ok((name, row))
 }
@@ -113,6 +152,25 @@ fn one_name(alloc: Global, rest: &str) -> Result<Text, LineError>
     name_in(alloc, name.text)
 }
 
+/// Two words, of which no more may follow.
+fn two_words(rest: &str) -> Result<(&str, &str), LineRule>
+    ensures { result_map_both (λ p. (p.0.now, p.1.now)) rule_of result ≡ two_words rest.now }
+{
+    let first = next_word(rest)?;
+    let second = next_word(first.rest)?;
+    nothing(second.rest)?;
+    Ok((first.text, second.text))
+}
+
+/// Two names.
+fn two_names(alloc: Global, first: &str, second: &str) -> Result<(Text, Text), LineError>
+    ensures { Answers (λ p. p) (two_names first.now second.now) result }
+{
+    let first = name_in(alloc, first)?;
+    let second = name_in(alloc, second)?;
+    Ok((first, second))
+}
+
 /// `snapshot NAME`.
 fn of_keep(alloc: Global, rest: &str) -> Result<Command, LineError>
     ensures { Answers (λ c. c) (of_name commands.Snapshot rest.now) result }
@@ -143,9 +201,17 @@ fn of_snapshot(alloc: Global, rest: &str) -> Result<Command, LineError>
 {
     let word = next_word(rest)?;
     let question = question_in(word.rest)?;
-    let name = name_in(alloc, word.text)?;
-    let query = query_in(alloc, &question)?;
+    let (name, query) = named_query(alloc, word.text, &question)?;
     Ok(Command::InSnapshot { name, query })
+}
+
+/// A name and a question.
+fn named_query(alloc: Global, name: &str, question: &Question) -> Result<(Text, Query), LineError>
+    ensures { Answers (λ p. p) (named_query name.now (question_view question.now)) result }
+{
+    let name = name_in(alloc, name)?;
+    let query = query_in(alloc, question)?;
+    Ok((name, query))
 }
 
 /// `watch NAME QUESTION`, behind the name and the next word.
@@ -153,8 +219,7 @@ fn watch_of(alloc: Global, word: &Word, asked: &Word) -> Result<Command, LineErr
     ensures { Answers (λ c. c) (watch_of (word_of word.now) (word_of asked.now)) result }
 {
     let question = question_by(asked)?;
-    let name = name_in(alloc, word.text)?;
-    let query = query_in(alloc, &question)?;
+    let (name, query) = named_query(alloc, word.text, &question)?;
     Ok(Command::Watch { name, query })
 }
 
@@ -164,9 +229,21 @@ fn watch_in(alloc: Global, word: &Word, rest: &str) -> Result<Command, LineError
 {
     let kept = next_word(rest)?;
     let question = question_in(kept.rest)?;
-    let name = name_in(alloc, word.text)?;
-    let snapshot = name_in(alloc, kept.text)?;
-    let query = query_in(alloc, &question)?;
+    watch_kept(alloc, word.text, kept.text, &question)
+}
+
+/// The same, of its two names and its question.
+fn watch_kept(
+    alloc: Global,
+    name: &str,
+    snapshot: &str,
+    question: &Question,
+) -> Result<Command, LineError>
+    ensures { Answers (λ c. c)
+        (watch_kept name.now snapshot.now (question_view question.now)) result }
+{
+    let name = name_in(alloc, name)?;
+    let (snapshot, query) = named_query(alloc, snapshot, question)?;
     Ok(Command::WatchIn {
         name,
         snapshot,
@@ -191,11 +268,8 @@ fn of_watch(alloc: Global, rest: &str) -> Result<Command, LineError>
 fn of_add(alloc: Global, rest: &str) -> Result<Command, LineError>
     ensures { Answers (λ c. c) (of_add rest.now) result }
 {
-    let set = next_word(rest)?;
-    let name = next_word(set.rest)?;
-    nothing(name.rest)?;
-    let set = name_in(alloc, set.text)?;
-    let name = name_in(alloc, name.text)?;
+    let (set, name) = two_words(rest)?;
+    let (set, name) = two_names(alloc, set, name)?;
     Ok(Command::Add { set, name })
 }
 
@@ -205,15 +279,21 @@ fn limit_words(rest: &str) -> Result<LimitWords<'_>, LineRule>
 {
     let set = next_word(rest)?;
     let limit = next_word(set.rest)?;
-    let name = next_word(limit.rest)?;
-    let other = next_word(name.rest)?;
-    nothing(other.rest)?;
+    words_behind(set.text, &limit)
+}
+
+/// The same, behind the set and the limit.
+fn words_behind<'a>(set: &'a str, limit: &Word<'a>) -> Result<LimitWords<'a>, LineRule>
+    ensures { result_map_both limit_words_view rule_of result
+        ≡ words_behind set.now (word_of limit.now) }
+{
+    let (name, other) = two_words(limit.rest)?;
     let limit = limit_in(limit.text)?;
     Ok(LimitWords {
-        set: set.text,
+        set,
         limit,
-        name: name.text,
-        other: other.text,
+        name,
+        other,
     })
 }
 
@@ -223,8 +303,7 @@ fn of_add_limit(alloc: Global, rest: &str) -> Result<Command, LineError>
 {
     let words = limit_words(rest)?;
     let set = name_in(alloc, words.set)?;
-    let name = name_in(alloc, words.name)?;
-    let other = name_in(alloc, words.other)?;
+    let (name, other) = two_names(alloc, words.name, words.other)?;
     Ok(Command::AddLimit {
         set,
         limit: words.limit,
@@ -251,8 +330,7 @@ fn wait_until(alloc: Global, set: &Word, rest: &str) -> Result<Command, LineErro
     ensures { Answers (λ c. c) (wait_until (word_of set.now) rest.now) result }
 {
     let name = until_word(rest)?;
-    let set = name_in(alloc, set.text)?;
-    let until = name_in(alloc, name)?;
+    let (set, until) = two_names(alloc, set.text, name)?;
     Ok(Command::WaitUntil { set, until })
 }
 
@@ -273,11 +351,11 @@ fn command_of(alloc: Global, word: CommandWord, rest: &str) -> Result<Command, L
     ensures { Answers (λ c. c) (command_of word rest.now) result }
 {
     match word {
-        CommandWord::Read => Ok(alone(Command::Read, rest)?),
-        CommandWord::Write => Ok(alone(Command::Write, rest)?),
-        CommandWord::End => Ok(alone(Command::End, rest)?),
-        CommandWord::Commit => Ok(alone(Command::Commit, rest)?),
-        CommandWord::Abort => Ok(alone(Command::Abort, rest)?),
+        CommandWord::Read => of_read(rest),
+        CommandWord::Write => of_write(rest),
+        CommandWord::End => of_end(rest),
+        CommandWord::Commit => of_commit(rest),
+        CommandWord::Abort => of_abort(rest),
         CommandWord::Insert => of_insert(alloc, rest),
         CommandWord::Delete => of_delete(alloc, rest),
         CommandWord::DeleteAll => of_delete_all(alloc, rest),

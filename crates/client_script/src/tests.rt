@@ -119,6 +119,13 @@ fn command_text(alloc: Global, command: &Command) -> Result<String, AllocError> 
         Command::Question { query } => query_text(alloc, query),
         Command::Snapshot { name } => one(alloc, "snapshot", name),
         Command::InSnapshot { name, query } => named(alloc, "in", name, query),
+        command => watches_text(alloc, command),
+    }
+}
+
+/// A command of watches; any other has no text.
+fn watches_text(alloc: Global, command: &Command) -> Result<String, AllocError> {
+    match command {
         Command::Watch { name, query } => named(alloc, "watch", name, query),
         Command::WatchIn {
             name,
@@ -136,6 +143,7 @@ fn command_text(alloc: Global, command: &Command) -> Result<String, AllocError> 
         Command::Size { set } => one(alloc, "size", set),
         Command::Wait { set } => one(alloc, "wait", set),
         Command::WaitUntil { set, until } => two(alloc, "wait-until", set, until),
+        _ => Ok(String::new(alloc)),
     }
 }
 
@@ -147,12 +155,18 @@ fn line_text(alloc: Global, line: &Line) -> Result<String, AllocError> {
     format!(in alloc; "{number} {command};")
 }
 
+/// Adds a line with its number.
+fn add_line(text: &mut String, line: &Line) -> Result<(), AllocError> {
+    let alloc = *text.allocator();
+    let line = line_text(alloc, line)?;
+    text.push_str(line.as_str())
+}
+
 /// The lines of a script.
 fn script_text(alloc: Global, script: &Script) -> Result<String, AllocError> {
     let mut text = String::new(alloc);
     for line in script.iter() {
-        let line = line_text(alloc, line)?;
-        text.push_str(line.as_str())?;
+        add_line(&mut text, line)?;
     }
     Ok(text)
 }

@@ -1,5 +1,6 @@
 -- One more line of a script.
-use Rattle.std.proofs.Common.{arith, ◌≡◌, refl, ap, subst, sym, ◌∙◌, ℕ, zero, suc, ◌+◌, List, [], ◌∷◌, ◌++◌, length, map, take, Some, None, Result, Ok, Err, OnOk, false, slice_get}
+use mathlib.Core.List.{IsPrefix}
+use Rattle.std.proofs.Common.{arith, ◌≡◌, ◌-◌, ◌≤◌, ◌<◌, Option, refl, ap, subst, sym, ◌∙◌, ℕ, zero, suc, ◌+◌, List, [], ◌∷◌, ◌++◌, length, map, take, Some, None, Result, Ok, Err, OnErr, OnOk, false, true, slice_get, le_refl}
 use Rattle.std.specs.Prelude.{is_err}
 use Rattle.std.specs.List.{enumerate_from}
 use Rattle.std.proofs.Math.Seq.{take-suc, take-length}
@@ -8,23 +9,27 @@ use Rattle.std.proofs.lemmas.Option.{slice_get_within, get_or_from_slice_get}
 use Rattle.mdb_datum.specs.Bytes.{Bytes}
 use Rattle.mdb_schema.specs.History.{Commit, History}
 use Rattle.mdb_schema.specs.Schema.{DbSchema}
-use Rattle.mem_txn.specs.Database.{Caller}
+use Rattle.mem_txn.specs.Database.{Caller, Database, IsOf}
 use Rattle.client_script.proofs.LongerHistory.{runs_longer, runs_more, start_within}
+use Rattle.client_session.specs.Begun.{AreAmong, begun_numbers, number_begun}
 use Rattle.client_script.specs.Client.{Client, at_start}
 use Rattle.client_script.specs.Legal.{callers, printed, number_printed}
 use Rattle.client_script.specs.Reply.{Reply, line_text, lines_text}
-use Rattle.client_script.specs.Session.{Answers, Runs}
+use Rattle.client_script.specs.Session.{AreKnown, Answers, Runs}
 use Rattle.client_script.specs.declared.line.Line.{Line}
-use Rattle.client_script.proofs.AloneIsLegal.{AreKnown}
 use Rattle.client_script.specs.Turn.{is_of_watches}
 use Rattle.std.specs.declared.alloc.AllocError.{AllocError}
+use Rattle.client_session.proofs.BegunNumbers.{among_append, among_more, begun_more}
+use Rattle.client_session.proofs.DeskTurns.{follows_longer}
+use Rattle.client_session.proofs.OpenTurns.{later_self}
+use Rattle.client_session.specs.Answered.{AreRising, HasAnswered, IsLater, Tells, commit_at}
 use Rattle.client_session.specs.declared.desk.Desk.{Desk}
 use Rattle.client_session.specs.declared.open.Open.TheVariants as opens
 use Rattle.client_session.specs.declared.snapshots.Snapshots.{Snapshots}
 use Rattle.client_session.specs.inner.KeptView.{seen_in}
-use Rattle.client_session.specs.inner.Carried.{AnswersLine, Carried, CarriesOut}
-use Rattle.client_session.specs.inner.DeskView.{Replied}
-use Rattle.client_session.specs.inner.OpenView.{caller_of, transaction_of, made}
+use Rattle.client_session.specs.inner.Carried.{Adds, AddsSome, AnswersLine, Carried, CarriesOut}
+use Rattle.client_session.specs.inner.DeskView.{Replied, RepliesTo}
+use Rattle.client_session.specs.inner.OpenView.{Looks, caller_of, transaction_of, made}
 
 -- the texts of lines, one more
 lines_more : (schema : DbSchema) (H : History) (n : ℕ) (v : Client) (ls : List Line) (rs : List Reply) (end : Client) (l : Line) (r : Reply) → Runs schema H n v ls rs end → lines_text (ls ++ l ∷ []) (rs ++ r ∷ []) ≡ lines_text ls rs ++ line_text l.number r
@@ -37,53 +42,177 @@ printed_more : (rs : List Reply) (r : Reply) → printed (rs ++ r ∷ []) ≡ pr
 printed_more [] r = append-nil (number_printed r)
 printed_more (x ∷ rs) r = ap (λ (ms : List ℕ). number_printed x ++ ms) (printed_more rs r) ∙ sym (append_assoc (number_printed x) (printed rs) (number_printed r))
 
-enumerate_both : {A : Type 0} (n k : ℕ) (xs ys : List A) → n + length xs ≡ k → enumerate_from n (xs ++ ys) ≡ enumerate_from n xs ++ enumerate_from k ys
-enumerate_both n k [] ys e = ap (λ (m : ℕ). enumerate_from m ys) (here e)
-  where
-    here : n + 0 ≡ k → n ≡ k
-    here e = omega arith
-enumerate_both n k (x ∷ xs) ys e = ap (λ (ps : List (ℕ × _)). (n, x) ∷ ps) (enumerate_both (n + 1) k xs ys (omega arith))
+-- ---- the numbers of the commits that were told
 
-module _ (pass : Caller) (done : List Line) (d d' : Desk) (before now after : Bytes) (l : Line) (carried : Carried pass done d before now) (line : AnswersLine l d d' now after) where
+told_longer : (H more : History) (ms : List ℕ) (cs : List Commit) → map (commit_at H) ms ≡ map Some cs → map (commit_at (H ++ more)) ms ≡ map Some cs
+told_longer H more [] [] told = refl
+told_longer H more [] (c ∷ cs) told = cc
+told_longer H more (m ∷ ms) [] told = cc
+told_longer H more (m ∷ ms) (c ∷ cs) told =
+    let here : slice_get H (m - 1) ≡ Some c = cc in
+    let rest : map (commit_at H) ms ≡ map Some cs = cc in
+    ap (λ (o : Option Commit). o ∷ map (commit_at (H ++ more)) ms) (there_longer H more (m - 1) c here)
+    ∙ ap (λ (os : List (Option Commit)). Some c ∷ os) (told_longer H more ms cs rest)
+  where
+    there_longer : (H more : History) (k : ℕ) (c : Commit) → slice_get H k ≡ Some c → slice_get (H ++ more) k ≡ Some c
+    there_longer [] more k c there = cc
+    there_longer (x ∷ H) more zero c there = there
+    there_longer (x ∷ H) more (suc k) c there = there_longer H more k c there
+
+rising_wider : (low high high' : ℕ) (ms : List ℕ) → high ≤ high' → AreRising low ms high → AreRising low ms high'
+rising_wider low high high' [] le rising = omega (arith, le, rising)
+rising_wider low high high' (m ∷ ms) le rising = (rising.0, rising_wider m high high' ms le rising.1)
+
+rising_more : (low high : ℕ) (ms : List ℕ) → AreRising low ms high → AreRising low (ms ++ (high + 1) ∷ []) (high + 1)
+rising_more low high [] rising = (omega (arith, rising), omega arith)
+rising_more low high (m ∷ ms) rising = (rising.0, rising_more m high ms rising.1)
+
+number_first : List (ℕ × ℕ) → ℕ
+number_first [] = 0
+number_first (p ∷ ps) = p.0
+
+behind_first : List (ℕ × ℕ) → List (ℕ × ℕ)
+behind_first [] = []
+behind_first (p ∷ ps) = ps
+
+last_at : (H : History) (c : Commit) (cs : List Commit) → commit_at (H ++ c ∷ cs) (length H + 1) ≡ Some c
+last_at H c cs = ap (slice_get (H ++ c ∷ cs)) (before (length H)) ∙ behind H
+  where
+    before : (n : ℕ) → n + 1 - 1 ≡ n
+    before n = omega arith
+
+    behind : (H : History) → slice_get (H ++ c ∷ cs) (length H) ≡ Some c
+    behind [] = refl
+    behind (x ∷ H) = behind H
+
+-- commits that have the next numbers are the next of the list
+made_told : (H : History) (cs : List Commit) (ms : List ℕ) (n : ℕ) → map (λ m. (m, n)) ms ≡ enumerate_from (length H + 1) (callers cs) → map (commit_at (H ++ cs)) ms ≡ map Some cs
+unfolding number_first behind_first
+made_told H [] [] n e = refl
+made_told H [] (m ∷ ms) n e = cc
+made_told H (c ∷ cs) [] n e = cc
+made_told H (c ∷ cs) (m ∷ ms) n e =
+    let here : m ≡ length H + 1 = ap number_first e in
+    let rest : map (λ m. (m, n)) ms ≡ enumerate_from (length H + 1 + 1) (callers cs) = ap behind_first e in
+    let more = made_told (H ++ c ∷ []) cs ms n (rest ∙ ap (λ (k : ℕ). enumerate_from (k + 1) (callers cs)) (sym (length-append H (c ∷ [])))) in
+    let all : map (commit_at (H ++ c ∷ cs)) ms ≡ map Some cs = subst (λ (G : History). map (commit_at G) ms ≡ map Some cs) (append_assoc H (c ∷ []) cs) more in
+    ap (λ (o : Option Commit). o ∷ map (commit_at (H ++ c ∷ cs)) ms) (ap (commit_at (H ++ c ∷ cs)) here ∙ last_at H c cs)
+    ∙ ap (λ (os : List (Option Commit)). Some c ∷ os) all
+
+made_rising : (H : History) (cs : List Commit) (ms : List ℕ) (n low : ℕ) (before : List ℕ) → map (λ m. (m, n)) ms ≡ enumerate_from (length H + 1) (callers cs) → AreRising low before (length H) → AreRising low (before ++ ms) (length (H ++ cs))
+unfolding number_first behind_first
+made_rising H [] [] n low before e rising = subst (λ (ms : List ℕ). AreRising low ms (length (H ++ []))) (sym (append-nil before)) (subst (λ (G : History). AreRising low before (length G)) (sym (append-nil H)) rising)
+made_rising H [] (m ∷ ms) n low before e rising = cc
+made_rising H (c ∷ cs) [] n low before e rising = cc
+made_rising H (c ∷ cs) (m ∷ ms) n low before e rising =
+    let here : length H + 1 ≡ m = sym (ap number_first e) in
+    let rest : map (λ m. (m, n)) ms ≡ enumerate_from (length H + 1 + 1) (callers cs) = ap behind_first e in
+    let long : length H + 1 ≡ length (H ++ c ∷ []) = sym (length-append H (c ∷ [])) in
+    let one : AreRising low (before ++ m ∷ []) (length (H ++ c ∷ [])) = subst (λ (k : ℕ). AreRising low (before ++ m ∷ []) k) long (subst (λ (k : ℕ). AreRising low (before ++ k ∷ []) (length H + 1)) here (rising_more low (length H) before rising)) in
+    let more = made_rising (H ++ c ∷ []) cs ms n low (before ++ m ∷ []) (rest ∙ ap (λ (k : ℕ). enumerate_from (k + 1) (callers cs)) long) one in
+    subst (λ (ns : List ℕ). AreRising low ns (length (H ++ c ∷ cs))) (append_assoc before (m ∷ []) ms) (subst (λ (G : History). AreRising low ((before ++ m ∷ []) ++ ms) (length G)) (append_assoc H (c ∷ []) cs) more)
+
+-- ---- a caller that has seen more
+
+prefix_again : {A : Type 0} (xs ys zs : List A) → IsPrefix xs ys → IsPrefix ys zs → IsPrefix xs zs
+prefix_again xs ys zs one two = (one.0 ++ two.0, sym (append_assoc xs one.0 two.0) ∙ ap (λ (l : List _). l ++ two.0) one.1 ∙ two.1)
+
+pub later_again : (p q r : Caller) → IsLater p q → IsLater q r → IsLater p r
+later_again p q r one two = record {
+  number = two.number ∙ one.number;
+  database = two.database ∙ one.database;
+  schema = two.schema ∙ one.schema;
+  seen = prefix_again p.seen q.seen r.seen one.seen two.seen;
+  counts = prefix_again p.counts q.counts r.counts one.counts two.counts;
+  tries = prefix_again p.tries q.tries r.tries one.tries two.tries;
+}
+
+module _ (pass : Caller) (done : List Line) (d at : Desk) (before now : Bytes) (carried : Carried pass done d before now) (looks : Looks d.«open» at.«open») (same : at.snapshots ≡ d.snapshots) where
+  old : Caller
+  old = caller_of d.«open»
+
+  more : History
+  more = looks.later.seen.0
+
+  seen_is : old.seen ++ more ≡ (caller_of at.«open»).seen
+  unfolding old more
+  seen_is = looks.later.seen.1
+
+  as_long : length old.seen ≤ length (caller_of at.«open»).seen
+  as_long = let n = length-append old.seen more in let e = ap length seen_is in omega (arith, n, e)
+
+  pub seen_more : Carried pass done at before now
+  unfolding old more
+  seen_more = record {
+    replies = carried.replies;
+    client = carried.client;
+    runs = subst (λ (H : History). Runs pass.schema H pass.number at_start done carried.replies carried.client) seen_is (runs_longer pass.schema old.seen more pass.number at_start done carried.replies carried.client (start_within (length old.seen)) carried.runs);
+    follows = follows_longer d at carried.client looks same carried.follows;
+    written = carried.written;
+    later = later_again pass old (caller_of at.«open») carried.later looks.later;
+    made = carried.made;
+    own = looks.own ∙ carried.own;
+    told = subst (λ (H : History). map (commit_at H) (printed carried.replies) ≡ map Some carried.made) seen_is (told_longer old.seen more (printed carried.replies) carried.made carried.told);
+    rising = rising_wider (length pass.seen) (length old.seen) (length (caller_of at.«open»).seen) (printed carried.replies) as_long carried.rising;
+    read = carried.read ++ looks.read;
+    counts = looks.counts ∙ ap (λ (ns : List ℕ). ns ++ looks.read) carried.counts ∙ append_assoc pass.counts carried.read looks.read;
+    loads = among_more (begun_numbers carried.replies) carried.read looks.read carried.loads;
+  }
+
+module _ (pass : Caller) (done : List Line) (d d' : Desk) (before now after : Bytes) (l : Line) (r : Reply) (carried : Carried pass done d before now) (replies : RepliesTo l.command d d' r) (written : after ≡ now ++ line_text l.number r) (loads : AreAmong (begun_numbers carried.replies ++ number_begun r) carried.read) where
   p : Caller
   p = caller_of d.«open»
 
   new : History
-  new = made p.number (transaction_of d.«open») line.reply
+  new = made p.number (transaction_of d.«open») r
 
-  step : Replied l.command d d' line.reply carried.client
-  step = line.replies.replied carried.client carried.follows
+  step : Replied l.command d d' r carried.client
+  step = replies.replied carried.client carried.follows
 
-  seen_more : caller_of d'.«open» ≡ record p { seen = p.seen ++ new }
+  grown : caller_of d'.«open» ≡ record p { seen = p.seen ++ new; own = p.own ++ new }
   unfolding p new
-  seen_more = line.replies.grows
+  grown = replies.grows
 
-  runs_more_line : Runs pass.schema (caller_of d'.«open»).seen pass.number at_start (done ++ l ∷ []) (carried.replies ++ line.reply ∷ []) step.next
+  runs_more_line : Runs pass.schema (caller_of d'.«open»).seen pass.number at_start (done ++ l ∷ []) (carried.replies ++ r ∷ []) step.next
   unfolding p new step
-  runs_more_line = runs_more pass.schema (caller_of d'.«open»).seen pass.number at_start done carried.replies carried.client step.next l line.reply
-      (subst (λ (H : History). Runs pass.schema H pass.number at_start done carried.replies carried.client) (sym (ap (λ (q : Caller). q.seen) seen_more)) (runs_longer pass.schema p.seen new pass.number at_start done carried.replies carried.client (start_within (length p.seen)) carried.runs))
-      (subst (λ (q : Caller). Answers q.schema (caller_of d'.«open»).seen q.number carried.client l.command line.reply step.next) carried.seen step.answers)
+  runs_more_line = runs_more pass.schema (caller_of d'.«open»).seen pass.number at_start done carried.replies carried.client step.next l r
+      (subst (λ (H : History). Runs pass.schema H pass.number at_start done carried.replies carried.client) (sym (ap (λ (q : Caller). q.seen) grown)) (runs_longer pass.schema p.seen new pass.number at_start done carried.replies carried.client (start_within (length p.seen)) carried.runs))
+      (subst (λ (s : DbSchema). Answers s (caller_of d'.«open»).seen pass.number carried.client l.command r step.next) carried.later.schema
+      (subst (λ (n : ℕ). Answers p.schema (caller_of d'.«open»).seen n carried.client l.command r step.next) carried.later.number step.answers))
 
-  numbers_more : map (λ m. (m, pass.number)) (printed (carried.replies ++ line.reply ∷ [])) ≡ enumerate_from (length pass.seen + 1) (callers (carried.more ++ new))
+  later_more : IsLater pass (caller_of d'.«open»)
   unfolding p new
-  numbers_more =
-      ap (map (λ m. (m, pass.number))) (printed_more carried.replies line.reply)
-      ∙ map-append (λ m. (m, pass.number)) (printed carried.replies) (number_printed line.reply)
-      ∙ ap (λ (ps : List (ℕ × ℕ)). ps ++ map (λ m. (m, pass.number)) (number_printed line.reply)) carried.numbers
-      ∙ ap (λ (ps : List (ℕ × ℕ)). enumerate_from (length pass.seen + 1) (callers carried.more) ++ ps) (ap (λ (n : ℕ). map (λ m. (m, n)) (number_printed line.reply)) (sym (ap (λ (q : Caller). q.number) carried.seen)) ∙ line.replies.numbered)
-      ∙ sym (ap (enumerate_from (length pass.seen + 1)) (map-append (λ (c : Commit). c.caller) carried.more new) ∙ enumerate_both (length pass.seen + 1) (length p.seen + 1) (callers carried.more) (callers new) (rw (ap (λ (q : Caller). length q.seen) carried.seen ∙ length-append pass.seen carried.more, length-map carried.more (λ (c : Commit). c.caller)) (search (arith))))
+  later_more = later_again pass p (caller_of d'.«open») carried.later (record {
+    number = ap (λ (q : Caller). q.number) grown;
+    database = ap (λ (q : Caller). q.database) grown;
+    schema = ap (λ (q : Caller). q.schema) grown;
+    seen = (new, sym (ap (λ (q : Caller). q.seen) grown));
+    counts = ([], append-nil p.counts ∙ sym (ap (λ (q : Caller). q.counts) grown));
+    tries = ([], append-nil p.tries ∙ sym (ap (λ (q : Caller). q.tries) grown));
+  })
 
   pub one_more : Carried pass (done ++ l ∷ []) d' before after
   unfolding p new step
   one_more = record {
-    replies = carried.replies ++ line.reply ∷ [];
+    replies = carried.replies ++ r ∷ [];
     client = step.next;
     runs = runs_more_line;
     follows = step.follows;
-    written = line.written ∙ ap (λ (b : Bytes). b ++ line_text l.number line.reply) carried.written ∙ append_assoc before (lines_text done carried.replies) (line_text l.number line.reply) ∙ ap (λ (b : Bytes). before ++ b) (sym (lines_more pass.schema p.seen pass.number at_start done carried.replies carried.client l line.reply carried.runs));
-    more = carried.more ++ new;
-    seen = seen_more ∙ ap (λ (q : Caller). record q { seen = q.seen ++ new }) carried.seen ∙ ap (λ seen. record pass { seen = seen }) (append_assoc pass.seen carried.more new);
-    numbers = numbers_more;
+    written = written ∙ ap (λ (b : Bytes). b ++ line_text l.number r) carried.written ∙ append_assoc before (lines_text done carried.replies) (line_text l.number r) ∙ ap (λ (b : Bytes). before ++ b) (sym (lines_more pass.schema p.seen pass.number at_start done carried.replies carried.client l r carried.runs));
+    later = later_more;
+    made = carried.made ++ new;
+    own = ap (λ (q : Caller). q.own) grown ∙ ap (λ (cs : List Commit). cs ++ new) carried.own ∙ append_assoc pass.own carried.made new;
+    told =
+        ap (map (commit_at (caller_of d'.«open»).seen)) (printed_more carried.replies r)
+        ∙ ap (λ (H : History). map (commit_at H) (printed carried.replies ++ number_printed r)) (ap (λ (q : Caller). q.seen) grown)
+        ∙ map-append (commit_at (p.seen ++ new)) (printed carried.replies) (number_printed r)
+        ∙ ap (λ (os : List (Option Commit)). os ++ map (commit_at (p.seen ++ new)) (number_printed r)) (told_longer p.seen new (printed carried.replies) carried.made carried.told)
+        ∙ ap (λ (os : List (Option Commit)). map Some carried.made ++ os) (made_told p.seen new (number_printed r) p.number replies.numbered)
+        ∙ sym (map-append Some carried.made new);
+    rising = subst (λ (ms : List ℕ). AreRising (length pass.seen) ms (length (caller_of d'.«open»).seen)) (sym (printed_more carried.replies r)) (subst (λ (q : Caller). AreRising (length pass.seen) (printed carried.replies ++ number_printed r) (length q.seen)) (sym grown) (made_rising p.seen new (number_printed r) p.number (length pass.seen) (printed carried.replies) replies.numbered carried.rising));
+    read = carried.read;
+    counts = ap (λ (q : Caller). q.counts) grown ∙ carried.counts;
+    loads = subst (λ (ns : List ℕ). AreAmong ns carried.read) (sym (begun_more carried.replies r)) loads;
   }
 
 -- ---- the loop over the lines
@@ -101,25 +230,103 @@ first pass snaps text none = record {
     stands = tt;
   };
   written = sym (append-nil text);
-  more = [];
-  seen = ap (λ seen. record pass { seen = seen }) (sym (append-nil pass.seen));
-  numbers = refl;
+  later = later_self pass;
+  made = [];
+  own = sym (append-nil pass.own);
+  told = refl;
+  rising = le_refl (length pass.seen);
+  read = [];
+  counts = sym (append-nil pass.counts);
+  loads = tt;
 }
 
 one_more_is : (n : ℕ) → n + 1 ≡ suc n
 one_more_is n = search (arith)
 
+line_more : (pass : Caller) (done : List Line) (d d' : Desk) (before now after : Bytes) (l : Line) → Carried pass done d before now → AnswersLine l d d' now after → Carried pass (done ++ l ∷ []) d' before after
+unfolding seen_more
+line_more pass done d d' before now after l carried line =
+    let more = seen_more pass done d line.replies.at before now carried line.replies.looks line.replies.snapshots in
+    one_more pass done line.replies.at d' before now after l line.reply more line.replies.replies line.written
+    (among_append (begun_numbers carried.replies) (number_begun line.reply) carried.read line.replies.looks.read carried.loads (line.replies.loads carried.client more.follows))
+
 pub next : (pass : Caller) (lines : List Line) (at : ℕ) (d d' : Desk) (before now after : Bytes) (l : Line) → slice_get lines at ≡ Some l → Carried pass (take at lines) d before now → AnswersLine l d d' now after → Carried pass (take (at + 1) lines) d' before after
-next pass lines at d d' before now after l there carried line = subst (λ (done : List Line). Carried pass done d' before after) (grown there) (one_more pass (take at lines) d d' before now after l carried line)
+next pass lines at d d' before now after l there carried line = subst (λ (done : List Line). Carried pass done d' before after) (grown there) (line_more pass (take at lines) d d' before now after l carried line)
   where
     grown : slice_get lines at ≡ Some l → take at lines ++ l ∷ [] ≡ take (at + 1) lines
     grown e = sym (ap (λ (n : ℕ). take n lines) (one_more_is at) ∙ take-suc lines at l (slice_get_within lines at l e) ∙ ap (λ (x : Line). take at lines ++ x ∷ []) (get_or_from_slice_get lines at l l e))
 
-pub all_carried : (pass back : Caller) (lines : List Line) (n : ℕ) (d : Desk) (before after : Bytes) → n ≡ length lines → back ≡ caller_of d.«open» → Carried pass (take n lines) d before after → CarriesOut pass back lines before after
-all_carried pass back lines n d before after whole is carried = subst (λ (p : Caller). CarriesOut pass p lines before after) (sym is) (of (subst (λ (done : List Line). Carried pass done d before after) (ap (λ (k : ℕ). take k lines) whole ∙ take-length lines) carried))
+-- all lines were answered
+pub all_taken : (pass : Caller) (lines : List Line) (n : ℕ) (d : Desk) (before after : Bytes) → n ≡ length lines → Carried pass (take n lines) d before after → Carried pass lines d before after
+all_taken pass lines n d before after whole carried = subst (λ (done : List Line). Carried pass done d before after) (ap (λ (k : ℕ). take k lines) whole ∙ take-length lines) carried
+
+-- what is kept when the caller has seen more
+pub kept_lines : (pass new : Caller) (lines : List Line) (d : Desk) (before now after : Bytes) → IsLater (caller_of d.«open») new → after ≡ now → Carried pass lines d before now → Adds pass new lines before after
+kept_lines pass new lines d before now after later same c =
+    let p = caller_of d.«open» in
+    let more = later.counts in
+    record {
+      replies = c.replies;
+      client = c.client;
+      runs = subst (λ (H : History). Runs pass.schema H pass.number at_start lines c.replies c.client) later.seen.1 (runs_longer pass.schema p.seen later.seen.0 pass.number at_start lines c.replies c.client (start_within (length p.seen)) c.runs);
+      written = same ∙ c.written;
+      later = later_again pass p new c.later later;
+      read = c.read ++ more.0;
+      counts = sym more.1 ∙ ap (λ (ns : List ℕ). ns ++ more.0) c.counts ∙ append_assoc pass.counts c.read more.0;
+      loads = among_more (begun_numbers c.replies) c.read more.0 c.loads;
+    }
+
+pub kept_some : (pass new : Caller) (script : List Line) (n : ℕ) (d : Desk) (before now after : Bytes) → IsLater (caller_of d.«open») new → after ≡ now → Carried pass (take n script) d before now → AddsSome pass new script before after
+kept_some pass new script n d before now after later same carried = record { count = n; adds = kept_lines pass new (take n script) d before now after later same carried }
+
+-- and the pass is back
+pub all_carried : (pass back : Caller) (lines : List Line) (d : Desk) (before after : Bytes) → back ≡ caller_of d.«open» → Carried pass lines d before after → CarriesOut pass back lines before after
+all_carried pass back lines d before after is carried = subst (λ (p : Caller). CarriesOut pass p lines before after) (sym is) (of carried)
   where
     of : Carried pass lines d before after → CarriesOut pass (caller_of d.«open») lines before after
-    of c = record { replies = c.replies; client = c.client; runs = c.runs; written = c.written; more = c.more; seen = c.seen; numbers = c.numbers }
+    of c = record {
+      adds = record { replies = c.replies; client = c.client; runs = c.runs; written = c.written; later = c.later; read = c.read; counts = c.counts; loads = c.loads };
+      made = c.made;
+      own = c.own;
+      told = c.told;
+      rising = c.rising;
+    }
+
+pub carried_ok : (pass back : Caller) (lines : List Line) (d : Desk) (before after : Bytes) (r : Result (Unit {0}) AllocError) → back ≡ caller_of d.«open» → OnOk r (Carried pass lines d before after) → OnOk r (CarriesOut pass back lines before after)
+carried_ok pass back lines d before after (Ok x) is carried = all_carried pass back lines d before after is carried
+carried_ok pass back lines d before after (Err e) is carried = tt
+
+-- ---- a session's text, which was empty
+
+tells_adds : (pass back : Caller) (lines : List Line) (before after : Bytes) → before ≡ [] → Adds pass back lines before after → Tells pass back lines after
+tells_adds pass back lines before after none adds = record {
+  replies = adds.replies;
+  session = (adds.client, adds.runs);
+  written = adds.written ∙ ap (λ (b : Bytes). b ++ lines_text lines adds.replies) none;
+  later = adds.later;
+  read = adds.read;
+  counts = adds.counts;
+  loads = adds.loads;
+}
+
+answered_all : (pass back : Caller) (script : List Line) (before after : Bytes) → before ≡ [] → CarriesOut pass back script before after → HasAnswered pass back script after
+unfolding tells_adds
+answered_all pass back script before after none c = record {
+  tells = tells_adds pass back script before after none c.adds;
+  made = c.made;
+  own = c.own;
+  told = c.told;
+  rising = c.rising;
+}
+
+pub answered_ok : (before after : Bytes) (r : Result (Unit {0}) AllocError) (pass back p q : Caller) (lines script : List Line) → OnOk r (CarriesOut pass back lines before after) → before ≡ [] → p ≡ pass → q ≡ back → script ≡ lines → OnOk r (HasAnswered p q script after)
+answered_ok before after (Ok x) pass back p q lines script c none is is' same =
+    subst (λ (z : Caller). HasAnswered z q script after) (sym is) (subst (λ (z : Caller). HasAnswered pass z script after) (sym is') (subst (λ (z : List Line). HasAnswered pass back z after) (sym same) (answered_all pass back lines before after none c)))
+answered_ok before after (Err e) pass back p q lines script c none is is' same = tt
+
+-- a pass that has seen more is of the same database
+pub own_later : (db : Database) (p q : Caller) → IsOf db p → IsLater p q → IsOf db q
+own_later db p q own later = (later.database ∙ own.0, later.schema ∙ own.1)
 
 pub known_at : (lines : List Line) (at : ℕ) (l : Line) → AreKnown lines → slice_get lines at ≡ Some l → is_of_watches l.command ≡ false
 known_at [] at l known there = cc
@@ -129,3 +336,7 @@ known_at (x ∷ lines) (suc at) l known there = known_at lines at l known.1 ther
 pub was_ok : {P : Type 0} (r : Result (Unit {0}) AllocError) → is_err r ≡ false → OnOk r P → P
 was_ok (Ok x) ok holds = holds
 was_ok (Err e) ok holds = cc
+
+pub was_err : {P : Type 0} (r : Result (Unit {0}) AllocError) → is_err r ≡ true → OnErr r P → P
+was_err (Ok x) err holds = cc
+was_err (Err e) err holds = holds

@@ -1,5 +1,5 @@
 -- From the turn of what is open to the reply of a desk.
-use Rattle.std.proofs.Common.{arith, ◌≡◌, refl, ap, subst, sym, ◌∙◌, ℕ, ◌≤◌, false, List, [], ◌∷◌, ◌++◌, length, Option, Some, None, Result, Ok, Err, IfOk, IsErr, MatchOption, cond, slice_get}
+use Rattle.std.proofs.Common.{arith, ◌≡◌, refl, ap, subst, sym, ◌∙◌, ℕ, ◌≤◌, false, List, [], ◌∷◌, ◌++◌, length, map, Option, Some, None, Result, Ok, Err, IfOk, IsErr, MatchOption, cond, slice_get}
 use Rattle.std.specs.Prelude.{option_map, is_some, if◌then◌else◌, Bool, true}
 use Rattle.std.specs.Str.{bytes_eq}
 use Rattle.std.specs.Bool.{⊤}
@@ -14,7 +14,7 @@ use Rattle.mdb_datum.specs.Bytes.{Bytes}
 use Rattle.mdb_schema.specs.History.{Commit, History, after_commits, after_writes}
 use Rattle.mdb_schema.specs.Schema.{DbSchema}
 use Rattle.mem_txn.specs.Database.{Caller, View}
-use Rattle.client_script.proofs.LongerHistory.{IsWithin, StandsWithin, AllWithin, turn_longer, answered_within}
+use Rattle.client_script.proofs.LongerHistory.{no_entry, IsWithin, StandsWithin, AllWithin, turn_longer, answered_within}
 use Rattle.client_script.specs.Client.{Transaction, closed, reading, writing, Writing, Client, Sight, Snapshot, snapshot_named, state_seen, some_open}
 use Rattle.client_script.specs.Reply as said
 use Rattle.client_script.specs.Session.{IsEntry, Answers}
@@ -28,6 +28,8 @@ use Rattle.mdb_schema.specs.Query.{Query}
 use Rattle.mdb_schema.specs.Refusals.{AnswersAsk, ask_error}
 use Rattle.mdb_schema.specs.declared.answer.Answer.{Answer}
 use Rattle.mdb_schema.specs.declared.ask_error.AskError.{AskError}
+use Rattle.client_session.proofs.BegunNumbers.{StartsNone, starts_none}
+use Rattle.client_session.proofs.OpenTurns.{looks_self}
 use Rattle.client_session.proofs.RequestTurns.{rule_of_question, name_of_question, writing_same, none_numbered}
 use Rattle.client_session.specs.declared.rule.Rule.TheVariants as rules
 use Rattle.client_session.specs.inner.Refusal.{question_rule}
@@ -39,9 +41,9 @@ use Rattle.client_session.specs.declared.«open».Open.TheVariants as opens
 use Rattle.client_session.specs.declared.reply.Reply.TheVariants as replied_by
 use Rattle.client_session.specs.inner.ReplyOf.{reply_of}
 use Rattle.std.specs.declared.alloc.AllocError.{AllocError}
-use Rattle.client_session.specs.inner.DeskView.{Follows, Replied, RepliesTo, view_of}
+use Rattle.client_session.specs.inner.DeskView.{Follows, LooksAndReplies, Presents, Replied, RepliesTo, view_of}
 use Rattle.client_session.specs.inner.KeptView.{seen_in}
-use Rattle.client_session.specs.inner.OpenView.{TurnsTo, caller_of, transaction_of, Stands, made}
+use Rattle.client_session.specs.inner.OpenView.{IsNumbered, Looks, LooksAndTurns, TurnsTo, caller_of, transaction_of, Stands, made}
 
 -- ---- the entry of a commit
 
@@ -65,10 +67,14 @@ entry_made H n x (said.kept_at n') stands = tt
 entry_made H n x (said.kept_within n') stands = tt
 entry_made H n x (said.refused rule) stands = tt
 
-entry_of : (o : Open) (r : said.Reply) → IsEntry ((caller_of o).seen ++ made (caller_of o).number (transaction_of o) r) (caller_of o).number (transaction_of o) r
-entry_of (opens.Nothing pass) r = tt
-entry_of (opens.Reading pass txn) r = tt
-entry_of (opens.Writing txn) r = entry_made (changes_of txn).caller.seen (changes_of txn).caller.number (record { number = length (changes_of txn).caller.seen; writes = (changes_of txn).writes; texts = items_of txn }) r refl
+none_told : (n : ℕ) (ms : List ℕ) → map {B = ℕ × ℕ} (λ m. (m, n)) ms ≡ [] → ms ≡ []
+none_told n [] none = refl
+none_told n (m ∷ ms) none = cc
+
+entry_of : (o : Open) (r : said.Reply) → IsNumbered (caller_of o) (transaction_of o) r → IsEntry ((caller_of o).seen ++ made (caller_of o).number (transaction_of o) r) (caller_of o).number (transaction_of o) r
+entry_of (opens.Nothing pass) r numbered = no_entry (pass.seen ++ made pass.number closed r) pass.number closed r (none_told pass.number (number_printed r) numbered)
+entry_of (opens.Reading pass txn) r numbered = no_entry (pass.seen ++ made pass.number (reading txn.number) r) pass.number (reading txn.number) r (none_told pass.number (number_printed r) numbered)
+entry_of (opens.Writing txn) r numbered = entry_made (changes_of txn).caller.seen (changes_of txn).caller.number (record { number = length (changes_of txn).caller.seen; writes = (changes_of txn).writes; texts = items_of txn }) r refl
 
 -- ---- a longer history
 
@@ -88,16 +94,51 @@ seen_longer : (schema : DbSchema) (H more : History) (s : Sight) → s.number �
 seen_longer schema H more s there = ap (λ (first : History). after_writes schema (after_commits schema (empty_state schema) first) s.writes) (take-append-le s.number H more there)
 
 -- a snapshot sees what it saw
-view_more : (p : Caller) (more : History) (s : Sight) → s.number ≤ length p.seen → view_of (record p { seen = p.seen ++ more }) s ≡ view_of p s
-view_more p more s le = ap (λ state. record { schema = p.schema; number = s.number; state = state }) (seen_longer p.schema p.seen more s le)
+view_more : (p q : Caller) (more : History) (s : Sight) → q.schema ≡ p.schema → p.seen ++ more ≡ q.seen → s.number ≤ length p.seen → view_of q s ≡ view_of p s
+view_more p q more s same longer le =
+    (λ i. let r : View = record { schema = same i; number = s.number; state = state_seen (same i) (sym longer i) s } in r)
+    ∙ ap (λ state. record { schema = p.schema; number = s.number; state = state }) (seen_longer p.schema p.seen more s le)
 
-views_more : (p : Caller) (more : History) (name : Bytes) (ss : List Snapshot) → AllWithin (length p.seen) ss → option_map (view_of (record p { seen = p.seen ++ more })) (snapshot_named name ss) ≡ option_map (view_of p) (snapshot_named name ss)
-views_more p more name [] within = refl
-views_more p more name (s ∷ ss) within = one (bytes_eq s.name name) (views_more p more name ss within.1)
+views_more : (p q : Caller) (more : History) (name : Bytes) (ss : List Snapshot) → q.schema ≡ p.schema → p.seen ++ more ≡ q.seen → AllWithin (length p.seen) ss → option_map (view_of q) (snapshot_named name ss) ≡ option_map (view_of p) (snapshot_named name ss)
+views_more p q more name [] same longer within = refl
+views_more p q more name (s ∷ ss) same longer within = one (bytes_eq s.name name) (views_more p q more name ss same longer within.1)
   where
-    one : (b : Bool) → option_map (view_of (record p { seen = p.seen ++ more })) (snapshot_named name ss) ≡ option_map (view_of p) (snapshot_named name ss) → option_map (view_of (record p { seen = p.seen ++ more })) (if b then Some s.sight else snapshot_named name ss) ≡ option_map (view_of p) (if b then Some s.sight else snapshot_named name ss)
-    one true later = ap Some (view_more p more s.sight within.0)
+    one : (b : Bool) → option_map (view_of q) (snapshot_named name ss) ≡ option_map (view_of p) (snapshot_named name ss) → option_map (view_of q) (if b then Some s.sight else snapshot_named name ss) ≡ option_map (view_of p) (if b then Some s.sight else snapshot_named name ss)
+    one true later = ap Some (view_more p q more s.sight same longer within.0)
     one false later = later
+
+-- a client's knowledge fits a caller that has seen more
+pub follows_longer : (d at : Desk) (v : Client) → Looks d.«open» at.«open» → at.snapshots ≡ d.snapshots → Follows d v → Follows at v
+follows_longer d at v looks same follows =
+    let p = caller_of d.«open» in
+    let q = caller_of at.«open» in
+    let long = length-append p.seen looks.later.seen.0 in
+    let whole = ap length looks.later.seen.1 in
+    let longer : length p.seen ≤ length q.seen = omega (arith, long, whole) in
+    let last = follows.last in
+    record {
+      transaction = follows.transaction ∙ sym looks.transaction;
+      last = omega (arith, last, longer);
+      within = within_more (length p.seen) (length q.seen) v longer follows.within;
+      snapshots = λ name.
+          ap (λ s. seen_in s name) same
+          ∙ follows.snapshots name
+          ∙ sym (views_more p q looks.later.seen.0 name v.snapshots looks.later.schema looks.later.seen.1 follows.within.snapshots);
+      stands = looks.stands;
+    }
+
+-- ---- a line that looks at no further commits
+
+pub replies_at_once : (c : Command) (d d' : Desk) (r : said.Reply) → StartsNone c → Stands d.«open» → RepliesTo c d d' r → LooksAndReplies c d d' r
+replies_at_once c d d' r starts stands replies = record {
+  at = d;
+  looks = looks_self d.«open» stands;
+  snapshots = refl;
+  replies = replies;
+  loads = λ v follows.
+      let a = (replies.replied v follows).answers in
+      starts_none (caller_of d.«open»).schema (caller_of d'.«open»).seen a.now v (replies.replied v follows).next c r (looks_self d.«open» stands).read starts a.says;
+}
 
 -- ---- a line's reply
 
@@ -108,7 +149,7 @@ module _ (c : Command) (d d' : Desk) (r : said.Reply) (known : is_of_watches c �
   more : History
   more = made p.number (transaction_of d.«open») r
 
-  grown : caller_of d'.«open» ≡ record p { seen = p.seen ++ more }
+  grown : caller_of d'.«open» ≡ record p { seen = p.seen ++ more; own = p.own ++ more }
   unfolding p more
   grown = to.grows
 
@@ -128,7 +169,7 @@ module _ (c : Command) (d d' : Desk) (r : said.Reply) (known : is_of_watches c �
         there = longer;
         known = known;
         says = ap (λ (H : History). outcome v (turn p.schema H (length p.seen) v c)) seen_grown ∙ ap (outcome v) (turn_longer p.schema p.seen more (length p.seen) v c follows.within) ∙ t.says;
-        entry = subst (λ (H : History). IsEntry H p.number v.transaction r) (sym seen_grown) (subst (λ (x : Transaction). IsEntry (p.seen ++ more) p.number x r) (sym follows.transaction) (entry_of d.«open» r));
+        entry = subst (λ (H : History). IsEntry H p.number v.transaction r) (sym seen_grown) (subst (λ (x : Transaction). IsEntry (p.seen ++ more) p.number x r) (sym follows.transaction) (entry_of d.«open» r to.numbered));
       } in
       record {
         next = t.next;
@@ -140,8 +181,7 @@ module _ (c : Command) (d d' : Desk) (r : said.Reply) (known : is_of_watches c �
           snapshots = λ name.
               ap (λ s. seen_in s name) same
               ∙ follows.snapshots name
-              ∙ sym (views_more p more name v.snapshots follows.within.snapshots)
-              ∙ ap (λ (q : Caller). option_map (view_of q) (snapshot_named name v.snapshots)) (sym grown)
+              ∙ sym (views_more p (caller_of d'.«open») more name v.snapshots (ap (λ (q : Caller). q.schema) grown) (sym seen_grown) follows.within.snapshots)
               ∙ ap (λ ss. option_map (view_of (caller_of d'.«open»)) (snapshot_named name ss)) (sym t.snapshots);
           stands = to.stands;
         };
@@ -156,13 +196,22 @@ pub replies_told : (c c' : Command) (d : Desk) (o : Open) (s s' : DbSchema) (tol
 replies_told c c' d o s s' (Ok r) is same known to = subst (λ (x : Command). RepliesTo x d (record { «open» = o; snapshots = d.snapshots }) (reply_of s' r)) (sym is) (subst (λ (x : DbSchema). RepliesTo c d (record { «open» = o; snapshots = d.snapshots }) (reply_of x r)) same (replies c d (record { «open» = o; snapshots = d.snapshots }) (reply_of s r) known to refl))
 replies_told c c' d o s s' (Err e) is same known to = tt
 
-pub replies_once : (c c' : Command) (d : Desk) (o : Open) (r : said.Reply) → c' ≡ c → is_of_watches c ≡ false → TurnsTo c d.«open» o r → RepliesTo c' d (record { «open» = o; snapshots = d.snapshots }) r
-replies_once c c' d o r is known to = subst (λ (x : Command). RepliesTo x d (record { «open» = o; snapshots = d.snapshots }) r) (sym is) (replies c d (record { «open» = o; snapshots = d.snapshots }) r known to refl)
+-- a line that begins or ends a transaction
+pub looked_told : (c c' : Command) (d : Desk) (o : Open) (s s' : DbSchema) (told : Result replied_by.the_data AllocError) → c' ≡ c → s ≡ s' → is_of_watches c ≡ false → IfOk told (λ r. LooksAndTurns c d.«open» o (reply_of s r)) → IfOk told (λ r. LooksAndReplies c' d (record { «open» = o; snapshots = d.snapshots }) (reply_of s' r))
+looked_told c c' d o s s' (Ok r) is same known to =
+    let at : Desk = record { «open» = to.at; snapshots = d.snapshots } in
+    let reply : RepliesTo c at (record { «open» = o; snapshots = d.snapshots }) (reply_of s r) = replies c at (record { «open» = o; snapshots = d.snapshots }) (reply_of s r) known to.turns refl in
+    subst (λ (x : Command). LooksAndReplies x d (record { «open» = o; snapshots = d.snapshots }) (reply_of s' r)) (sym is) (subst (λ (x : DbSchema). LooksAndReplies c d (record { «open» = o; snapshots = d.snapshots }) (reply_of x r)) same (record { at = at; looks = to.looks; snapshots = refl; replies = reply; loads = λ v follows. to.loads v follows.transaction follows.last }))
+looked_told c c' d o s s' (Err e) is same known to = tt
+
+pub once_told : (c : Command) (d d' : Desk) (s : DbSchema) (told : Result replied_by.the_data AllocError) → StartsNone c → Stands d.«open» → IfOk told (λ r. RepliesTo c d d' (reply_of s r)) → IfOk told (λ r. LooksAndReplies c d d' (reply_of s r))
+once_told c d d' s (Ok r) starts stands to = replies_at_once c d d' (reply_of s r) starts stands to
+once_told c d d' s (Err e) starts stands to = tt
 
 -- ---- snapshots
 
-no_more : (p : Caller) → p ≡ record p { seen = p.seen ++ [] }
-no_more p = ap (λ seen. record p { seen = seen }) (sym (append-nil p.seen))
+no_more : (p : Caller) → p ≡ record p { seen = p.seen ++ []; own = p.own ++ [] }
+no_more p = λ i. record p { seen = sym (append-nil p.seen) i; own = sym (append-nil p.own) i }
 
 refused_makes : (rule : Bytes) (n : ℕ) (t : Transaction) → made n t (said.refused rule) ≡ []
 refused_makes rule n closed = refl
@@ -180,25 +229,6 @@ kept_makes (writing k) s n closed = refl
 kept_makes (writing k) s n (reading m) = refl
 kept_makes (writing k) s n (writing t) = refl
 
--- no commit is told
-no_entry : (H : History) (n : ℕ) (t : Transaction) (r : said.Reply) → number_printed r ≡ [] → IsEntry H n t r
-no_entry H n closed r none = tt
-no_entry H n (reading m) r none = tt
-no_entry H n (writing t) (said.committed m texts) none = cc
-no_entry H n (writing t) (said.read_at n') none = tt
-no_entry H n (writing t) (said.write_at n') none = tt
-no_entry H n (writing t) said.ended none = tt
-no_entry H n (writing t) said.aborted none = tt
-no_entry H n (writing t) said.inserted none = tt
-no_entry H n (writing t) said.replaced none = tt
-no_entry H n (writing t) said.deleted none = tt
-no_entry H n (writing t) (said.wiped k) none = tt
-no_entry H n (writing t) said.deferred none = tt
-no_entry H n (writing t) (said.answered a) none = tt
-no_entry H n (writing t) (said.kept_at n') none = tt
-no_entry H n (writing t) (said.kept_within n') none = tt
-no_entry H n (writing t) (said.refused rule) none = tt
-
 -- a line that changes nothing
 pub kept_desk : (c : Command) (d : Desk) (r : said.Reply) → is_of_watches c ≡ false → Stands d.«open» → number_printed r ≡ [] → ((n : ℕ) (t : Transaction) → made n t r ≡ []) → ((v : Client) → Follows d v → outcome v (turn (caller_of d.«open»).schema (caller_of d.«open»).seen (length (caller_of d.«open»).seen) v c) ≡ (r, v)) → RepliesTo c d d r
 kept_desk c d r known stands none makes says = record {
@@ -214,7 +244,7 @@ kept_desk c d r known stands none makes says = record {
     };
     follows = follows;
   };
-  grows = no_more (caller_of d.«open») ∙ ap (λ (cs : History). record (caller_of d.«open») { seen = (caller_of d.«open»).seen ++ cs }) (sym (makes (caller_of d.«open»).number (transaction_of d.«open»)));
+  grows = no_more (caller_of d.«open») ∙ ap (λ (cs : History). record (caller_of d.«open») { seen = (caller_of d.«open»).seen ++ cs; own = (caller_of d.«open»).own ++ cs }) (sym (makes (caller_of d.«open»).number (transaction_of d.«open»)));
   numbered = none_numbered (caller_of d.«open») (transaction_of d.«open») r none (makes (caller_of d.«open»).number (transaction_of d.«open»));
 }
 
@@ -292,7 +322,7 @@ kept_found p true s view found sees none = rw (none refl) (ap Some sees)
 kept_found p false s view None sees none = refl
 kept_found p false s view (Some x) sees none = refl
 
-pub keep_replies : (d d' : Desk) (name : Bytes) (s : Sight) (view : View) (r : said.Reply) → some_open (transaction_of d.«open») ≡ Ok s → caller_of d'.«open» ≡ caller_of d.«open» → transaction_of d'.«open» ≡ transaction_of d.«open» → Stands d'.«open» → is_some (seen_in d.snapshots name) ≡ false → ((q : Bytes) → seen_in d'.snapshots q ≡ cond (bytes_eq name q) (Some view) (seen_in d.snapshots q)) → view ≡ view_of (caller_of d.«open») s → r ≡ snapshot_reply (transaction_of d.«open») s → RepliesTo (command.Snapshot name) d d' r
+keep_replies : (d d' : Desk) (name : Bytes) (s : Sight) (view : View) (r : said.Reply) → some_open (transaction_of d.«open») ≡ Ok s → caller_of d'.«open» ≡ caller_of d.«open» → transaction_of d'.«open» ≡ transaction_of d.«open» → Stands d'.«open» → is_some (seen_in d.snapshots name) ≡ false → ((q : Bytes) → seen_in d'.snapshots q ≡ cond (bytes_eq name q) (Some view) (seen_in d.snapshots q)) → view ≡ view_of (caller_of d.«open») s → r ≡ snapshot_reply (transaction_of d.«open») s → RepliesTo (command.Snapshot name) d d' r
 keep_replies d d' name s view r opened caller same stands free kept sees reply = record {
   replied = λ v follows.
       let unnamed : snapshot_named name v.snapshots ≡ None = not_named (caller_of d.«open») (snapshot_named name v.snapshots) (ap is_some (sym (follows.snapshots name)) ∙ free) in
@@ -321,32 +351,34 @@ keep_replies d d' name s view r opened caller same stands free kept sees reply =
           stands = stands;
         };
       };
-  grows = caller ∙ no_more (caller_of d.«open») ∙ ap (λ (cs : History). record (caller_of d.«open») { seen = (caller_of d.«open»).seen ++ cs }) (sym (ap (made (caller_of d.«open»).number (transaction_of d.«open»)) reply ∙ kept_makes (transaction_of d.«open») s (caller_of d.«open»).number (transaction_of d.«open»)));
+  grows = caller ∙ no_more (caller_of d.«open») ∙ ap (λ (cs : History). record (caller_of d.«open») { seen = (caller_of d.«open»).seen ++ cs; own = (caller_of d.«open»).own ++ cs }) (sym (ap (made (caller_of d.«open»).number (transaction_of d.«open»)) reply ∙ kept_makes (transaction_of d.«open») s (caller_of d.«open»).number (transaction_of d.«open»)));
   numbered = none_numbered (caller_of d.«open») (transaction_of d.«open») r (ap number_printed reply ∙ kept_prints (transaction_of d.«open») s) (ap (made (caller_of d.«open»).number (transaction_of d.«open»)) reply ∙ kept_makes (transaction_of d.«open») s (caller_of d.«open»).number (transaction_of d.«open»));
 }
 
 -- the two sorts of snapshots
-pub keep_reading : (d : Desk) (name : Bytes) (pass : Caller) (txn kept : View) (snaps : Snapshots) (n : ℕ) → d.«open» ≡ opens.Reading pass txn → Stands d.«open» → is_some (seen_in d.snapshots name) ≡ false → ((q : Bytes) → seen_in snaps q ≡ cond (bytes_eq name q) (Some kept) (seen_in d.snapshots q)) → kept ≡ txn → n ≡ txn.number → RepliesTo (command.Snapshot name) d (record { «open» = opens.Reading pass txn; snapshots = snaps }) (said.kept_at n)
-keep_reading d name pass txn kept snaps n is stands free keeps same number =
+pub present_reading : (o : Open) (pass : Caller) (txn kept : View) (n : ℕ) → o ≡ opens.Reading pass txn → Stands o → kept ≡ txn → n ≡ txn.number → Presents o kept (said.kept_at n)
+present_reading o pass txn kept n is stands same number =
+    let s : Sight = record { number = txn.number; writes = [] } in
     let here : Stands (opens.Reading pass txn) = subst Stands is stands in
-    keep_replies d (record { «open» = opens.Reading pass txn; snapshots = snaps }) name (record { number = txn.number; writes = [] }) kept (said.kept_at n)
-    (ap (λ (o : Open). some_open (transaction_of o)) is)
-    (sym (ap caller_of is))
-    (sym (ap transaction_of is))
-    here free keeps
-    (same ∙ here.1 ∙ sym (ap (λ (o : Open). view_of (caller_of o) (record { number = txn.number; writes = [] })) is))
-    (ap said.kept_at number ∙ sym (ap (λ (o : Open). snapshot_reply (transaction_of o) (record { number = txn.number; writes = [] })) is))
+    record {
+      sight = s;
+      opened = ap (λ (x : Open). some_open (transaction_of x)) is;
+      sees = same ∙ here.1 ∙ sym (ap (λ (x : Open). view_of (caller_of x) s) is);
+      reply = ap said.kept_at number ∙ sym (ap (λ (x : Open). snapshot_reply (transaction_of x) s) is);
+    }
 
-pub keep_writing : (d : Desk) (name : Bytes) (txn txn' : WriteTxn Bytes) (kept : View) (snaps : Snapshots) (n : ℕ) → d.«open» ≡ opens.Writing txn → Stands d.«open» → is_some (seen_in d.snapshots name) ≡ false → ((q : Bytes) → seen_in snaps q ≡ cond (bytes_eq name q) (Some kept) (seen_in d.snapshots q)) → AnswersSnapshot (changes_of txn).spoiled (present_view (changes_of txn)) (Ok kept) → changes_of txn' ≡ changes_of txn → items_of txn' ≡ items_of txn → n ≡ length (changes_of txn).caller.seen → RepliesTo (command.Snapshot name) d (record { «open» = opens.Writing txn'; snapshots = snaps }) (said.kept_within n)
-keep_writing d name txn txn' kept snaps n is stands free keeps answers changes items number =
+pub present_writing : (o : Open) (txn : WriteTxn Bytes) (kept : View) (n : ℕ) → o ≡ opens.Writing txn → Stands o → AnswersSnapshot (changes_of txn).spoiled (present_view (changes_of txn)) (Ok kept) → n ≡ length (changes_of txn).caller.seen → Presents o kept (said.kept_within n)
+present_writing o txn kept n is stands answers number =
+    let s : Sight = record { number = length (changes_of txn).caller.seen; writes = (changes_of txn).writes } in
     let sound : (changes_of txn).spoiled ≡ false = subst Stands is stands in
     let sees : kept ≡ present_view (changes_of txn) = subst (λ b. AnswersSnapshot b (present_view (changes_of txn)) (Ok kept)) sound answers in
-    let s : Sight = record { number = length (changes_of txn).caller.seen; writes = (changes_of txn).writes } in
-    keep_replies d (record { «open» = opens.Writing txn'; snapshots = snaps }) name s kept (said.kept_within n)
-    (ap (λ (o : Open). some_open (transaction_of o)) is)
-    (ap (λ (t : Changes). t.caller) changes ∙ sym (ap caller_of is))
-    (writing_same txn txn' changes items ∙ sym (ap transaction_of is))
-    (ap (λ (t : Changes). t.spoiled) changes ∙ sound)
-    free keeps
-    (sees ∙ sym (ap (λ (o : Open). view_of (caller_of o) s) is))
-    (ap said.kept_within number ∙ sym (ap (λ (o : Open). snapshot_reply (transaction_of o) s) is))
+    record {
+      sight = s;
+      opened = ap (λ (x : Open). some_open (transaction_of x)) is;
+      sees = sees ∙ sym (ap (λ (x : Open). view_of (caller_of x) s) is);
+      reply = ap said.kept_within number ∙ sym (ap (λ (x : Open). snapshot_reply (transaction_of x) s) is);
+    }
+
+-- a snapshot under a new name
+pub kept_new : (d d' : Desk) (name : Bytes) (view : View) (r : said.Reply) → Presents d.«open» view r → caller_of d'.«open» ≡ caller_of d.«open» → transaction_of d'.«open» ≡ transaction_of d.«open» → Stands d'.«open» → is_some (seen_in d.snapshots name) ≡ false → ((q : Bytes) → seen_in d'.snapshots q ≡ cond (bytes_eq name q) (Some view) (seen_in d.snapshots q)) → RepliesTo (command.Snapshot name) d d' r
+kept_new d d' name view r present caller same stands free kept = keep_replies d d' name present.sight view r present.opened caller same stands free kept present.sees present.reply

@@ -1,6 +1,6 @@
 -- Lines without a command of watches.
 use Rattle.std.proofs.Common.{◌≡◌, ℕ, ◌+◌, List, drop, Some, slice_get, false, sym, subst}
-use Rattle.client_script.proofs.AloneIsLegal.{AreKnown}
+use Rattle.client_script.specs.Session.{AreKnown}
 use Rattle.client_script.specs.Turn.{is_of_watches}
 use Rattle.client_script.specs.declared.line.Line.{Line}
 use Rattle.client_session.proofs.ReplyLines.{drop_next}

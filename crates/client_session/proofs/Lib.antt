@@ -1,3 +1,4 @@
+mod BegunNumbers
 mod Carrying
 mod DeskTurns
 mod KeptSteps

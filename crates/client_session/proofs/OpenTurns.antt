@@ -1,26 +1,33 @@
 -- The turns that begin and end transactions.
-use Rattle.std.proofs.Common.{arith, ◌≡◌, refl, ap, subst, sym, ◌∙◌, ℕ, ◌+◌, ◌<◌, ◌≤◌, ◌^◌, List, [], ◌∷◌, ◌++◌, length, Result, Ok, IfOk}
+use Rattle.std.proofs.Common.{arith, lt-ltb, ◌≡◌, refl, ap, subst, sym, ◌∙◌, ℕ, ◌+◌, ◌<◌, ◌≤◌, ◌^◌, List, [], ◌∷◌, ◌++◌, length, inl, Result, Ok, Err, IfOk}
+use Rattle.std.specs.Prelude.{codes, nat_lt}
 use Rattle.std.specs.declared.alloc.AllocError.{AllocError}
 use Rattle.std.proofs.lemmas.List.{append-nil, length-append}
 use Rattle.mdb_datum.specs.Bytes.{Bytes}
 use Rattle.mem_txn.specs.Changes.{Changes, begun}
-use Rattle.mem_txn.specs.Database.{Caller, Database, View, view_seen}
-use Rattle.mem_txn.specs.Transactions.{IsCommitted, changes_of, items_of, deferred_items}
+use Rattle.mem_txn.specs.Database.{Caller, HasRead, HasSeen, View, view_seen}
+use Rattle.mem_txn.specs.Transactions.{IsCommitted, IsRefused, changes_of, items_of, deferred_items}
+use Rattle.mem_txn.specs.declared.outcome.BeginRefused.{BeginRefused}
 use Rattle.mem_txn.specs.declared.outcome.Committed.{Committed}
+use Rattle.mem_txn.specs.declared.txn_error.BeginError.TheVariants as begin_errors
 use Rattle.mem_txn.specs.declared.write_txn.WriteTxn.{WriteTxn}
-use Rattle.client_script.specs.Client.{Transaction, closed, reading, writing}
-use Rattle.client_script.specs.Reply.{read_at, write_at, ended, committed, aborted}
-use Rattle.client_script.proofs.OneClient.{below_limit}
+use Rattle.client_script.specs.Client.{Client, Transaction, closed, reading, writing}
+use Rattle.client_script.specs.Reply.{Reply, read_at, write_at, ended, committed, aborted, refused}
+use Rattle.client_script.specs.Turn.{commit_limit, outcome, turn}
+use Rattle.client_script.specs.declared.command.Command.{Command}
 use Rattle.client_script.specs.declared.command.Command.TheVariants as command
+use Rattle.client_session.specs.Answered.{IsLater}
 use Rattle.client_session.specs.declared.open.Open.{Open}
 use Rattle.client_session.specs.declared.open.Open.TheVariants as opens
 use Rattle.client_session.specs.declared.reply.Reply.TheVariants as replies
 use Rattle.client_session.specs.inner.ReplyOf.{reply_of}
-use Rattle.client_session.specs.inner.OpenView.{TurnsTo, caller_of}
+use Rattle.client_session.specs.inner.OpenView.{IsNumbered, Looks, LooksAndTurns, Stands, TurnsTo, caller_of, made, transaction_of}
+use Rattle.client_session.proofs.BegunNumbers.{StartsNone, starts_none}
+use Rattle.mdb_schema.specs.Schema.{DbSchema}
 
 -- a caller that has seen no more
-no_more : (p : Caller) → p ≡ record p { seen = p.seen ++ [] }
-no_more p = ap (λ seen. record p { seen = seen }) (sym (append-nil p.seen))
+no_more : (p : Caller) → p ≡ record p { seen = p.seen ++ []; own = p.own ++ [] }
+no_more p = λ i. record p { seen = sym (append-nil p.seen) i; own = sym (append-nil p.own) i }
 
 read_turns : (pass : Caller) → TurnsTo command.Read (opens.Nothing pass) (opens.Reading pass (view_seen pass)) (read_at (length pass.seen))
 read_turns pass = record {
@@ -36,11 +43,43 @@ read_turns pass = record {
   numbered = refl;
 }
 
-pub begun_read : (self : Open) (old new : Caller) (txn : View) (n : ℕ) → self ≡ opens.Nothing old → new ≡ old → txn ≡ view_seen new → n ≡ txn.number → TurnsTo command.Read self (opens.Reading new txn) (read_at n)
-begun_read self old new txn n is same sees number =
-    subst (λ (s : Open). TurnsTo command.Read s (opens.Reading new txn) (read_at n)) (sym (is ∙ ap opens.Nothing (sym same)))
-    (subst (λ (k : ℕ). TurnsTo command.Read (opens.Nothing new) (opens.Reading new txn) (read_at k)) (sym (number ∙ ap (λ (x : View). x.number) sees))
-    (subst (λ (x : View). TurnsTo command.Read (opens.Nothing new) (opens.Reading new x) (read_at (length new.seen))) (sym sees) (read_turns new)))
+pub later_self : (p : Caller) → IsLater p p
+later_self p = record { number = refl; database = refl; schema = refl; seen = ([], append-nil p.seen); counts = ([], append-nil p.counts); tries = ([], append-nil p.tries) }
+
+pub later_same : (p q : Caller) → q ≡ p → IsLater p q
+later_same p q same = subst (λ (r : Caller). IsLater p r) (sym same) (later_self p)
+
+pub later_seen : (old new : Caller) → HasSeen old new → IsLater old new
+later_seen old new seen = record {
+  number = ap (λ (p : Caller). p.number) seen.others;
+  database = ap (λ (p : Caller). p.database) seen.others;
+  schema = ap (λ (p : Caller). p.schema) seen.others;
+  seen = seen.seen;
+  counts = seen.counts;
+  tries = seen.tries;
+}
+
+-- a caller that has looked
+looked : (old new : Caller) (n : ℕ) → HasSeen old new → HasRead old new n → Looks (opens.Nothing old) (opens.Nothing new)
+looked old new n seen read = record {
+  later = later_seen old new seen;
+  own = ap (λ (p : Caller). p.own) seen.others;
+  read = n ∷ [];
+  counts = read.1;
+  transaction = refl;
+  stands = tt;
+}
+
+pub begun_read : (self : Open) (old new : Caller) (txn : View) (n : ℕ) → self ≡ opens.Nothing old → HasSeen old new → HasRead old new txn.number → txn ≡ view_seen new → n ≡ txn.number → LooksAndTurns command.Read self (opens.Reading new txn) (read_at n)
+unfolding looked
+begun_read self old new txn n is seen read sees number = subst (λ (s : Open). LooksAndTurns command.Read s (opens.Reading new txn) (read_at n)) (sym is) (record {
+  at = opens.Nothing new;
+  looks = looked old new txn.number seen read;
+  turns =
+      subst (λ (k : ℕ). TurnsTo command.Read (opens.Nothing new) (opens.Reading new txn) (read_at k)) (sym (number ∙ ap (λ (x : View). x.number) sees))
+      (subst (λ (x : View). TurnsTo command.Read (opens.Nothing new) (opens.Reading new x) (read_at (length new.seen))) (sym sees) (read_turns new));
+  loads = λ v is' le. inl (number, tt);
+})
 
 end_turns : (pass : Caller) (txn : View) → TurnsTo command.End (opens.Reading pass txn) (opens.Nothing pass) ended
 end_turns pass txn = record {
@@ -68,7 +107,7 @@ unfolding new_writing
 write_turns old txn few changes items = record {
   turns = λ v is le. record {
     next = record { last = length old.seen; transaction = new_writing (length old.seen); snapshots = v.snapshots };
-    says = rw (is, below_limit (length old.seen) few) refl;
+    says = rw (is, lt-ltb (length old.seen) commit_limit few) refl;
     transaction = sym (ap (λ (c : Changes). writing (record { number = length c.caller.seen; writes = c.writes; texts = items_of txn })) changes ∙ ap (λ (texts : List Bytes). writing (record { number = length old.seen; writes = []; texts = texts })) items);
     snapshots = refl;
     last = subst (λ (c : Changes). length old.seen ≤ length c.caller.seen) (sym changes) (search (arith));
@@ -78,10 +117,42 @@ write_turns old txn few changes items = record {
   numbered = refl;
 }
 
-pub begun_write : (self : Open) (old : Caller) (txn : WriteTxn Bytes) (n : ℕ) → self ≡ opens.Nothing old → length old.seen < 2 ^ 63 → changes_of txn ≡ begun old → items_of txn ≡ [] → n ≡ length (changes_of txn).caller.seen → TurnsTo command.Write self (opens.Writing txn) (write_at n)
-begun_write self old txn n is few changes items number =
-    subst (λ (s : Open). TurnsTo command.Write s (opens.Writing txn) (write_at n)) (sym is)
-    (subst (λ (k : ℕ). TurnsTo command.Write (opens.Nothing old) (opens.Writing txn) (write_at k)) (sym (number ∙ ap (λ (c : Changes). length c.caller.seen) changes)) (write_turns old txn few changes items))
+pub begun_write : (self : Open) (old : Caller) (txn : WriteTxn Bytes) (n : ℕ) → self ≡ opens.Nothing old → HasSeen old (changes_of txn).caller → HasRead old (changes_of txn).caller (length (changes_of txn).caller.seen) → length (changes_of txn).caller.seen < 2 ^ 63 → changes_of txn ≡ begun (changes_of txn).caller → items_of txn ≡ [] → n ≡ length (changes_of txn).caller.seen
+    → LooksAndTurns command.Write self (opens.Writing txn) (write_at n)
+unfolding looked
+begun_write self old txn n is seen read few changes items number =
+    let new = (changes_of txn).caller in
+    subst (λ (s : Open). LooksAndTurns command.Write s (opens.Writing txn) (write_at n)) (sym is) (record {
+      at = opens.Nothing new;
+      looks = looked old new (length new.seen) seen read;
+      turns = subst (λ (k : ℕ). TurnsTo command.Write (opens.Nothing new) (opens.Writing txn) (write_at k)) (sym number) (write_turns new txn few changes items);
+      loads = λ v is' le. inl (number, tt);
+    })
+
+-- a history that can have no further commit
+spent_turns : (pass : Caller) → length pass.seen ≡ 2 ^ 63 → TurnsTo command.Write (opens.Nothing pass) (opens.Nothing pass) (refused (codes "commits-spent"))
+spent_turns pass spent = record {
+  turns = λ v is le. record {
+    next = v;
+    says = rw (is, ap (λ (n : ℕ). nat_lt n commit_limit) spent) refl;
+    transaction = is;
+    snapshots = refl;
+    last = le;
+  };
+  stands = tt;
+  grows = no_more pass;
+  numbered = refl;
+}
+
+pub spent_write : (self : Open) (old : Caller) (r : BeginRefused) → self ≡ opens.Nothing old → r.cause ≡ begin_errors.CommitsSpent → HasSeen old r.pass → IsRefused old r.pass r.cause → LooksAndTurns command.Write self (opens.Nothing r.pass) (refused (codes "commits-spent"))
+spent_write self old r is cause seen why =
+    let spent : IsRefused old r.pass begin_errors.CommitsSpent = subst (IsRefused old r.pass) cause why in
+    subst (λ (s : Open). LooksAndTurns command.Write s (opens.Nothing r.pass) (refused (codes "commits-spent"))) (sym is) (record {
+      at = opens.Nothing r.pass;
+      looks = looked old r.pass (length r.pass.seen) seen spent.0;
+      turns = spent_turns r.pass spent.1;
+      loads = λ v is' le. tt;
+    })
 
 abort_turns : (pass : Caller) (txn : WriteTxn Bytes) → pass ≡ (changes_of txn).caller → TurnsTo command.Abort (opens.Writing txn) (opens.Nothing pass) aborted
 abort_turns pass txn same = record {
@@ -100,8 +171,8 @@ abort_turns pass txn same = record {
 pub aborted_turns : (self : Open) (pass : Caller) (txn : WriteTxn Bytes) → self ≡ opens.Writing txn → pass ≡ (changes_of txn).caller → TurnsTo command.Abort self (opens.Nothing pass) aborted
 aborted_turns self pass txn is same = subst (λ (s : Open). TurnsTo command.Abort s (opens.Nothing pass) aborted) (sym is) (abort_turns pass txn same)
 
-commit_turns : (txn : WriteTxn Bytes) (c : Committed Bytes) (db : Database) → IsCommitted txn c db → TurnsTo command.Commit (opens.Writing txn) (opens.Nothing c.pass) (committed c.receipt.number (deferred_items c.receipt.items))
-commit_turns txn c db is_committed = record {
+commit_turns : (txn : WriteTxn Bytes) (c : Committed Bytes) → IsCommitted txn c → TurnsTo command.Commit (opens.Writing txn) (opens.Nothing c.pass) (committed c.receipt.number (deferred_items c.receipt.items))
+commit_turns txn c is_committed = record {
   turns = λ v is le. record {
     next = record { last = length (changes_of txn).caller.seen + 1; transaction = closed; snapshots = v.snapshots };
     says = rw (is, is_committed.number, is_committed.items) refl;
@@ -120,8 +191,61 @@ commit_turns txn c db is_committed = record {
     numbers : c.receipt.number ≡ length (changes_of txn).caller.seen + 1 → told c.receipt.number ≡ told (length (changes_of txn).caller.seen + 1)
     numbers e = ap told e
 
-pub committed_turns : (self : Open) (txn : WriteTxn Bytes) (c : Committed Bytes) (db : Database) → self ≡ opens.Writing txn → IsCommitted txn c db → TurnsTo command.Commit self (opens.Nothing c.pass) (committed c.receipt.number (deferred_items c.receipt.items))
-committed_turns self txn c db is is_committed = subst (λ (s : Open). TurnsTo command.Commit s (opens.Nothing c.pass) (committed c.receipt.number (deferred_items c.receipt.items))) (sym is) (commit_turns txn c db is_committed)
+pub committed_turns : (self : Open) (txn : WriteTxn Bytes) (c : Committed Bytes) → self ≡ opens.Writing txn → IsCommitted txn c → TurnsTo command.Commit self (opens.Nothing c.pass) (committed c.receipt.number (deferred_items c.receipt.items))
+committed_turns self txn c is is_committed = subst (λ (s : Open). TurnsTo command.Commit s (opens.Nothing c.pass) (committed c.receipt.number (deferred_items c.receipt.items))) (sym is) (commit_turns txn c is_committed)
 
-pub committed_result : (self : Open) (txn : WriteTxn Bytes) (c : Committed Bytes) (db : Database) (result : Open × Result replies.the_data AllocError) → self ≡ opens.Writing txn → IsCommitted txn c db → result ≡ (opens.Nothing c.pass, Ok (replies.Committed c.receipt)) → IfOk result.1 (λ r. TurnsTo command.Commit self result.0 (reply_of (caller_of self).schema r))
-committed_result self txn c db result is is_committed gives = subst (λ (p : Open × Result replies.the_data AllocError). IfOk p.1 (λ r. TurnsTo command.Commit self p.0 (reply_of (caller_of self).schema r))) (sym gives) (committed_turns self txn c db is is_committed)
+pub committed_result : (self : Open) (txn : WriteTxn Bytes) (c : Committed Bytes) (result : Open × Result replies.the_data AllocError) → self ≡ opens.Writing txn → IsCommitted txn c → result ≡ (opens.Nothing c.pass, Ok (replies.Committed c.receipt)) → IfOk result.1 (λ r. TurnsTo command.Commit self result.0 (reply_of (caller_of self).schema r))
+committed_result self txn c result is is_committed gives = subst (λ (p : Open × Result replies.the_data AllocError). IfOk p.1 (λ r. TurnsTo command.Commit self p.0 (reply_of (caller_of self).schema r))) (sym gives) (committed_turns self txn c is is_committed)
+
+-- ---- a command that looks at no further commits
+
+pub looks_self : (o : Open) → Stands o → Looks o o
+looks_self o stands = record {
+  later = later_self (caller_of o);
+  own = refl;
+  read = [];
+  counts = sym (append-nil (caller_of o).counts);
+  transaction = refl;
+  stands = stands;
+}
+
+-- and breaks a rule
+refused_once : (c : Command) (o : Open) (rule : Bytes) → Stands o → TurnsTo c o o (refused rule) → LooksAndTurns c o o (refused rule)
+refused_once c o rule stands turns = record { at = o; looks = looks_self o stands; turns = turns; loads = λ v same le. tt }
+
+-- a transaction is open, and so none begins
+open_turns : (c : Command) (o : Open) → Stands o → caller_of o ≡ record (caller_of o) { seen = (caller_of o).seen ++ made (caller_of o).number (transaction_of o) (refused (codes "transaction-open")); own = (caller_of o).own ++ made (caller_of o).number (transaction_of o) (refused (codes "transaction-open")) }
+    → IsNumbered (caller_of o) (transaction_of o) (refused (codes "transaction-open"))
+    → ((v : Client) → v.transaction ≡ transaction_of o → outcome v (turn (caller_of o).schema (caller_of o).seen (length (caller_of o).seen) v c) ≡ (refused (codes "transaction-open"), v))
+    → LooksAndTurns c o o (refused (codes "transaction-open"))
+open_turns c o stands grows numbered says = refused_once c o (codes "transaction-open") stands (record {
+  turns = λ v is le. record { next = v; says = says v is; transaction = is; snapshots = refl; last = le };
+  stands = stands;
+  grows = grows;
+  numbered = numbered;
+})
+
+pub read_refused : (o : Open) → Stands o → ((p : Caller) → o ≡ opens.Nothing p → ⊥) → LooksAndTurns command.Read o o (refused (codes "transaction-open"))
+read_refused (opens.Nothing p) stands not = absurd (not p refl)
+read_refused (opens.Reading p txn) stands not = open_turns command.Read (opens.Reading p txn) stands (no_more p) refl (λ v is. rw is refl)
+read_refused (opens.Writing txn) stands not = open_turns command.Read (opens.Writing txn) stands (no_more (changes_of txn).caller) refl (λ v is. rw is refl)
+
+pub write_refused : (o : Open) → Stands o → ((p : Caller) → o ≡ opens.Nothing p → ⊥) → LooksAndTurns command.Write o o (refused (codes "transaction-open"))
+write_refused (opens.Nothing p) stands not = absurd (not p refl)
+write_refused (opens.Reading p txn) stands not = open_turns command.Write (opens.Reading p txn) stands (no_more p) refl (λ v is. rw is refl)
+write_refused (opens.Writing txn) stands not = open_turns command.Write (opens.Writing txn) stands (no_more (changes_of txn).caller) refl (λ v is. rw is refl)
+
+turns_once : (c : Command) (o o' : Open) (r : Reply) → StartsNone c → Stands o → TurnsTo c o o' r → LooksAndTurns c o o' r
+turns_once c o o' r is stands turns = record {
+  at = o;
+  looks = looks_self o stands;
+  turns = turns;
+  loads = λ v same le. let t = turns.turns v same le in starts_none (caller_of o).schema (caller_of o).seen (length (caller_of o).seen) v t.next c r (looks_self o stands).read is t.says;
+}
+
+pub told_once : (c c' : Command) (o o' : Open) (s : DbSchema) (told : Result replies.the_data AllocError) → c' ≡ c → StartsNone c → Stands o → IfOk told (λ r. TurnsTo c o o' (reply_of s r)) → IfOk told (λ r. LooksAndTurns c' o o' (reply_of s r))
+told_once c c' o o' s (Ok r) is starts stands turns = subst (λ (x : Command). LooksAndTurns x o o' (reply_of s r)) (sym is) (turns_once c o o' (reply_of s r) starts stands turns)
+told_once c c' o o' s (Err e) is starts stands turns = tt
+
+pub told_pair : (c c' : Command) (o : Open) (s : DbSchema) (turn : Open × replies.the_data) (result : Open × Result replies.the_data AllocError) → c' ≡ c → StartsNone c → Stands o → result ≡ (turn.0, Ok turn.1) → TurnsTo c o turn.0 (reply_of s turn.1) → IfOk result.1 (λ r. LooksAndTurns c' o result.0 (reply_of s r))
+told_pair c c' o s turn result is starts stands gives turns = subst (λ (p : Open × Result replies.the_data AllocError). IfOk p.1 (λ r. LooksAndTurns c' o p.0 (reply_of s r))) (sym gives) (subst (λ (x : Command). LooksAndTurns x o turn.0 (reply_of s turn.1)) (sym is) (turns_once c o turn.0 (reply_of s turn.1) starts stands turns))

@@ -50,8 +50,8 @@ use Rattle.client_session.specs.declared.open.Open.{Open}
 use Rattle.client_session.specs.declared.open.Open.TheVariants as opens
 use Rattle.client_session.specs.inner.OpenView.{TurnsTo, caller_of, transaction_of, view_at_commit, Stands, IsNumbered, made}
 
-no_more : (p : Caller) → p ≡ record p { seen = p.seen ++ [] }
-no_more p = ap (λ seen. record p { seen = seen }) (sym (append-nil p.seen))
+no_more : (p : Caller) → p ≡ record p { seen = p.seen ++ []; own = p.own ++ [] }
+no_more p = λ i. record p { seen = sym (append-nil p.seen) i; own = sym (append-nil p.own) i }
 
 -- a reply that tells no commit
 pub none_numbered : (p : Caller) (t : Transaction) (r : said.Reply) → number_printed r ≡ [] → made p.number t r ≡ [] → IsNumbered p t r
@@ -77,7 +77,7 @@ accepted c w table reply is_write txn txn' after steps changes items sound makes
     last = subst (λ (t : Changes). v.last ≤ length t.caller.seen) (sym changes) le;
   };
   stands = ap (λ (t : Changes). t.spoiled) changes ∙ sound;
-  grows = ap (λ (t : Changes). t.caller) changes ∙ no_more (changes_of txn).caller ∙ ap (λ (cs : History). record (changes_of txn).caller { seen = (changes_of txn).caller.seen ++ cs }) (sym (makes (changes_of txn).caller.number (transaction_of (opens.Writing txn))));
+  grows = ap (λ (t : Changes). t.caller) changes ∙ no_more (changes_of txn).caller ∙ ap (λ (cs : History). record (changes_of txn).caller { seen = (changes_of txn).caller.seen ++ cs; own = (changes_of txn).caller.own ++ cs }) (sym (makes (changes_of txn).caller.number (transaction_of (opens.Writing txn))));
   numbered = none_numbered (changes_of txn).caller (transaction_of (opens.Writing txn)) (reply after.1) prints (makes (changes_of txn).caller.number (transaction_of (opens.Writing txn)));
 }
 
@@ -394,7 +394,7 @@ kept_turns c old new r caller same stands says makes prints = record {
     last = subst (λ (p : Caller). v.last ≤ length p.seen) (sym caller) le;
   };
   stands = stands;
-  grows = caller ∙ no_more (caller_of old) ∙ ap (λ (cs : History). record (caller_of old) { seen = (caller_of old).seen ++ cs }) (sym (makes (caller_of old).number (transaction_of old)));
+  grows = caller ∙ no_more (caller_of old) ∙ ap (λ (cs : History). record (caller_of old) { seen = (caller_of old).seen ++ cs; own = (caller_of old).own ++ cs }) (sym (makes (caller_of old).number (transaction_of old)));
   numbered = none_numbered (caller_of old) (transaction_of old) r prints (makes (caller_of old).number (transaction_of old));
 }
 

@@ -1,22 +1,57 @@
 -- What a session has done: the text of its answers is that of replies that are a session in the history
--- that its pass has seen, and the commits that they tell are the client's own since it began.
-use Rattle.std.specs.Prelude.{◌≡◌, ◌+◌, ◌++◌, List, length, map}
-use Rattle.std.specs.List.{enumerate_from}
+-- that its pass has seen, the commits that they tell are just those that its pass has made, and the
+-- transactions that they begin stand on counts that its pass has read.
+use Rattle.std.specs.Prelude.{◌≡◌, ◌-◌, ◌<◌, ◌≤◌, ◌++◌, ℕ, List, [], ◌∷◌, Option, Some, length, map, take, slice_get}
+use mathlib.Core.List.{IsPrefix}
 use Rattle.mdb_datum.specs.Bytes.{Bytes}
-use Rattle.mdb_schema.specs.History.{History}
+use Rattle.mdb_schema.specs.History.{Commit, History}
 use Rattle.mem_txn.specs.Database.{Caller}
-use Rattle.client_script.specs.Legal.{callers, printed}
+use Rattle.client_session.specs.Begun.{AreAmong, begun_numbers}
+use Rattle.client_script.specs.Legal.{printed}
 use Rattle.client_script.specs.Reply.{Reply, lines_text}
 use Rattle.client_script.specs.Session.{Session}
 use Rattle.client_script.specs.declared.line.Line.{Line}
 
--- The pass has seen more commits than before. Each is told, with its number and by this client, and the
--- client is told no other.
-pub record HasAnswered (old new : Caller) (script : List Line) (text : Bytes) : Type 0 where
+-- the pass of the same caller of the same database, which has seen, read and tried as much or more
+pub record IsLater (old new : Caller) : Type 0 where
+  pub number : new.number ≡ old.number
+  pub database : new.database ≡ old.database
+  pub schema : new.schema ≡ old.schema
+  pub seen : IsPrefix old.seen new.seen
+  pub counts : IsPrefix old.counts new.counts
+  pub tries : IsPrefix old.tries new.tries
+
+-- the commit of a number, counted from 1
+abbrev pub commit_at : History → ℕ → Option Commit
+commit_at H m = slice_get H (m - 1)
+
+-- each number is greater than the one before it, all are greater than low and at most high
+abbrev pub AreRising : ℕ → List ℕ → ℕ → Type 0
+AreRising low [] high = low ≤ high
+AreRising low (m ∷ ms) high = (low < m) × AreRising m ms high
+
+-- The text is that of replies to these lines, which are a session in the history that the pass has
+-- seen. The numbers that the replies to `read` and `write` print are, in order, some of the counts that
+-- the pass has read since.
+pub record Tells (old new : Caller) (lines : List Line) (text : Bytes) : Type 0 where
   pub replies : List Reply
-  pub session : Session old.schema new.seen old.number script replies
-  pub written : text ≡ lines_text script replies
-  pub more : History
-  pub seen : new ≡ record old { seen = old.seen ++ more }
-  pub numbers : map (λ m. (m, old.number)) (printed replies)
-      ≡ enumerate_from (length old.seen + 1) (callers more)
+  pub session : Session old.schema new.seen old.number lines replies
+  pub written : text ≡ lines_text lines replies
+  pub later : IsLater old new
+  pub read : List ℕ
+  pub counts : new.counts ≡ old.counts ++ read
+  pub loads : AreAmong (begun_numbers replies) read
+
+-- so for some first lines of the script
+pub record HasTold (old new : Caller) (script : List Line) (text : Bytes) : Type 0 where
+  pub count : ℕ
+  pub tells : Tells old new (take count script) text
+
+-- So for all lines. The commits that the pass has made are told, each once and in order, by their
+-- numbers in the list that it has seen, and no others are.
+pub record HasAnswered (old new : Caller) (script : List Line) (text : Bytes) : Type 0 where
+  pub tells : Tells old new script text
+  pub made : List Commit
+  pub own : new.own ≡ old.own ++ made
+  pub told : map (commit_at new.seen) (printed tells.replies) ≡ map Some made
+  pub rising : AreRising (length old.seen) (printed tells.replies) (length new.seen)

@@ -1,3 +1,4 @@
 pub mod Answered
+pub mod Begun
 pub mod Progress
 pub mod inner

@@ -1,13 +1,14 @@
 //! What a session has between two lines, and a line's turn.
-ghost use Rattle.std.specs.Prelude.{◌≡◌, IfOk, false};
+ghost use Rattle.std.specs.Prelude.{◌≡◌, IfOk, false, is_some};
 ghost use Rattle.mem_txn.specs.Database.{IsOf};
+ghost use Rattle.client_session.specs.Answered.{IsLater};
 ghost use Rattle.client_script.specs.Turn.{is_of_watches};
 ghost use Rattle.client_script.specs.declared.command.Command.TheVariants as command;
-ghost use Rattle.client_session.specs.inner.DeskView.{IsRequest, RepliesTo};
-ghost use Rattle.client_session.specs.inner.OpenView.{caller_of, Stands};
+ghost use Rattle.client_session.specs.inner.DeskView.{IsRequest, LooksAndReplies, RepliesTo};
+ghost use Rattle.client_session.specs.inner.OpenView.{caller_of, IsOpen, Stands};
+ghost use Rattle.client_session.specs.inner.KeptView.{seen_in};
 ghost use Rattle.client_session.specs.inner.ReplyOf.{reply_of};
 
-use crate::kept::Kept;
 use crate::open::Open;
 use crate::refusal::{question_rule, refused};
 use crate::reply::Reply;
@@ -16,7 +17,7 @@ use crate::snapshots::Snapshots;
 use client_script::Command;
 use mdb_datum::Text;
 use mdb_schema::{Query, Schema};
-use mem_txn::{Db, Pass, SnapError};
+use mem_txn::{Db, Pass};
 use std::alloc::{AllocError, Global};
 use std::sync::Wait;
 
@@ -33,41 +34,24 @@ impl Desk {
         self,
         rt: &R,
         alloc: Global,
-        db: &mut Db,
+        db: &Db,
         command: &Command,
     ) -> (Desk, Result<Reply, AllocError>)
-        requires own { IsOf db.old (caller_of self.open) }
+        requires own { IsOf db.now (caller_of self.open) }
         requires stands { Stands self.open }
         requires known { is_of_watches command.now ≡ false }
-        ensures turn { IfOk result.1 (λ r. RepliesTo command.now self result.0
+        ensures turn { IfOk result.1 (λ r. LooksAndReplies command.now self result.0
             (reply_of (caller_of self.open).schema r)) }
-        ensures own { IsOf db.new (caller_of result.0.open) }
-        ensures caller { (caller_of result.0.open).number ≡ (caller_of self.open).number }
+        ensures caller { IsLater (caller_of self.open) (caller_of result.0.open) }
     {
-        let Desk { open, snapshots } = self;
         match command {
-            Command::Read => {
-                let (open, told) = open.read(rt, db);
+            Command::Read | Command::Write | Command::End | Command::Commit | Command::Abort => {
+                let Desk { open, snapshots } = self;
+                let (open, told) = open.turn(rt, db, command);
                 (Desk { open, snapshots }, told)
-            }
-            Command::Write => {
-                let (open, told) = open.write(rt, db);
-                (Desk { open, snapshots }, told)
-            }
-            Command::End => {
-                let (open, reply) = open.end();
-                (Desk { open, snapshots }, Ok(reply))
-            }
-            Command::Commit => {
-                let (open, told) = open.commit(rt, db);
-                (Desk { open, snapshots }, told)
-            }
-            Command::Abort => {
-                let (open, reply) = open.abort(db);
-                (Desk { open, snapshots }, Ok(reply))
             }
             command => {
-                let mut desk = Desk { open, snapshots };
+                let mut desk = self;
                 let told = desk.request(alloc, db.schema(), command);
                 (desk, told)
             }
@@ -108,32 +92,30 @@ impl Desk {
             (reply_of (caller_of self.old.open).schema r)) }
         ensures caller { caller_of self.new.open ≡ caller_of self.old.open }
     {
-        match &mut self.open {
+        match &self.open {
             Open::Nothing(_) => Ok(Reply::Refused(Rule::NoTransaction)),
-            Open::Reading(_, txn) => {
+            Open::Reading(_, _) | Open::Writing(_) => {
                 if self.snapshots.has(name) {
-                    return Ok(Reply::Refused(Rule::NameTaken));
-                }
-                let number = txn.number();
-                let kept = Kept::Committed(txn.snapshot()?);
-                self.snapshots.keep(alloc, name, kept)?;
-                Ok(Reply::KeptAt(number))
-            }
-            Open::Writing(txn) => {
-                if self.snapshots.has(name) {
-                    return Ok(Reply::Refused(Rule::NameTaken));
-                }
-                let number = txn.number();
-                match txn.snapshot() {
-                    Ok(snapshot) => {
-                        let kept = Kept::Uncommitted(snapshot);
-                        self.snapshots.keep(alloc, name, kept)?;
-                        Ok(Reply::KeptWithin(number))
-                    }
-                    Err(SnapError::Memory | SnapError::Spoiled) => Err(AllocError),
+                    Ok(Reply::Refused(Rule::NameTaken))
+                } else {
+                    self.keep_new(alloc, name)
                 }
             }
         }
+    }
+
+    /// Keeps the present state of the open transaction under a name that no snapshot has.
+    fn keep_new(&mut self, alloc: Global, name: &Text) -> Result<Reply, AllocError>
+        requires stands { Stands self.old.open }
+        requires opened { IsOpen self.old.open }
+        requires free { is_some (seen_in self.old.snapshots name.now) ≡ false }
+        ensures turn { IfOk result (λ r. RepliesTo (command.Snapshot name.now) self.old self.new
+            (reply_of (caller_of self.old.open).schema r)) }
+        ensures caller { caller_of self.new.open ≡ caller_of self.old.open }
+    {
+        let (kept, reply) = self.open.present()?;
+        self.snapshots.keep(alloc, name, kept)?;
+        Ok(reply)
     }
 
     /// What a question of a snapshot is answered.
@@ -152,10 +134,9 @@ impl Desk {
     }
 
     /// The pass, after what is open was ended or aborted.
-    pub(crate) fn close(self, db: &mut Db) -> Pass
-        requires own { IsOf db.old (caller_of self.open) }
-        ensures pass { result ≡ caller_of self.open }
-        ensures db { db.new ≡ db.old }
+    pub(crate) fn close(self, db: &Db) -> Pass
+        requires own { IsOf db.now (caller_of self.open) }
+        ensures { result ≡ caller_of self.open }
     {
         let Desk { open, snapshots } = self;
         drop(snapshots);

@@ -3,19 +3,21 @@ ghost use Rattle.std.specs.Prelude.{◌≡◌, IfOk, MatchResult, Ok, Err};
 ghost use Rattle.mdb_schema.specs.Answer.{Asked};
 ghost use Rattle.mdb_schema.specs.Refusals.{AnswersAsk};
 ghost use Rattle.mem_txn.specs.Database.{IsOf};
+ghost use Rattle.client_session.specs.Answered.{IsLater};
 ghost use Rattle.client_script.specs.declared.command.Command.TheVariants as command;
 ghost use Rattle.client_session.specs.declared.open.Open.TheVariants as opens;
 ghost use Rattle.client_session.specs.declared.reply.Reply.TheVariants as replies;
-ghost use Rattle.client_session.specs.inner.OpenView.{caller_of, transaction_of, Stands, TurnsTo};
+ghost use Rattle.client_session.specs.inner.OpenView.{caller_of, transaction_of, BeginsOrEnds, LooksAndTurns, Stands, TurnsTo};
 ghost use Rattle.client_session.specs.inner.ReplyOf.{reply_of};
 
 use crate::reply::Reply;
 use crate::rule::Rule;
+use client_script::Command;
 use mdb_datum::{Row, Text};
 use mdb_schema::{Answer, AskError, Query, Schema, WriteError};
 use mem_txn::{
-    BeginError, BeginRefused, Committed, Db, Pass, ReadTxn, TxnAskError, TxnWipeError,
-    TxnWriteError, WriteTxn,
+    BeginError, BeginRefused, CommitRefused, Committed, Db, Pass, ReadTxn, TxnAskError,
+    TxnWipeError, TxnWriteError, WriteTxn,
 };
 use std::alloc::{AllocError, Global};
 use std::sync::Wait;
@@ -29,14 +31,37 @@ pub(crate) enum Open {
 }
 
 impl Open {
-    /// Begins a read transaction.
-    pub(crate) fn read<R: Wait>(self, rt: &R, db: &mut Db) -> (Open, Result<Reply, AllocError>)
-        requires own { IsOf db.old (caller_of self) }
+    /// Carries out a command that begins or ends a transaction.
+    pub(crate) fn turn<R: Wait>(
+        self,
+        rt: &R,
+        db: &Db,
+        command: &Command,
+    ) -> (Open, Result<Reply, AllocError>)
+        requires own { IsOf db.now (caller_of self) }
         requires stands { Stands self }
-        ensures turn { IfOk result.1 (λ r. TurnsTo command.Read self result.0
+        requires bounds { BeginsOrEnds command.now }
+        ensures turn { IfOk result.1 (λ r. LooksAndTurns command.now self result.0
             (reply_of (caller_of self).schema r)) }
-        ensures own { IsOf db.new (caller_of result.0) }
-        ensures caller { (caller_of result.0).number ≡ (caller_of self).number }
+        ensures caller { IsLater (caller_of self) (caller_of result.0) }
+    {
+        match command {
+            Command::Read => self.read(rt, db),
+            Command::Write => self.write(rt, db),
+            Command::End => told(self.end()),
+            Command::Commit => self.commit(rt, db),
+            Command::Abort => told(self.abort(db)),
+            _ => unreachable!(),
+        }
+    }
+
+    /// Begins a read transaction.
+    pub(crate) fn read<R: Wait>(self, rt: &R, db: &Db) -> (Open, Result<Reply, AllocError>)
+        requires own { IsOf db.now (caller_of self) }
+        requires stands { Stands self }
+        ensures turn { IfOk result.1 (λ r. LooksAndTurns command.Read self result.0
+            (reply_of (caller_of self).schema r)) }
+        ensures caller { IsLater (caller_of self) (caller_of result.0) }
     {
         match self {
             Open::Nothing(mut pass) => match db.read(rt, &mut pass) {
@@ -51,13 +76,12 @@ impl Open {
     }
 
     /// Begins a write transaction.
-    pub(crate) fn write<R: Wait>(self, rt: &R, db: &mut Db) -> (Open, Result<Reply, AllocError>)
-        requires own { IsOf db.old (caller_of self) }
+    pub(crate) fn write<R: Wait>(self, rt: &R, db: &Db) -> (Open, Result<Reply, AllocError>)
+        requires own { IsOf db.now (caller_of self) }
         requires stands { Stands self }
-        ensures turn { IfOk result.1 (λ r. TurnsTo command.Write self result.0
+        ensures turn { IfOk result.1 (λ r. LooksAndTurns command.Write self result.0
             (reply_of (caller_of self).schema r)) }
-        ensures own { IsOf db.new (caller_of result.0) }
-        ensures caller { (caller_of result.0).number ≡ (caller_of self).number }
+        ensures caller { IsLater (caller_of self) (caller_of result.0) }
     {
         match self {
             Open::Nothing(pass) => match db.write(rt, pass) {
@@ -97,18 +121,17 @@ impl Open {
     }
 
     /// Commits the write transaction.
-    pub(crate) fn commit<R: Wait>(self, rt: &R, db: &mut Db) -> (Open, Result<Reply, AllocError>)
-        requires own { IsOf db.old (caller_of self) }
+    pub(crate) fn commit<R: Wait>(self, rt: &R, db: &Db) -> (Open, Result<Reply, AllocError>)
+        requires own { IsOf db.now (caller_of self) }
         requires stands { Stands self }
         ensures turn { IfOk result.1 (λ r. TurnsTo command.Commit self result.0
             (reply_of (caller_of self).schema r)) }
-        ensures own { IsOf db.new (caller_of result.0) }
-        ensures caller { (caller_of result.0).number ≡ (caller_of self).number }
+        ensures caller { IsLater (caller_of self) (caller_of result.0) }
     {
         match self {
             Open::Writing(txn) => match txn.commit(rt, db) {
                 Ok(committed) => committed_turn(committed),
-                Err(refused) => (Open::Nothing(refused.pass), Err(AllocError)),
+                Err(CommitRefused { pass, cause: _ }) => (Open::Nothing(pass), Err(AllocError)),
             },
             Open::Reading(pass, txn) => (
                 Open::Reading(pass, txn),
@@ -119,13 +142,12 @@ impl Open {
     }
 
     /// Aborts the write transaction.
-    pub(crate) fn abort(self, db: &mut Db) -> (Open, Reply)
-        requires own { IsOf db.old (caller_of self) }
+    pub(crate) fn abort(self, db: &Db) -> (Open, Reply)
+        requires own { IsOf db.now (caller_of self) }
         requires stands { Stands self }
         ensures turn { TurnsTo command.Abort self result.0
             (reply_of (caller_of self).schema result.1) }
         ensures caller { caller_of result.0 ≡ caller_of self }
-        ensures db { db.new ≡ db.old }
     {
         match self {
             Open::Writing(txn) => (Open::Nothing(txn.abort(db)), Reply::Aborted),
@@ -135,10 +157,9 @@ impl Open {
     }
 
     /// The pass, after what is open was ended or aborted.
-    pub(crate) fn close(self, db: &mut Db) -> Pass
-        requires own { IsOf db.old (caller_of self) }
-        ensures pass { result ≡ caller_of self }
-        ensures db { db.new ≡ db.old }
+    pub(crate) fn close(self, db: &Db) -> Pass
+        requires own { IsOf db.now (caller_of self) }
+        ensures { result ≡ caller_of self }
     {
         match self {
             Open::Nothing(pass) => pass,
@@ -146,6 +167,14 @@ impl Open {
             Open::Writing(txn) => txn.abort(db),
         }
     }
+}
+
+/// What is open, and a reply that needs no memory.
+fn told(turn: (Open, Reply)) -> (Open, Result<Reply, AllocError>)
+    ensures { result ≡ (turn.0, Ok turn.1) }
+{
+    let (open, reply) = turn;
+    (open, Ok(reply))
 }
 
 /// What is open after a commit, and the reply.

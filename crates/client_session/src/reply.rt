@@ -1,16 +1,17 @@
 //! The answers to the lines of a script.
-ghost use Rattle.std.specs.Prelude.{◌≡◌, ◌++◌, OnOk, length, decimal, codes};
+ghost use Rattle.std.specs.Prelude.{◌≡◌, ◌++◌, OnErr, OnOk, length, decimal, codes};
 ghost use Rattle.mdb_datum.specs.Written.{row_text};
 ghost use Rattle.mem_txn.specs.Transactions.{deferred_items};
 ghost use Rattle.client_script.specs.Reply.{answer_text, did_lines, line_text, reply_text, row_lines};
-ghost use Rattle.client_session.specs.inner.ReplyOf.{reply_of};
+ghost use Rattle.mdb_schema.specs.Schema.{DbSchema};
+ghost use Rattle.client_session.specs.inner.ReplyOf.{reply_of, IsNumbered, IsWord};
 ghost use Rattle.client_session.specs.inner.RuleName.{rule_name};
 
 use crate::rule::Rule;
 use mdb_datum::{Row, Text};
 use mdb_schema::{Answer, Rows, Schema};
 use mem_txn::{DeferredList, Receipt};
-use std::alloc::AllocError;
+use std::alloc::{AllocError, Global};
 
 /// The answer to one line.
 #[derive(Drop)]
@@ -39,15 +40,27 @@ pub(crate) enum Reply {
 }
 
 impl Reply {
-    /// Adds `LINE: ANSWER` and a line feed.
-    pub(crate) fn write(
-        self,
+    /// Adds `LINE: ANSWER` and a line feed. After `AllocError` the text is as before.
+    pub(crate) fn add(
+        &self,
+        alloc: Global,
         line: u32,
         schema: &Schema,
-        out: &mut Vec<u8>,
+        text: &mut Vec<u8>,
     ) -> Result<(), AllocError>
+        ensures ok { OnOk result
+            (text.new.items ≡ text.old.items ++ line_text line (reply_of schema.now self.now)) }
+        ensures err { OnErr result (text.new.items ≡ text.old.items) }
+    {
+        let mut whole = Vec::new(alloc);
+        self.write(line, schema, &mut whole)?;
+        text.extend_from_slice(&whole)
+    }
+
+    /// Writes `LINE: ANSWER` and a line feed.
+    fn write(&self, line: u32, schema: &Schema, out: &mut Vec<u8>) -> Result<(), AllocError>
         ensures { OnOk result
-            (out.new.items ≡ out.old.items ++ line_text line (reply_of schema.now self)) }
+            (out.new.items ≡ out.old.items ++ line_text line (reply_of schema.now self.now)) }
     {
         write_number(u64::from(line), out)?;
         out.extend_from_slice(b": ")?;
@@ -57,25 +70,57 @@ impl Reply {
     }
 
     /// Adds the answer alone.
-    fn write_answer(self, schema: &Schema, out: &mut Vec<u8>) -> Result<(), AllocError>
+    fn write_answer(&self, schema: &Schema, out: &mut Vec<u8>) -> Result<(), AllocError>
         ensures { OnOk result
-            (out.new.items ≡ out.old.items ++ reply_text (reply_of schema.now self)) }
+            (out.new.items ≡ out.old.items ++ reply_text (reply_of schema.now self.now)) }
     {
         match self {
-            Reply::ReadAt(number) => write_at(b"read @", number, out),
-            Reply::WriteAt(number) => write_at(b"write @", number, out),
-            Reply::Ended => out.extend_from_slice(b"ended"),
+            Reply::ReadAt(_)
+            | Reply::WriteAt(_)
+            | Reply::Wiped(_)
+            | Reply::KeptAt(_)
+            | Reply::KeptWithin(_) => self.write_numbered(out),
             Reply::Committed(receipt) => write_commit(receipt, out),
-            Reply::Aborted => out.extend_from_slice(b"aborted"),
-            Reply::Inserted => out.extend_from_slice(b"inserted"),
-            Reply::Replaced => out.extend_from_slice(b"replaced"),
-            Reply::Deleted => out.extend_from_slice(b"deleted"),
-            Reply::Wiped(count) => write_at(b"deleted ", count, out),
-            Reply::Deferred => out.extend_from_slice(b"deferred"),
-            Reply::Answered(answer) => write_rows(&answer, out),
-            Reply::KeptAt(number) => write_at(b"snapshot @", number, out),
-            Reply::KeptWithin(number) => write_within(number, out),
-            Reply::Refused(rule) => write_refused(rule, schema, out),
+            Reply::Answered(answer) => write_rows(answer, out),
+            Reply::Refused(rule) => write_refused(*rule, schema, out),
+            Reply::Ended
+            | Reply::Aborted
+            | Reply::Inserted
+            | Reply::Replaced
+            | Reply::Deleted
+            | Reply::Deferred => out.extend_from_slice(self.word()),
+        }
+    }
+
+    /// The answer that is a word alone.
+    fn word(&self) -> &'static [u8]
+        requires { IsWord self.now }
+        ensures { (schema : DbSchema) → result.now ≡ reply_text (reply_of schema self.now) }
+    {
+        match self {
+            Reply::Ended => b"ended",
+            Reply::Aborted => b"aborted",
+            Reply::Inserted => b"inserted",
+            Reply::Replaced => b"replaced",
+            Reply::Deleted => b"deleted",
+            Reply::Deferred => b"deferred",
+            _ => unreachable!(),
+        }
+    }
+
+    /// Adds the answer that is words and a number.
+    fn write_numbered(&self, out: &mut Vec<u8>) -> Result<(), AllocError>
+        requires { IsNumbered self.now }
+        ensures { OnOk result ((schema : DbSchema) →
+            out.new.items ≡ out.old.items ++ reply_text (reply_of schema self.now)) }
+    {
+        match self {
+            Reply::ReadAt(number) => write_at(b"read @", *number, out),
+            Reply::WriteAt(number) => write_at(b"write @", *number, out),
+            Reply::Wiped(count) => write_at(b"deleted ", *count, out),
+            Reply::KeptAt(number) => write_at(b"snapshot @", *number, out),
+            Reply::KeptWithin(number) => write_within(*number, out),
+            _ => unreachable!(),
         }
     }
 }
@@ -115,13 +160,12 @@ fn write_refused(rule: Rule, schema: &Schema, out: &mut Vec<u8>) -> Result<(), A
 }
 
 /// Adds a commit's number, and a line for each deferred text.
-fn write_commit(receipt: Receipt<Text>, out: &mut Vec<u8>) -> Result<(), AllocError>
+fn write_commit(receipt: &Receipt<Text>, out: &mut Vec<u8>) -> Result<(), AllocError>
     ensures { OnOk result (out.new.items ≡ out.old.items ++ (codes "commit @"
-        ++ (decimal receipt.number ++ did_lines (deferred_items receipt.items)))) }
+        ++ (decimal receipt.now.number ++ did_lines (deferred_items receipt.now.items)))) }
 {
-    let Receipt { number, items } = receipt;
-    write_at(b"commit @", number, out)?;
-    write_deferred(&items, out)
+    write_at(b"commit @", receipt.number, out)?;
+    write_deferred(&receipt.items, out)
 }
 
 /// Adds a line for each deferred text.

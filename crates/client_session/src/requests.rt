@@ -1,15 +1,19 @@
 //! The requests to the open transaction that leave it open.
 ghost use Rattle.std.specs.Prelude.{◌≡◌, IfOk};
 ghost use Rattle.client_script.specs.declared.command.Command.TheVariants as command;
-ghost use Rattle.client_session.specs.inner.OpenView.{caller_of, Stands, TurnsTo};
+ghost use Rattle.client_session.specs.inner.DeskView.{Presents};
+ghost use Rattle.client_session.specs.inner.KeptView.{kept_view};
+ghost use Rattle.client_session.specs.inner.OpenView.{caller_of, transaction_of, IsOpen, Stands, TurnsTo};
 ghost use Rattle.client_session.specs.inner.ReplyOf.{reply_of};
 
+use crate::kept::Kept;
 use crate::open::Open;
 use crate::refusal::{question_rule, refused, txn_question_rule, wipe_rule, write_rule};
 use crate::reply::Reply;
 use crate::rule::Rule;
 use mdb_datum::{Row, Text};
 use mdb_schema::{Query, Schema};
+use mem_txn::SnapError;
 use std::alloc::{AllocError, Global};
 
 impl Open {
@@ -30,6 +34,32 @@ impl Open {
                 Ok(answer) => Ok(Reply::Answered(answer)),
                 Err(error) => refused(txn_question_rule(error)),
             },
+        }
+    }
+
+    /// The present state of the open transaction, and the reply to a line that keeps it.
+    pub(crate) fn present(&mut self) -> Result<(Kept, Reply), AllocError>
+        requires stands { Stands self.old }
+        requires opened { IsOpen self.old }
+        ensures present { IfOk result (λ p. Presents self.old (kept_view p.0)
+            (reply_of (caller_of self.old).schema p.1)) }
+        ensures caller { caller_of self.new ≡ caller_of self.old }
+        ensures transaction { transaction_of self.new ≡ transaction_of self.old }
+        ensures stands { Stands self.new }
+    {
+        match self {
+            Open::Nothing(_) => unreachable!(),
+            Open::Reading(_, txn) => {
+                let number = txn.number();
+                Ok((Kept::Committed(txn.snapshot()?), Reply::KeptAt(number)))
+            }
+            Open::Writing(txn) => {
+                let number = txn.number();
+                match txn.snapshot() {
+                    Ok(snapshot) => Ok((Kept::Uncommitted(snapshot), Reply::KeptWithin(number))),
+                    Err(SnapError::Memory | SnapError::Spoiled) => Err(AllocError),
+                }
+            }
         }
     }
 

@@ -1,9 +1,10 @@
 //! A script carried out line by line.
-ghost use Rattle.std.specs.Prelude.{◌≡◌, ◌++◌, OnOk, false};
+ghost use Rattle.std.specs.Prelude.{◌≡◌, ◌++◌, OnErr, OnOk, false};
 ghost use Rattle.mem_txn.specs.Database.{IsOf};
-ghost use Rattle.client_script.proofs.AloneIsLegal.{AreKnown};
+ghost use Rattle.client_session.specs.Answered.{IsLater};
+ghost use Rattle.client_script.specs.Session.{AreKnown};
 ghost use Rattle.client_script.specs.Turn.{is_of_watches};
-ghost use Rattle.client_session.specs.inner.Carried.{AnswersLine, CarriesOut};
+ghost use Rattle.client_session.specs.inner.Carried.{AddsSome, AnswersLine, Carried, CarriesOut};
 ghost use Rattle.client_session.specs.inner.OpenView.{caller_of, Stands};
 
 use crate::desk::Desk;
@@ -16,21 +17,41 @@ use std::alloc::{AllocError, Global};
 use std::sync::Wait;
 
 /// Carries out a script, and adds its answers to a text. What it leaves open is aborted. After
-/// `AllocError` the text has some of the answers.
+/// `AllocError` the text has the answers to some first lines.
 pub(crate) fn carry_out<R: Wait, G: Gate>(
     rt: &R,
     alloc: Global,
-    db: &mut Db,
+    db: &Db,
     gate: &G,
     script: &Script,
     pass: Pass,
     text: &mut Vec<u8>,
 ) -> (Pass, Result<(), AllocError>)
-    requires own { IsOf db.old pass }
+    requires own { IsOf db.now pass }
     requires known { AreKnown script.now }
+    ensures told { AddsSome pass result.0 script.now text.old.items text.new.items }
     ensures answered { OnOk result.1 (CarriesOut pass result.0 script.now text.old.items text.new.items) }
-    ensures own { IsOf db.new result.0 }
-    ensures caller { result.0.number ≡ pass.number }
+    ensures caller { IsLater pass result.0 }
+{
+    let (desk, told) = answer_lines(rt, alloc, db, gate, script, pass, text);
+    (desk.close(db), told)
+}
+
+/// Carries out each line, and adds its answer, till one finds no memory. It gives what is there then.
+fn answer_lines<R: Wait, G: Gate>(
+    rt: &R,
+    alloc: Global,
+    db: &Db,
+    gate: &G,
+    script: &Script,
+    pass: Pass,
+    text: &mut Vec<u8>,
+) -> (Desk, Result<(), AllocError>)
+    requires own { IsOf db.now pass }
+    requires known { AreKnown script.now }
+    ensures told { AddsSome pass (caller_of result.0.open) script.now text.old.items text.new.items }
+    ensures answered { OnOk result.1 (Carried pass script.now result.0 text.old.items text.new.items) }
+    ensures caller { IsLater pass (caller_of result.0.open) }
 {
     let client = pass.number();
     let mut desk = Desk {
@@ -44,34 +65,34 @@ pub(crate) fn carry_out<R: Wait, G: Gate>(
         let (next, told) = answer_line(rt, alloc, db, gate, client, line, desk, text);
         desk = next;
         if told.is_err() {
-            return (desk.close(db), told);
+            return (desk, told);
         }
     }
-    (desk.close(db), Ok(()))
+    (desk, Ok(()))
 }
 
-/// Carries out a line, and adds its answer.
+/// Carries out a line, and adds its answer. After `AllocError` the text is as before.
 fn answer_line<R: Wait, G: Gate>(
     rt: &R,
     alloc: Global,
-    db: &mut Db,
+    db: &Db,
     gate: &G,
     client: u32,
     line: &Line,
     desk: Desk,
     text: &mut Vec<u8>,
 ) -> (Desk, Result<(), AllocError>)
-    requires own { IsOf db.old (caller_of desk.open) }
+    requires own { IsOf db.now (caller_of desk.open) }
     requires stands { Stands desk.open }
     requires known { is_of_watches line.now.command ≡ false }
     ensures answered { OnOk result.1 (AnswersLine line.now desk result.0 text.old.items text.new.items) }
-    ensures own { IsOf db.new (caller_of result.0.open) }
-    ensures caller { (caller_of result.0.open).number ≡ (caller_of desk.open).number }
+    ensures kept { OnErr result.1 (text.new.items ≡ text.old.items) }
+    ensures caller { IsLater (caller_of desk.open) (caller_of result.0.open) }
 {
     gate.before(client, line.number);
     let (desk, told) = desk.turn(rt, alloc, db, &line.command);
     let kept = match told {
-        Ok(reply) => reply.write(line.number, db.schema(), text),
+        Ok(reply) => reply.add(alloc, line.number, db.schema(), text),
         Err(error) => Err(error),
     };
     if kept.is_ok() {

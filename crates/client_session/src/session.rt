@@ -1,7 +1,7 @@
 //! A client's session.
 ghost use Rattle.std.specs.Prelude.{◌≡◌, OnOk, [], false, true, is_err};
-ghost use Rattle.client_script.proofs.AloneIsLegal.{AreKnown};
-ghost use Rattle.client_session.specs.Answered.{HasAnswered};
+ghost use Rattle.client_script.specs.Session.{AreKnown};
+ghost use Rattle.client_session.specs.Answered.{HasAnswered, HasTold, IsLater};
 ghost use Rattle.mem_txn.specs.Database.{IsOf};
 
 use crate::run::carry_out;
@@ -12,8 +12,8 @@ use std::alloc::{AllocError, Global};
 use std::marker::Model;
 use std::sync::Wait;
 
-/// A client's script, its pass, and the text of its answers; seen as a `Progress`.
-#[derive(Drop)]
+/// A client's script, its pass, and the text of its answers; seen as a `Progress`. It can't be dropped:
+/// [`Session::end`] gives the pass back.
 pub struct Session {
     client: u32,
     script: Script,
@@ -69,32 +69,55 @@ impl Session {
     }
 
     /// Carries out every line of the script, and keeps the answers. A transaction that the script
-    /// leaves open is aborted. After `AllocError` an open transaction was aborted, and each later call
-    /// answers it again. A script that was carried out isn't carried out again.
-    pub fn run<R: Wait, G: Gate>(&mut self, rt: &R, db: &mut Db, gate: &G) -> Result<(), AllocError>
-        requires own { IsOf db.old self.old.caller }
+    /// leaves open is aborted. After `AllocError` an open transaction was aborted, the answers kept are
+    /// those to some first lines, and each later call answers it again. A script that was carried out
+    /// isn't carried out again.
+    pub fn run<R: Wait, G: Gate>(&mut self, rt: &R, db: &Db, gate: &G) -> Result<(), AllocError>
+        requires own { IsOf db.now self.old.caller }
         requires known { AreKnown self.old.script }
+        ensures told { self.old.done ≡ false
+            → HasTold self.old.caller self.new.caller self.old.script self.new.text }
         ensures answered { self.old.done ≡ false → OnOk result
             (HasAnswered self.old.caller self.new.caller self.old.script self.new.text) }
         ensures again { self.old.done ≡ true
-            → (is_err result ≡ self.old.failed) × (self.new ≡ self.old) × (db.new ≡ db.old) }
+            → (is_err result ≡ self.old.failed) × (self.new ≡ self.old) }
         ensures state { self.new ≡ record self.old {
           caller = self.new.caller;
           text = self.new.text;
           done = true;
           failed = is_err result;
         } }
-        ensures own { IsOf db.new self.new.caller }
+        ensures caller { IsLater self.old.caller self.new.caller }
     {
         if self.done {
             return if self.failed { Err(AllocError) } else { Ok(()) };
         }
+        self.carry_out(rt, db, gate)
+    }
+
+    /// Carries out a script that wasn't carried out before.
+    fn carry_out<R: Wait, G: Gate>(&mut self, rt: &R, db: &Db, gate: &G) -> Result<(), AllocError>
+        requires own { IsOf db.now self.old.caller }
+        requires known { AreKnown self.old.script }
+        requires new { self.old.done ≡ false }
+        ensures told { HasTold self.old.caller self.new.caller self.old.script self.new.text }
+        ensures answered { OnOk result
+            (HasAnswered self.old.caller self.new.caller self.old.script self.new.text) }
+        ensures state { self.new ≡ record self.old {
+          caller = self.new.caller;
+          text = self.new.text;
+          done = true;
+          failed = is_err result;
+        } }
+        ensures caller { IsLater self.old.caller self.new.caller }
+    {
         let Some(pass) = self.pass.take() else {
             unreachable!();
         };
         let alloc = *self.text.allocator();
         let (pass, told) = carry_out(rt, alloc, db, gate, &self.script, pass, &mut self.text);
-        self.pass = Some(pass);
+        let gone = self.pass.replace(pass);
+        let None = gone else { unreachable!() };
         self.done = true;
         self.failed = told.is_err();
         told
@@ -107,8 +130,9 @@ impl Session {
         self.text.as_slice()
     }
 
-    /// The pass. It takes no memory.
-    pub fn end(self) -> Pass
+    /// The pass, after what is open was aborted. It takes no memory.
+    pub fn end(self, _db: &Db) -> Pass
+        requires own { IsOf _db.now self.caller }
         ensures { result ≡ self.caller }
     {
         let Session {

@@ -1,8 +1,8 @@
 //! Whole sessions: scripts with the text of their answers, worked from the format of both.
 ghost use Rattle.std.specs.Prelude.{◌≡◌, ◌∷◌, [], IfOk, IsTrue};
-ghost use Rattle.client_script.proofs.AloneIsLegal.{AreKnown};
+ghost use Rattle.client_script.specs.Session.{AreKnown};
 ghost use Rattle.client_script.specs.Turn.{is_of_watches};
-ghost use Rattle.mem_txn.specs.Database.{IsOf, new_callers, new_database};
+ghost use Rattle.mem_txn.specs.Database.{IsOf, new_callers};
 
 use crate::Session;
 use client_script::{Command, Script, read_script};
@@ -13,6 +13,7 @@ use std::alloc::Global;
 use std::sync::Wait;
 use std::test::Fail;
 
+mod callers;
 mod catalogue;
 mod users;
 
@@ -74,23 +75,9 @@ fn script_of(alloc: Global, text: &str) -> Result<Script, Fail>
 
 /// A new database with the schema that a text reads as, and the pass of its one caller.
 fn new_db(alloc: Global, schema: &str) -> Result<(Db, Passes), Fail>
-    ensures db { IfOk result (λ made. made.0 ≡ new_database made.0.schema) }
-    ensures passes { IfOk result (λ made. made.1 ≡ new_callers made.0.schema 1) }
+    ensures { IfOk result (λ made. made.1 ≡ new_callers made.0 1) }
 {
     Ok(Db::create(alloc, schema_of(alloc, schema)?, 1)?)
-}
-
-/// A session of the first pass, with the script that a text reads as.
-fn session_of(alloc: Global, passes: &mut Passes, script: &str) -> Result<Session, Fail>
-    ensures known { IfOk result (λ s. AreKnown s.script) }
-    ensures pass { IfOk result
-        (λ s. passes.old ≡ record passes.new { passes = s.caller ∷ passes.new.passes }) }
-{
-    let script = script_of(alloc, script)?;
-    match passes.take() {
-        Some(pass) => Ok(Session::new(alloc, pass.number(), script, pass)),
-        None => Err(Fail::from("no pass")),
-    }
 }
 
 /// A new database, and a session of its one caller.
@@ -99,18 +86,22 @@ fn opened(alloc: Global, schema: &str, script: &str) -> Result<(Db, Passes, Sess
     ensures one { IfOk result (λ made. made.1 ≡ record { passes = []; made = 1 }) }
     ensures known { IfOk result (λ made. AreKnown made.2.script) }
 {
+    let script = script_of(alloc, script)?;
     let (db, mut passes) = new_db(alloc, schema)?;
-    match session_of(alloc, &mut passes, script) {
-        Ok(session) => Ok((db, passes, session)),
-        Err(fail) => Err(fail),
+    match passes.take() {
+        Some(pass) => {
+            let session = Session::new(alloc, pass.number(), script, pass);
+            Ok((db, passes, session))
+        }
+        None => unreachable!(),
     }
 }
 
 /// Runs a session, and tells whether the text of its answers is this. It fails for want of memory.
-fn tells<R: Wait>(rt: &R, db: &mut Db, session: &mut Session, answers: &str) -> Result<bool, Fail>
-    requires own { IsOf db.old session.old.caller }
+fn tells<R: Wait>(rt: &R, db: &Db, session: &mut Session, answers: &str) -> Result<bool, Fail>
+    requires own { IsOf db.now session.old.caller }
     requires known { AreKnown session.old.script }
-    ensures own { IsOf db.new session.new.caller }
+    ensures own { IsOf db.now session.new.caller }
     ensures script { session.new.script ≡ session.old.script }
 {
     session.run(rt, db, &OpenGate)?;
@@ -121,10 +112,9 @@ fn tells<R: Wait>(rt: &R, db: &mut Db, session: &mut Session, answers: &str) -> 
 fn close<R: Wait>(rt: &R, db: Db, passes: Passes, session: Session) -> u64
     requires own { IsOf db session.caller }
     requires one { passes ≡ record { passes = []; made = 1 } }
-    ensures { result ≡ db.number }
 {
     let mut passes = passes;
-    passes.give(session.end());
+    passes.give(session.end(&db));
     db.close(rt, passes).number()
 }
 
@@ -137,8 +127,8 @@ fn is_answered<R: Wait>(
     script: &str,
     answers: &str,
 ) -> Result<bool, Fail> {
-    let (mut db, passes, mut session) = opened(alloc, schema, script)?;
-    let told = tells(rt, &mut db, &mut session, answers);
+    let (db, passes, mut session) = opened(alloc, schema, script)?;
+    let told = tells(rt, &db, &mut session, answers);
     close(rt, db, passes, session);
     told
 }

@@ -1,4 +1,6 @@
 //! The token of one caller.
+ghost use Rattle.std.specs.Prelude.{◌≡◌};
+
 use crate::board::Place;
 use std::marker::Model;
 
@@ -25,4 +27,13 @@ impl<V: Drop> Model for Pass<V> {
 
     ghost invariant = { λ p. IsFree p.place p.number × (p.place.me.0.more ≡ [])
         × (p.last + 1 ≡ length p.place.me.0.seen) };
+}
+
+impl<V: Drop> Pass<V> {
+    /// The caller's number, counted from 1.
+    pub fn number(&self) -> u64
+        ensures { result ≡ self.now.number }
+    {
+        self.number
+    }
 }

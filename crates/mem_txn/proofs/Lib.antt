@@ -1,7 +1,10 @@
+pub mod BegunAnswers
 pub mod BegunTables
 pub mod Gathered
-pub mod OwnViews
+pub mod OneHistory
+pub mod StatesAfter
 pub mod StepsMade
 pub mod TablesFound
+pub mod Threads
 pub mod WipesAnswered
 pub mod WritesAnswered

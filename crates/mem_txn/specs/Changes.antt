@@ -4,7 +4,7 @@ use Rattle.std.specs.Prelude.{Option, is_some, Some, Result, Ok, Err, MatchOptio
 use Rattle.mdb_datum.specs.Row.{Fields}
 use Rattle.mdb_encode.specs.Bytes.{Bytes}
 use Rattle.mdb_schema.specs.Answer.{Asked}
-use Rattle.mdb_schema.specs.History.{after_writes}
+use Rattle.mdb_schema.specs.History.{Commit, after_writes}
 use Rattle.mdb_schema.specs.Refusals.{AnswersAsk, ask_error, write_error}
 use Rattle.mdb_schema.specs.State.{State, Table, table_at}
 use Rattle.mdb_schema.specs.Write.{Write, put, remove, Stepped, step}
@@ -43,10 +43,15 @@ present_view t = view_at (length t.caller.seen) t
 abbrev pub with_writes : Changes → List Write → Changes
 with_writes t ws = record t { writes = t.writes ++ ws }
 
--- the caller that has seen its own commit too
+-- the commit of its writes
+abbrev pub commit_of : Changes → Commit
+commit_of t = record { caller = t.caller.number; writes = t.writes }
+
+-- the caller that has made the commit
 abbrev pub after_commit : Changes → Caller
 after_commit t = record t.caller {
-  seen = t.caller.seen ++ record { caller = t.caller.number; writes = t.writes } ∷ [];
+  seen = t.caller.seen ++ commit_of t ∷ [];
+  own = t.caller.own ++ commit_of t ∷ [];
 }
 
 -- the table of this name, as the transaction sees it

@@ -1,14 +1,27 @@
 -- A database and its callers, as contracts see them.
-use Rattle.std.specs.Prelude.{◌≡◌, ◌==◌, ◌+◌, ◌++◌, ℕ, zero, suc, List, [], ◌∷◌, filter, length}
+use Rattle.std.specs.Prelude.{◌≡◌, ◌==◌, ◌+◌, ◌++◌, ◌<◌, ◌≤◌, ◌^◌, ℕ, zero, suc, List, [], ◌∷◌, filter, length}
+use mathlib.Core.List.{IsPrefix}
+use Rattle.atomic_table.specs.Seated.{TableId}
 use Rattle.mdb_schema.specs.History.{Commit, History, state_at}
 use Rattle.mdb_schema.specs.Schema.{DbSchema}
-use Rattle.mdb_schema.specs.State.{State, empty_state}
+use Rattle.mdb_schema.specs.State.{State}
 
--- a caller's pass: its number, the schema of its database, and the commits that it has seen
+-- a database: which one it is, how many callers it has, and its schema
+pub record Database : Type 0 where
+  pub database : TableId
+  pub callers : ℕ
+  pub schema : DbSchema
+
+-- A caller's pass: its number, its database with the schema, the commits that it has seen, its own
+-- ones, the counts of commits that it has read, and what its tries for the writer's turn found.
 pub record Caller : Type 0 where
   pub number : ℕ
+  pub database : TableId
   pub schema : DbSchema
   pub seen : History
+  pub own : List Commit
+  pub counts : List ℕ
+  pub tries : List ℕ
 
 -- the commits that are a caller's own
 abbrev pub commits_by : ℕ → History → List Commit
@@ -18,17 +31,13 @@ commits_by number H = filter (λ (c : Commit). c.caller == number) H
 abbrev pub state_seen : Caller → State
 state_seen p = state_at p.schema p.seen (length p.seen)
 
--- a database: its schema, the number of its commits and the state after them
-pub record Database : Type 0 where
-  pub schema : DbSchema
-  pub number : ℕ
-  pub state : State
+-- the pass belongs to the database
+abbrev pub IsOf : Database → Caller → Type 0
+IsOf db p = (p.database ≡ db.database) × (p.schema ≡ db.schema)
 
--- a pass is the database's own: the database stands after the commits that the caller has seen
-pub record IsOf (db : Database) (p : Caller) : Type 0 where
-  pub schema : p.schema ≡ db.schema
-  pub number : db.number ≡ length p.seen
-  pub state : db.state ≡ state_seen p
+abbrev pub AreOf : Database → List Caller → Type 0
+AreOf db [] = Unit {0}
+AreOf db (p ∷ ps) = IsOf db p × AreOf db ps
 
 -- a state to be asked, and the number of the commit on which it stands
 pub record View : Type 0 where
@@ -36,25 +45,68 @@ pub record View : Type 0 where
   pub number : ℕ
   pub state : State
 
+-- the state after these commits, to be asked
+abbrev pub view_after : DbSchema → History → View
+view_after schema H =
+    record { schema = schema; number = length H; state = state_at schema H (length H) }
+
 -- the state after the commits that a caller has seen, to be asked
 abbrev pub view_seen : Caller → View
-view_seen p = record { schema = p.schema; number = length p.seen; state = state_seen p }
+view_seen p = view_after p.schema p.seen
 
 -- the passes that nobody has taken, and how many the database was made with
 pub record Callers : Type 0 where
   pub passes : List Caller
   pub made : ℕ
 
--- so many passes of a database without commits, numbered from 1
-abbrev pub new_passes : DbSchema → ℕ → List Caller
-new_passes schema zero = []
-new_passes schema (suc count) =
-    new_passes schema count ++ record { number = count + 1; schema = schema; seen = [] } ∷ []
+-- a pass that has done nothing
+abbrev pub new_pass : Database → ℕ → Caller
+new_pass db number = record {
+  number = number;
+  database = db.database;
+  schema = db.schema;
+  seen = [];
+  own = [];
+  counts = [];
+  tries = [];
+}
 
--- a database without commits
-abbrev pub new_database : DbSchema → Database
-new_database schema = record { schema = schema; number = 0; state = empty_state schema }
+-- so many of them, numbered from 1
+abbrev pub new_passes : Database → ℕ → List Caller
+new_passes db zero = []
+new_passes db (suc count) = new_passes db count ++ new_pass db (suc count) ∷ []
 
--- and its passes
-abbrev pub new_callers : DbSchema → ℕ → Callers
-new_callers schema count = record { passes = new_passes schema count; made = count }
+-- the passes of a new database of so many callers
+abbrev pub new_callers : Database → ℕ → Callers
+new_callers db count = record { passes = new_passes db count; made = count }
+
+-- ---- what a call does to a pass
+
+-- the pass has seen as much or more, and may have read counts and made tries; all else is as before
+pub record HasSeen (old new : Caller) : Type 0 where
+  pub seen : IsPrefix old.seen new.seen
+  pub counts : IsPrefix old.counts new.counts
+  pub tries : IsPrefix old.tries new.tries
+  pub others : new ≡ record old { seen = new.seen; counts = new.counts; tries = new.tries }
+
+-- the number of the commits that the pass now has seen is a count that it read in this call, its last
+abbrev pub HasRead : Caller → Caller → ℕ → Type 0
+HasRead old new number = (number ≡ length new.seen) × (new.counts ≡ old.counts ++ number ∷ [])
+
+-- ---- the end of a database
+
+-- each commit is made by one of the callers 1 to n
+abbrev pub AreNamed : ℕ → History → Type 0
+AreNamed n [] = Unit {0}
+AreNamed n (c ∷ cs) = (0 < c.caller) × (c.caller ≤ n) × AreNamed n cs
+
+-- each pass's own commits are those of its caller in the history, of which it has seen a beginning
+abbrev pub AreIn : History → List Caller → Type 0
+AreIn H [] = Unit {0}
+AreIn H (p ∷ ps) = (commits_by p.number H ≡ p.own) × IsPrefix p.seen H × AreIn H ps
+
+-- the whole history of a database, when these passes are back
+pub record IsWhole (db : Database) (ps : List Caller) (H : History) : Type 0 where
+  pub named : AreNamed db.callers H
+  pub own : AreIn H ps
+  pub few : length H ≤ 2 ^ 63

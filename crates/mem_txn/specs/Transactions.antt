@@ -1,12 +1,15 @@
 -- Write transactions with their deferred items, and what becomes of them.
-use Rattle.std.specs.Prelude.{◌≡◌, ◌⊎◌, ◌+◌, ◌^◌, ◌<◌, Bool, true, false, List, [], length, reverse}
+use Rattle.std.specs.Prelude.{◌≡◌, ◌≢◌, ◌⊎◌, ◌+◌, ◌^◌, ◌<◌, ◌++◌, ℕ, Bool, true, false, List, [], ◌∷◌, length, reverse}
 use Rattle.std.specs.Prelude.{Result, Ok, Err, MatchResult}
 use Rattle.mem_txn.specs.Changes.{Changes, after_commit, begun}
-use Rattle.mem_txn.specs.Database.{Caller, Database, IsOf, View}
+use Rattle.mem_txn.specs.Database.{Caller, HasRead, HasSeen, View}
 use Rattle.mem_txn.specs.declared.deferred.DeferredList.{DeferredList}
 use Rattle.mem_txn.specs.declared.outcome.BeginRefused.{BeginRefused}
 use Rattle.mem_txn.specs.declared.outcome.CommitRefused.{CommitRefused}
 use Rattle.mem_txn.specs.declared.outcome.Committed.{Committed}
+use Rattle.mem_txn.specs.declared.outcome.Tried.{Tried}
+use Rattle.mem_txn.specs.declared.outcome.Tried.TheVariants as tried
+use Rattle.mem_txn.specs.declared.txn_error.BeginError.{BeginError}
 use Rattle.mem_txn.specs.declared.txn_error.BeginError.TheVariants as begin_errors
 use Rattle.mem_txn.specs.declared.txn_error.CommitError.TheVariants as commit_errors
 use Rattle.mem_txn.specs.declared.txn_error.SnapError.{SnapError}
@@ -25,13 +28,37 @@ changes_of t = t.changes
 abbrev pub items_of : {D : Type 0} → WriteTxn D → List D
 items_of t = t.deferred.items
 
--- the caller begins without writes and items; or it is told why not, and has its pass back
+-- why no transaction is begun: want of memory, or exactly at as many commits as are counted
+abbrev pub IsRefused : Caller → Caller → BeginError → Type 0
+IsRefused old new begin_errors.Memory = Unit {0}
+IsRefused old new begin_errors.CommitsSpent =
+    HasRead old new (length new.seen) × (length new.seen ≡ 2 ^ 63)
+
+-- a transaction without writes and items, on all commits, whose number was read in this call; or the
+-- caller is told why not, and has its pass back
 abbrev pub AnswersBegin : {D : Type 0} → Caller → Result (WriteTxn D) BeginRefused → Type 0
 AnswersBegin p (Ok t) =
-    (length p.seen < 2 ^ 63) × (changes_of t ≡ begun p) × (items_of t ≡ [])
-AnswersBegin p (Err refused) = (refused.pass ≡ p)
-    × ((refused.cause ≡ begin_errors.Memory)
-    ⊎ ((refused.cause ≡ begin_errors.CommitsSpent) × (length p.seen ≡ 2 ^ 63)))
+    let q = (changes_of t).caller in HasSeen p q × HasRead p q (length q.seen)
+    × (length q.seen < 2 ^ 63) × (changes_of t ≡ begun q) × (items_of t ≡ [])
+AnswersBegin p (Err refused) =
+    HasSeen p refused.pass × IsRefused p refused.pass refused.cause
+
+-- the one try for the writer's turn found it free
+abbrev pub HasWon : Caller → Caller → Type 0
+HasWon old new = new.tries ≡ old.tries ++ 0 ∷ []
+
+-- it found another caller's number, and nothing else was done
+abbrev pub HasLost : Caller → Caller → Type 0
+HasLost old new = (n : ℕ) × (n ≢ 0) × (n ≢ old.number)
+    × (new ≡ record old { tries = old.tries ++ n ∷ [] })
+
+-- the same of a call that makes one try: exactly where that found another caller's number, the turn is
+-- taken
+abbrev pub AnswersTry : {D : Type 0} → Caller → Result (Tried D) BeginRefused → Type 0
+AnswersTry p (Ok (tried.Begun t)) = AnswersBegin p (Ok t) × HasWon p (changes_of t).caller
+AnswersTry p (Ok (tried.Taken q)) = HasLost p q
+AnswersTry p (Err refused) =
+    HasSeen p refused.pass × IsRefused p refused.pass refused.cause × HasWon p refused.pass
 
 -- the present state, or want of memory; a spoiled transaction answers so before all else
 abbrev pub AnswersSnapshot : Bool → View → Result View SnapError → Type 0
@@ -40,21 +67,14 @@ AnswersSnapshot false present result =
     MatchResult result (λ s. s ≡ present) (λ e. e ≡ snap_errors.Memory)
 
 -- the commit is the next of the list, and hands the items out, last deferred first
-pub record IsCommitted {D : Type 0} (t : WriteTxn D) (c : Committed D) (db : Database) : Type 0 where
+pub record IsCommitted {D : Type 0} (t : WriteTxn D) (c : Committed D) : Type 0 where
   pub pass : c.pass ≡ after_commit (changes_of t)
   pub number : c.receipt.number ≡ length (changes_of t).caller.seen + 1
   pub items : deferred_items c.receipt.items ≡ reverse (items_of t)
-  pub own : IsOf db c.pass
 
--- the caller has seen no more, and the database is as it was
-pub record IsAborted (caller given : Caller) (old new : Database) : Type 0 where
-  pub pass : given ≡ caller
-  pub db : new ≡ old
-
--- a commit is made or refused: exactly a spoiled transaction is told so
-abbrev pub AnswersCommit : {D : Type 0} → WriteTxn D → Result (Committed D) CommitRefused
-    → Database → Database → Type 0
-AnswersCommit t (Ok c) old new = ((changes_of t).spoiled ≡ false) × IsCommitted t c new
-AnswersCommit t (Err refused) old new = IsAborted (changes_of t).caller refused.pass old new
+-- a commit is made, or refused and the caller is as it was: exactly a spoiled transaction is told so
+abbrev pub AnswersCommit : {D : Type 0} → WriteTxn D → Result (Committed D) CommitRefused → Type 0
+AnswersCommit t (Ok c) = ((changes_of t).spoiled ≡ false) × IsCommitted t c
+AnswersCommit t (Err refused) = (refused.pass ≡ (changes_of t).caller)
     × ((((changes_of t).spoiled ≡ true) × (refused.cause ≡ commit_errors.Spoiled))
     ⊎ (((changes_of t).spoiled ≡ false) × (refused.cause ≡ commit_errors.Memory)))

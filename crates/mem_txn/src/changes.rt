@@ -1,22 +1,25 @@
 //! A write transaction, but for its deferred items.
 ghost use Rattle.std.specs.Prelude.{◌≡◌, ◌≤◌, ◌<◌, ◌+◌, ◌^◌, false, IfOk, MatchResult, All, Some, length, map, slice_get};
-ghost use Rattle.std.specs.Arc.{arc_value};
 ghost use Rattle.mdb_schema.specs.Answer.{ask};
 ghost use Rattle.mdb_schema.specs.LawfulSchema.{IsLawfulTable};
 ghost use Rattle.mdb_schema.specs.Wipe.{wipe, wipe_by_prefix};
 ghost use Rattle.mdb_schema.specs.Write.{put, remove, put_row, remove_row};
-ghost use Rattle.mem_txn.specs.Changes.{AnswersTxnAsk, AnswersTxnWipe, AnswersTxnWrite, after_commit, begun, gives_replaced, gives_row, present, view_at};
-ghost use Rattle.mem_txn.specs.Database.{state_seen};
+ghost use Rattle.mem_txn.specs.Changes.{AnswersTxnAsk, AnswersTxnWipe, AnswersTxnWrite, begun, gives_replaced, gives_row, present, view_at};
+ghost use Rattle.mem_txn.specs.Database.{IsOf, state_seen};
+ghost use Rattle.mem_txn.specs.inner.Commits.{next_version};
 ghost use Rattle.mem_txn.specs.inner.VersionTables.{IsSound, Joins, StandFor, is_memory, schemas_of, standing, state_of};
 ghost use Rattle.mem_txn.specs.inner.Wipes.{wipe_by};
 
 use crate::accepted::{Accepted, Kind};
-use crate::entry::Entry;
+use crate::db::Db;
 use crate::pass::Pass;
+use crate::turn::Turn;
 use crate::txn_error::{TxnAskError, TxnWipeError, TxnWriteError};
 use crate::txn_tables::TxnTables;
 use crate::version::Version;
+use crate::view::View;
 use crate::wipe::{self, Wipe, wipe_in};
+use db_front::Ready;
 use mdb_datum::Row;
 use mdb_schema::{Answer, AskError, Query, TableDef, WriteError};
 use std::alloc::{AllocError, Global};
@@ -24,10 +27,9 @@ use std::marker::Model;
 use std::sync::Arc;
 
 /// A caller's write transaction, seen as `Changes`: the caller, the writes that were accepted, and
-/// whether it is spoiled.
-#[derive(Drop)]
+/// whether it is spoiled. It can't be dropped.
 pub(crate) struct Changes {
-    pass: Pass,
+    pass: Turn,
     number: u64,
     tables: TxnTables,
     writes: Vec<Accepted>,
@@ -52,18 +54,17 @@ impl Model for Changes {
 impl Changes {
     /// A transaction without writes, whose tables stand after the commits that its caller has seen.
     /// It takes no memory.
-    pub(crate) fn begun(pass: Pass, number: u64, tables: TxnTables) -> Changes
+    pub(crate) fn begun(alloc: Global, pass: Turn, number: u64, tables: TxnTables) -> Changes
         requires few { length pass.seen < 2 ^ 63 }
         requires number { number ≡ length pass.seen }
         requires tables { StandFor tables pass.schema (state_seen pass) }
         ensures { result ≡ begun pass }
     {
-        let writes = Vec::new(pass.allocator());
         Changes {
             pass,
             number,
             tables,
-            writes,
+            writes: Vec::new(alloc),
             spoiled: false,
         }
     }
@@ -182,9 +183,9 @@ impl Changes {
         }
     }
 
-    /// The present state, as the value after so many commits. It takes memory for a list of the
+    /// The present state, under the number of so many commits. It takes memory for a list of the
     /// tables and for each that is open.
-    pub(crate) fn stand(&mut self, number: u64) -> Result<Version, AllocError>
+    pub(crate) fn stand(&mut self, number: u64) -> Result<View, AllocError>
         requires sound { self.old.spoiled ≡ false }
         requires few { number ≤ 2 ^ 63 }
         ensures value { IfOk result (λ v. v ≡ view_at number self.old) }
@@ -192,17 +193,16 @@ impl Changes {
     {
         let schema = self.pass.share_schema()?;
         let tables = self.tables.stand()?;
-        Ok(Version::of(schema, tables, number))
+        Ok(View::of(schema, tables, number))
     }
 
-    /// The value after its commit, and its pass, which has seen the commit; or, for want of memory,
-    /// the pass as it was.
-    pub(crate) fn freeze(self) -> Result<(Arc<Version, Global>, Pass), Pass>
+    /// The turn, and the value after its commit, ready to be shown; or, for want of memory, the turn
+    /// alone.
+    pub(crate) fn freeze(self, db: &Db) -> Result<(Turn, Ready<Version>), Turn>
         requires sound { self.spoiled ≡ false }
         ensures { MatchResult result
-            (λ made. (arc_value made.0 ≡ view_at (length self.caller.seen + 1) self)
-            × (made.1 ≡ after_commit self))
-            (λ pass. pass ≡ self.caller) }
+            (λ made. (made.0 ≡ self.caller) × (made.1 ≡ next_version self))
+            (λ turn. turn ≡ self.caller) }
     {
         let Changes {
             pass,
@@ -211,20 +211,15 @@ impl Changes {
             writes,
             spoiled: _,
         } = self;
-        let mut pass = pass;
-        let Ok(version) = next_version(&pass, tables, number + 1) else {
-            drop(writes);
-            return Err(pass);
-        };
-        let entry = Entry::of(pass.number(), writes);
-        match pass.see(entry) {
-            Ok(()) => Ok((version, pass)),
+        match next_version(db, &pass, tables, writes, number + 1) {
+            Ok(ready) => Ok((pass, ready)),
             Err(_) => Err(pass),
         }
     }
 
-    /// Its pass, which has seen no more than when it began. It takes no memory.
-    pub(crate) fn abort(self) -> Pass
+    /// Gives the turn back, and then the pass. It takes no memory.
+    pub(crate) fn abort(self, db: &Db) -> Pass
+        requires own { IsOf db.now self.caller }
         ensures { result ≡ self.caller }
     {
         let Changes {
@@ -234,31 +229,39 @@ impl Changes {
             writes,
             spoiled: _,
         } = self;
+        let pass = pass.leave(db);
         drop(tables);
         drop(writes);
         pass
     }
 }
 
-/// The value after so many commits, of the tables that the writes end with. All of its memory is
+/// The value after so many commits, of the tables that these writes end with. All of its memory is
 /// taken here.
 fn next_version(
-    pass: &Pass,
+    db: &Db,
+    pass: &Turn,
     tables: TxnTables,
+    writes: Vec<Accepted>,
     number: u64,
-) -> Result<Arc<Version, Global>, AllocError>
+) -> Result<Ready<Version>, AllocError>
     requires sound { All IsSound tables }
     requires schemas { schemas_of (map standing tables) ≡ pass.now.schema }
     requires few { number ≤ 2 ^ 63 }
-    ensures { IfOk result (λ v. arc_value v ≡ record {
-      schema = pass.now.schema;
-      number = number;
-      state = state_of (map standing tables);
+    ensures { IfOk result (λ r. r ≡ record {
+      view = record {
+        schema = pass.now.schema;
+        number = number;
+        state = state_of (map standing tables);
+      };
+      writes = writes.items;
     }) }
 {
     let schema = pass.share_schema()?;
     let tables = tables.freeze()?;
-    Ok(Arc::new(pass.allocator(), Version::of(schema, tables, number))?)
+    let view = View::of(schema, tables, number);
+    let version = Arc::new(db.alloc, Version::of(view, writes))?;
+    db.shared.ready(version)
 }
 
 /// Whether a write found no memory, which spoils the transaction.
@@ -269,7 +272,7 @@ fn is_memory(error: &WriteError) -> bool
 }
 
 /// What the schema says of the table at a place.
-fn def_at(pass: &Pass, place: usize) -> &TableDef
+fn def_at(pass: &Turn, place: usize) -> &TableDef
     requires { place < length pass.now.schema }
     ensures there { slice_get pass.now.schema place ≡ Some result.now }
     ensures lawful { IsLawfulTable result.now }

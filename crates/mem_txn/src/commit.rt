@@ -8,26 +8,24 @@ use crate::db::Db;
 use crate::outcome::CommitRefused;
 use crate::pass::Pass;
 use crate::txn_error::CommitError;
+use std::sync::Wait;
 
-/// Shows the state with a transaction's writes, and gives its pass back, which has seen the commit.
+/// Shows the state with a transaction's writes, and gives its pass back, which has made the commit.
 /// All memory is taken before the new state is shown.
-pub(crate) fn commit(changes: Changes, db: &mut Db) -> Result<Pass, CommitRefused>
-    requires own { IsOf db.old changes.caller }
-    ensures { AnswersChanges changes result db.old db.new }
+pub(crate) fn commit<R: Wait>(rt: &R, changes: Changes, db: &Db) -> Result<Pass, CommitRefused>
+    requires own { IsOf db.now changes.caller }
+    ensures { AnswersChanges changes result }
 {
     if changes.spoiled() {
         return Err(CommitRefused {
-            pass: changes.abort(),
+            pass: changes.abort(db),
             cause: CommitError::Spoiled,
         });
     }
-    match changes.freeze() {
-        Ok((version, pass)) => {
-            db.front.publish(version);
-            Ok(pass)
-        }
-        Err(pass) => Err(CommitRefused {
-            pass,
+    match changes.freeze(db) {
+        Ok((turn, ready)) => Ok(turn.commit(rt, db, ready)),
+        Err(turn) => Err(CommitRefused {
+            pass: turn.leave(db),
             cause: CommitError::Memory,
         }),
     }

@@ -1,22 +1,26 @@
 //! Databases.
-ghost use Rattle.std.specs.Prelude.{◌≡◌, IfOk, All, length};
-ghost use Rattle.mem_txn.specs.Database.{IsOf, new_callers, new_database, view_seen};
+ghost use Rattle.std.specs.Prelude.{◌≡◌, ◌≤◌, ◌<◌, IfOk, length};
+ghost use Rattle.mdb_schema.specs.History.{History};
+ghost use Rattle.mem_txn.specs.Database.{AreOf, HasRead, HasSeen, IsOf, IsWhole, new_callers, view_after, view_seen};
 
-use crate::front::Front;
 use crate::pass::Pass;
 use crate::passes::Passes;
 use crate::read_txn::ReadTxn;
 use crate::version::Version;
+use crate::view::View;
+use db_front::{Shared, Shown, make_shared};
 use mdb_schema::Schema;
 use std::alloc::{AllocError, Global};
 use std::marker::Model;
 use std::sync::{Arc, Wait};
+use watch_word::open_book;
 
-/// A database, seen as a `Database`: its schema, the number of its commits and the state after
-/// them.
+/// A database that callers share, seen as a `Database`.
 #[derive(Drop)]
 pub struct Db {
-    pub(crate) front: Front,
+    pub(crate) alloc: Global,
+    schema: Arc<Schema, Global>,
+    pub(crate) shared: Shared<Version>,
 }
 
 impl Model for Db {
@@ -36,47 +40,60 @@ impl Db {
     /// A database without rows, and a pass for each of its callers. It takes memory for the tables
     /// and the passes.
     pub fn create(alloc: Global, schema: Schema, callers: u32) -> Result<(Db, Passes), AllocError>
-        requires { callers ≡ 1 }
-        ensures db { IfOk result (λ made. made.0 ≡ new_database schema) }
-        ensures passes { IfOk result (λ made. made.1 ≡ new_callers schema callers) }
+        requires { (1 ≤ callers) × (callers ≤ 64) }
+        ensures schema { IfOk result (λ made. made.0.schema ≡ schema) }
+        ensures callers { IfOk result (λ made. made.0.callers ≡ callers) }
+        ensures passes { IfOk result (λ made. made.1 ≡ new_callers made.0 callers) }
     {
-        let version = Version::empty(alloc, schema)?;
-        let passes = Passes::of(alloc, callers, &version)?;
-        let front = Front::of(Arc::new(alloc, version)?);
-        Ok((Db { front }, passes))
+        let view = View::empty(alloc, schema)?;
+        let schema = view.share_schema()?;
+        let value = Arc::new(alloc, Version::opening(alloc, view))?;
+        let (_book, log) = open_book(alloc)?;
+        let (shared, list) = make_shared(alloc, value, log, callers)?;
+        let db = Db {
+            alloc,
+            schema,
+            shared,
+        };
+        Ok((db, Passes { list }))
     }
 
     /// The schema.
     pub fn schema(&self) -> &Schema
         ensures { result.now ≡ self.now.schema }
     {
-        self.front.version().schema()
+        &self.schema
     }
 
-    /// The state after the commits that the caller now has seen, in constant time. It is refused
-    /// only for want of room to count one more owner of it.
-    pub fn read<R: Wait>(&mut self, _rt: &R, pass: &mut Pass) -> Result<ReadTxn, AllocError>
-        requires own { IsOf self.old pass.old }
+    /// The state after all commits that there are, which the pass then has seen, in constant time.
+    /// It is refused only for want of room to count one more owner of it.
+    pub fn read<R: Wait>(&self, rt: &R, pass: &mut Pass) -> Result<ReadTxn, AllocError>
+        requires own { IsOf self.now pass.old }
         ensures view { IfOk result (λ t. t ≡ view_seen pass.new) }
-        ensures db { self.new ≡ self.old }
-        ensures pass { pass.new ≡ pass.old }
+        ensures number { IfOk result (λ t. HasRead pass.old pass.new t.number) }
+        ensures seen { HasSeen pass.old pass.new }
+        ensures tries { pass.new.tries ≡ pass.old.tries }
     {
-        Ok(ReadTxn::of(self.front.look()?))
+        let Shown { value, .. } = self.shared.look(rt, &mut pass.token)?;
+        Ok(ReadTxn::of(value))
     }
 
-    /// The state after all commits, when all passes are back. It takes no memory.
-    pub fn close<R: Wait>(self, _rt: &R, passes: Passes) -> ReadTxn
-        requires all { length passes.passes ≡ passes.made }
-        requires own { All (IsOf self) passes.passes }
-        ensures value { result ≡ record {
-          schema = self.schema;
-          number = self.number;
-          state = self.state;
-        } }
-        ensures seen { All (λ p. result ≡ view_seen p) passes.passes }
+    /// The state after all commits, when the passes are back. It takes no memory. It waits for write
+    /// transactions whose passes aren't among these.
+    pub fn close<R: Wait>(self, rt: &R, passes: Passes) -> ReadTxn
+        requires some { 0 < length passes.passes }
+        requires own { AreOf self passes.passes }
+        ensures { (H : History) × IsWhole self passes.passes H
+            × (result ≡ view_after self.schema H) }
     {
-        drop(passes);
-        let Db { front } = self;
-        ReadTxn::of(front.close())
+        let Db {
+            alloc: _,
+            schema,
+            shared,
+        } = self;
+        let Passes { list } = passes;
+        let Shown { value, .. } = shared.close(rt, list);
+        drop(schema);
+        ReadTxn::of(value)
     }
 }

@@ -1,11 +1,17 @@
 //! Transactions over one database.
 //!
-//! A [`Db`] keeps the value after its last commit, and a [`Pass`] is one caller's token. A
+//! A [`Db`] is shared by its callers, on threads of their own, and a [`Pass`] is one caller's token. A
 //! [`ReadTxn`] answers from the state after the commits that its caller has seen, whatever is
-//! committed later. A [`WriteTxn`] owns its caller's pass, answers from that state with its own
-//! writes, and ends by a commit or an abort. A [`Snapshot`] of one stays as it is. A read begins in
-//! constant time, a write and a commit in the number of tables; a table is copied at the first write
-//! to it, by paths.
+//! committed later. A [`WriteTxn`] owns its caller's pass, answers from the state after all commits
+//! with its own writes, and ends by a commit or an abort; no other caller commits meanwhile. A
+//! [`Snapshot`] of one stays as it is. A read begins in constant time, a write and a commit in the
+//! number of tables; a table is copied at the first write to it, by paths.
+//!
+//! All commits are one list, of which each pass has seen a beginning, as `db_front` has it. What the
+//! clauses say of a pass stands in `specs/Database.antt`, and of a transaction in
+//! `specs/Transactions.antt`. A call that takes a runtime may wait for another caller; `write` and
+//! `close` wait for open write transactions. A pass, a list of them and a write transaction can't be
+//! let go.
 #![tactic(auto)]
 
 mod accepted;
@@ -14,8 +20,6 @@ mod changes;
 mod commit;
 mod db;
 mod deferred;
-mod entry;
-mod front;
 mod outcome;
 mod pass;
 mod passes;
@@ -23,16 +27,18 @@ mod read_txn;
 mod snapshot;
 #[cfg(test)]
 mod tests;
+mod turn;
 mod txn_error;
 mod txn_table;
 mod txn_tables;
 mod version;
+mod view;
 mod wipe;
 mod write_txn;
 
 pub use db::Db;
 pub use deferred::DeferredList;
-pub use outcome::{BeginRefused, CommitRefused, Committed, DeferRefused, Receipt};
+pub use outcome::{BeginRefused, CommitRefused, Committed, DeferRefused, Receipt, Tried};
 pub use pass::Pass;
 pub use passes::Passes;
 pub use read_txn::ReadTxn;

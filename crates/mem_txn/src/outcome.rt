@@ -2,16 +2,23 @@
 use crate::deferred::DeferredList;
 use crate::pass::Pass;
 use crate::txn_error::{BeginError, CommitError};
+use crate::write_txn::WriteTxn;
 
 /// A write transaction that isn't begun.
-#[derive(Drop)]
 pub struct BeginRefused {
     pub pass: Pass,
     pub cause: BeginError,
 }
 
+/// What one try to begin a write transaction gives.
+pub enum Tried<D> {
+    /// The transaction.
+    Begun(WriteTxn<D>),
+    /// The pass: another caller's write transaction is open.
+    Taken(Pass),
+}
+
 /// A commit that is refused, which has aborted its transaction.
-#[derive(Drop)]
 pub struct CommitRefused {
     pub pass: Pass,
     pub cause: CommitError,
@@ -31,7 +38,6 @@ pub struct Receipt<D> {
 }
 
 /// A commit that was made.
-#[derive(Drop)]
 pub struct Committed<D> {
     pub pass: Pass,
     pub receipt: Receipt<D>,

@@ -1,21 +1,18 @@
 //! Passes.
-ghost use Rattle.std.specs.Prelude.{◌≡◌, ◌++◌, ◌∷◌, [], IfOk, OnErr, OnOk};
-ghost use Rattle.std.specs.Arc.{arc_value};
+ghost use Rattle.std.specs.Prelude.{◌≡◌};
 
-use crate::entry::Entry;
 use crate::version::Version;
-use mdb_schema::Schema;
-use std::alloc::{AllocError, Global};
 use std::marker::Model;
-use std::sync::Arc;
 
-/// One caller's token, seen as a `Caller`: its number, the schema of its database and the commits
-/// that it has seen.
-#[derive(Drop)]
+/// One caller's pass in the front that callers share.
+pub(crate) type Token = db_front::Pass<Version>;
+
+/// One caller's token, seen as a `Caller`: its number, its database, the commits that it has seen and
+/// made, and what it has read and tried.
+///
+/// It can't be dropped: [`crate::Db::close`] takes it back.
 pub struct Pass {
-    number: u32,
-    schema: Arc<Schema, Global>,
-    seen: Vec<Entry>,
+    pub(crate) token: Token,
 }
 
 impl Model for Pass {
@@ -26,57 +23,18 @@ impl Model for Pass {
 
     ghost coded = { caller_code };
 
-    ghost use Rattle.mem_txn.specs.inner.Views.{pass_view};
+    ghost use Rattle.mem_txn.specs.inner.Views.{pass_view, IsIdle};
 
     ghost view = { pass_view };
+
+    ghost invariant = { IsIdle };
 }
 
 impl Pass {
-    /// A pass of a new database, which stands at this value. It takes no memory.
-    pub(crate) fn of(alloc: Global, number: u32, version: &Version) -> Result<Pass, AllocError>
-        ensures { IfOk result
-            (λ p. p ≡ record { number = number; schema = version.now.schema; seen = [] }) }
-    {
-        Ok(Pass {
-            number,
-            schema: version.share_schema()?,
-            seen: Vec::new(alloc),
-        })
-    }
-
     /// The caller's number, counted from 1.
     pub fn number(&self) -> u32
         ensures { result ≡ self.now.number }
     {
-        self.number
-    }
-
-    /// The schema of its database.
-    pub(crate) fn schema(&self) -> &Schema
-        ensures { result.now ≡ self.now.schema }
-    {
-        &self.schema
-    }
-
-    /// A second owner of the schema.
-    pub(crate) fn share_schema(&self) -> Result<Arc<Schema, Global>, AllocError>
-        ensures { IfOk result (λ s. arc_value s ≡ self.now.schema) }
-    {
-        Arc::try_clone(&self.schema)
-    }
-
-    /// Where it takes its memory.
-    pub(crate) fn allocator(&self) -> Global {
-        *self.seen.allocator()
-    }
-
-    /// Sees one more commit. It takes memory for a place in the list.
-    pub(crate) fn see(&mut self, entry: Entry) -> Result<(), AllocError>
-        ensures ok { OnOk result
-            (self.new ≡ record self.old { seen = self.old.seen ++ entry ∷ [] }) }
-        ensures err { OnErr result (self.new ≡ self.old) }
-    {
-        self.seen.push(entry)?;
-        Ok(())
+        self.token.number() as u32
     }
 }

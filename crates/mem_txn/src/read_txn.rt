@@ -32,7 +32,7 @@ impl Model for ReadTxn {
 impl ReadTxn {
     /// A transaction that reads this value.
     pub(crate) fn of(version: Arc<Version, Global>) -> ReadTxn
-        ensures { result ≡ arc_value version }
+        ensures { result ≡ (arc_value version).view }
     {
         ReadTxn { version }
     }
@@ -41,7 +41,7 @@ impl ReadTxn {
     pub fn number(&self) -> u64
         ensures { result ≡ self.now.number }
     {
-        self.version.number()
+        self.version.view().number()
     }
 
     /// A second transaction that reads the same state. It takes no memory, and is refused only for
@@ -60,6 +60,6 @@ impl ReadTxn {
     pub fn ask(&self, query: &Query) -> Result<Answer, AskError>
         ensures { AnswersAsk (ask self.now.schema self.now.state query.now) result }
     {
-        self.version.ask(query)
+        self.version.view().ask(query)
     }
 }

@@ -3,7 +3,7 @@ ghost use Rattle.std.specs.Prelude.{◌≡◌};
 ghost use Rattle.mdb_schema.specs.Answer.{ask};
 ghost use Rattle.mdb_schema.specs.Refusals.{AnswersAsk};
 
-use crate::version::Version;
+use crate::view::View;
 use mdb_schema::{Answer, AskError, Query};
 use std::marker::Model;
 
@@ -11,7 +11,7 @@ use std::marker::Model;
 /// as it is, whatever happens to the transaction.
 #[derive(Drop)]
 pub struct Snapshot {
-    version: Version,
+    view: View,
 }
 
 impl Model for Snapshot {
@@ -22,22 +22,22 @@ impl Model for Snapshot {
 
     ghost coded = { view_code };
 
-    ghost view = { λ s. s.version };
+    ghost view = { λ s. s.view };
 }
 
 impl Snapshot {
-    /// A snapshot of this value.
-    pub(crate) fn of(version: Version) -> Snapshot
-        ensures { result ≡ version }
+    /// A snapshot of this state.
+    pub(crate) fn of(view: View) -> Snapshot
+        ensures { result ≡ view }
     {
-        Snapshot { version }
+        Snapshot { view }
     }
 
     /// The number of the commit on which its transaction stood.
     pub fn number(&self) -> u64
         ensures { result ≡ self.now.number }
     {
-        self.version.number()
+        self.view.number()
     }
 
     /// What a question is answered, or the first rule that it breaks, as [`crate::ReadTxn::ask`]
@@ -45,6 +45,6 @@ impl Snapshot {
     pub fn ask(&self, query: &Query) -> Result<Answer, AskError>
         ensures { AnswersAsk (ask self.now.schema self.now.state query.now) result }
     {
-        self.version.ask(query)
+        self.view.ask(query)
     }
 }

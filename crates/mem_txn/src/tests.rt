@@ -1,7 +1,8 @@
 //! What no clause says: that each call succeeds while there is memory.
-ghost use Rattle.std.specs.Prelude.{◌≡◌, IfOk};
+ghost use Rattle.std.specs.Prelude.{◌≡◌, [], IfOk};
 ghost use Rattle.mem_txn.specs.Database.{IsOf};
 
+mod callers;
 mod deferred;
 mod drawn;
 mod mixed;
@@ -9,10 +10,11 @@ mod reads;
 mod without_memory;
 mod worked;
 
-use crate::{Db, Pass};
+use crate::{Db, Pass, Passes, ReadTxn};
 use mdb_datum::{Datum, Row, Text, read_doc};
 use mdb_schema::{Answer, Ask, AskError, Query, Rows, Schema, read_schema};
 use std::alloc::Global;
+use std::sync::Wait;
 use std::test::Fail;
 
 const SCHEMA: &str = r#"{"memdb":1,"tables":{
@@ -30,15 +32,30 @@ fn schema_of(alloc: Global) -> Result<Schema, Fail> {
     }
 }
 
-/// A database without rows, and its only pass.
-fn opened(alloc: Global) -> Result<(Db, Pass), Fail>
-    ensures { IfOk result (λ made. IsOf made.0 made.1) }
+/// A database without rows, the list of its passes without the first one, and that.
+fn opened(alloc: Global) -> Result<(Db, Passes, Pass), Fail>
+    ensures own { IfOk result (λ made. IsOf made.0 made.2) }
+    ensures rest { IfOk result (λ made. made.1 ≡ record { passes = []; made = 1 }) }
 {
     let (db, mut passes) = Db::create(alloc, schema_of(alloc)?, 1)?;
     match passes.take() {
-        Some(pass) => Ok((db, pass)),
-        None => Err(Fail::from("no pass")),
+        Some(pass) => Ok((db, passes, pass)),
+        None => unreachable!(),
     }
+}
+
+/// The last state of a database, whose only pass is back.
+fn closed<R: Wait>(rt: &R, db: Db, mut passes: Passes, pass: Pass) -> ReadTxn
+    requires own { IsOf db pass }
+    requires rest { passes ≡ record { passes = []; made = 1 } }
+{
+    passes.give(pass);
+    db.close(rt, passes)
+}
+
+/// A call that found no memory, or another error.
+fn failed<T>() -> Result<T, Fail> {
+    Err(Fail::from("no memory"))
 }
 
 /// The row that a text is.

@@ -1,140 +1,62 @@
-//! The value that a commit leaves.
-ghost use Rattle.std.specs.Prelude.{◌≡◌, ◌≤◌, ◌^◌, ◌++◌, ◌∷◌, [], IfOk, OnOk, map};
-ghost use Rattle.std.specs.Arc.{arc_value};
-ghost use Rattle.mdb_schema.specs.Answer.{ask};
-ghost use Rattle.mdb_schema.specs.Refusals.{AnswersAsk};
-ghost use Rattle.mdb_schema.specs.State.{empty_state};
-ghost use Rattle.mem_txn.specs.inner.VersionTables.{empty_table, schemas_of, state_of};
+//! The value that a commit shows.
+ghost use Rattle.std.specs.Prelude.{◌≡◌, []};
 
-use mdb_schema::{Answer, AskError, Query, Schema, TableDef};
-use std::alloc::{AllocError, Global};
+use crate::accepted::Accepted;
+use crate::view::View;
+use std::alloc::Global;
 use std::marker::Model;
-use std::sync::Arc;
-use table_index::Table;
 
-/// The tables after a commit, in the schema's order, seen as a `View`. It never changes.
+/// The state after a commit, with the writes of that commit; seen as a `Version`. It never changes.
 #[derive(Drop)]
 pub(crate) struct Version {
-    schema: Arc<Schema, Global>,
-    tables: Vec<Arc<Table, Global>>,
-    number: u64,
+    view: View,
+    writes: Vec<Accepted>,
 }
 
 impl Model for Version {
-    ghost use Rattle.mem_txn.specs.Database.{View};
-    ghost use Rattle.mem_txn.specs.inner.Stored.{view_code};
+    ghost use Rattle.mem_txn.specs.inner.Versions.{Version};
+    ghost use Rattle.mem_txn.specs.inner.Stored.{version_code};
 
-    ghost Value = { View };
+    ghost Value = { Version };
 
-    ghost coded = { view_code };
+    ghost coded = { version_code };
 
-    ghost use Rattle.mem_txn.specs.inner.Views.{version_view, IsVersion};
+    ghost use Rattle.mem_txn.specs.inner.Views.{version_view};
 
     ghost view = { version_view };
+}
 
-    ghost invariant = { IsVersion };
+impl db_front::Version for Version {
+    ghost use Rattle.mem_txn.specs.inner.Versions.{StandsFor};
+
+    ghost stands = { StandsFor };
+
+    // No commit fires a cell.
+    ghost fired = { λ h log. Unit {0} };
 }
 
 impl Version {
-    /// The tables before the first commit, without rows. It takes memory for them.
-    pub(crate) fn empty(alloc: Global, schema: Schema) -> Result<Version, AllocError>
-        ensures { IfOk result
-            (λ v. v ≡ record { schema = schema; number = 0; state = empty_state schema }) }
-    {
-        let tables = empty_tables(alloc, &schema)?;
-        Ok(Version {
-            schema: Arc::new(alloc, schema)?,
-            tables,
-            number: 0,
-        })
-    }
-
-    /// These tables, after so many commits.
-    pub(crate) fn of(
-        schema: Arc<Schema, Global>,
-        tables: Vec<Arc<Table, Global>>,
-        number: u64,
-    ) -> Version
-        requires schemas { schemas_of (map arc_value tables.items) ≡ arc_value schema }
-        requires few { number ≤ 2 ^ 63 }
-        ensures { result ≡ record {
-          schema = arc_value schema;
-          number = number;
-          state = state_of (map arc_value tables.items);
-        } }
+    /// The state before the first commit. It takes no memory.
+    pub(crate) fn opening(alloc: Global, view: View) -> Version
+        ensures { result ≡ record { view = view; writes = [] } }
     {
         Version {
-            schema,
-            tables,
-            number,
+            view,
+            writes: Vec::new(alloc),
         }
     }
 
-    /// The schema.
-    pub(crate) fn schema(&self) -> &Schema
-        ensures { result.now ≡ self.now.schema }
+    /// The state after a commit of these writes.
+    pub(crate) fn of(view: View, writes: Vec<Accepted>) -> Version
+        ensures { result ≡ record { view = view; writes = writes.items } }
     {
-        &self.schema
+        Version { view, writes }
     }
 
-    /// A second owner of the schema.
-    pub(crate) fn share_schema(&self) -> Result<Arc<Schema, Global>, AllocError>
-        ensures { IfOk result (λ s. arc_value s ≡ self.now.schema) }
+    /// The state.
+    pub(crate) fn view(&self) -> &View
+        ensures { result.now ≡ self.now.view }
     {
-        Arc::try_clone(&self.schema)
+        &self.view
     }
-
-    /// The tables, each at its place in the schema.
-    pub(crate) fn tables(&self) -> &[Arc<Table, Global>]
-        ensures schemas { schemas_of (map arc_value result.now) ≡ self.now.schema }
-        ensures state { state_of (map arc_value result.now) ≡ self.now.state }
-    {
-        self.tables.as_slice()
-    }
-
-    /// How many commits there were.
-    pub(crate) fn number(&self) -> u64
-        ensures number { result ≡ self.now.number }
-        ensures few { result ≤ 2 ^ 63 }
-    {
-        self.number
-    }
-
-    /// What a question is answered.
-    pub(crate) fn ask(&self, query: &Query) -> Result<Answer, AskError>
-        ensures { AnswersAsk (ask self.now.schema self.now.state query.now) result }
-    {
-        match self.schema.find(query.table().as_str()) {
-            Some(place) => {
-                let table = &self.tables[place];
-                table.ask(query)
-            }
-            None => Err(AskError::UnknownTable),
-        }
-    }
-}
-
-/// A table without rows for each of a schema.
-fn empty_tables(alloc: Global, schema: &Schema) -> Result<Vec<Arc<Table, Global>>, AllocError>
-    ensures { IfOk result
-        (λ tables. map arc_value tables.items ≡ map empty_table schema.now) }
-{
-    let mut tables = Vec::with_capacity(alloc, schema.len())?;
-    for at in 0..schema.len() {
-        let Some(def) = schema.table(at) else {
-            unreachable!();
-        };
-        push_empty(&mut tables, def)?;
-    }
-    Ok(tables)
-}
-
-/// Adds a table without rows.
-fn push_empty(tables: &mut Vec<Arc<Table, Global>>, def: &TableDef) -> Result<(), AllocError>
-    ensures { OnOk result (map arc_value tables.new.items
-        ≡ map arc_value tables.old.items ++ empty_table def.now ∷ []) }
-{
-    let alloc = *tables.allocator();
-    tables.push(Arc::new(alloc, Table::empty(alloc, def)?)?)?;
-    Ok(())
 }

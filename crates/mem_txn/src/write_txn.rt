@@ -5,13 +5,13 @@ ghost use Rattle.mdb_schema.specs.Wipe.{wipe, wipe_by_prefix};
 ghost use Rattle.mdb_schema.specs.Write.{put, remove};
 ghost use Rattle.mem_txn.specs.Changes.{AnswersTxnAsk, AnswersTxnWipe, AnswersTxnWrite, gives_replaced, gives_row, present, present_view};
 ghost use Rattle.mem_txn.specs.Database.{IsOf};
-ghost use Rattle.mem_txn.specs.Transactions.{AnswersBegin, AnswersCommit, AnswersSnapshot, changes_of, items_of};
+ghost use Rattle.mem_txn.specs.Transactions.{AnswersCommit, AnswersSnapshot, changes_of, items_of};
 
 use crate::changes::Changes;
 use crate::commit::commit;
 use crate::db::Db;
 use crate::deferred::DeferredList;
-use crate::outcome::{BeginRefused, CommitRefused, Committed, DeferRefused, Receipt};
+use crate::outcome::{CommitRefused, Committed, DeferRefused, Receipt};
 use crate::pass::Pass;
 use crate::snapshot::Snapshot;
 use crate::txn_error::{SnapError, TxnAskError, TxnWipeError, TxnWriteError};
@@ -118,32 +118,32 @@ impl<D: Drop> WriteTxn<D> {
         }
         let number = self.changes.number();
         match self.changes.stand(number) {
-            Ok(version) => Ok(Snapshot::of(version)),
+            Ok(view) => Ok(Snapshot::of(view)),
             Err(_) => Err(SnapError::Memory),
         }
     }
 
-    /// Gives the pass back, and drops the writes and the deferred items. It takes no memory.
-    pub fn abort(self, _db: &mut Db) -> Pass
-        requires own { IsOf _db.old (changes_of self).caller }
-        ensures pass { result ≡ (changes_of self).caller }
-        ensures db { _db.new ≡ _db.old }
+    /// Gives the pass back, and drops the writes and the deferred items. It takes no memory, and waits
+    /// for nobody.
+    pub fn abort(self, db: &Db) -> Pass
+        requires own { IsOf db.now (changes_of self).caller }
+        ensures { result ≡ (changes_of self).caller }
     {
         let WriteTxn { changes, deferred } = self;
         drop(deferred);
-        changes.abort()
+        changes.abort(db)
     }
 
     /// Makes the writes a commit, and hands the deferred items out, last deferred first. All memory
     /// is taken before the new state is shown. A commit that is refused has aborted the
     /// transaction.
-    pub fn commit<R: Wait>(self, _rt: &R, db: &mut Db) -> Result<Committed<D>, CommitRefused>
-        requires own { IsOf db.old (changes_of self).caller }
-        ensures { AnswersCommit self result db.old db.new }
+    pub fn commit<R: Wait>(self, rt: &R, db: &Db) -> Result<Committed<D>, CommitRefused>
+        requires own { IsOf db.now (changes_of self).caller }
+        ensures { AnswersCommit self result }
     {
         let WriteTxn { changes, deferred } = self;
         let number = changes.number() + 1;
-        match commit(changes, db) {
+        match commit(rt, changes, db) {
             Ok(pass) => {
                 let items = DeferredList::of(deferred);
                 let receipt = Receipt { number, items };

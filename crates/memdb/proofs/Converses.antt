@@ -5,7 +5,7 @@ use Rattle.mdb_datum.specs.Bytes.{Bytes}
 use Rattle.mdb_ports.specs.Faults.{Rose}
 use Rattle.mdb_schema.specs.Broken.{Broken}
 use Rattle.memdb.specs.Causes.{Finds, Reaches, CallsFor, no_command, too_large, broken, broken_script, unsupported, supported, IsOneOf}
-use Rattle.memdb.specs.Outcome.{IsFirst, IsUnsupported}
+use Rattle.memdb.specs.Outcome.{IsSupported, IsUnsupported}
 use Rattle.memdb.specs.Words.{Named, files_named}
 use Rattle.run_io.specs.Causes.{HasNoExcuse}
 use Rattle.run_io.specs.Inputs.{schema_error}
@@ -31,8 +31,8 @@ module _ (words : List Bytes) (seen : Observed) (result : ℕ) (comes : (status 
 
   -- where no write failed, supported inputs are answered, but for want of memory
   supported_is_answered : (before now : ℕ) → (result ≡ 6 → Rose before now) → (Rose before now → ⊥) →
-      (named : Named) (inputs : Inputs) (table field : Bytes) → Finds words seen named (Ok inputs) → IsFirst inputs table field → HasNoExcuse seen → IsOneOf (0 ∷ 4 ∷ []) result
-  supported_is_answered before now cut quiet named inputs table field f s plain = without_six (comes 0 (supported refl named inputs table field f s plain))
+      (named : Named) (inputs : Inputs) → Finds words seen named (Ok inputs) → IsSupported inputs → HasNoExcuse seen → IsOneOf (0 ∷ 4 ∷ []) result
+  supported_is_answered before now cut quiet named inputs f s plain = without_six (comes 0 (supported refl named inputs f s plain))
     where
       without_six : IsOneOf (0 ∷ 4 ∷ 6 ∷ []) result → IsOneOf (0 ∷ 4 ∷ []) result
       without_six (inl is) = inl is

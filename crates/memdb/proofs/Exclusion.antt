@@ -1,12 +1,12 @@
 -- Where a cause is there, no other status is answered.
-use Rattle.std.proofs.Common.{◌≡◌, ◌∙◌, refl, sym, subst, ℕ, List, ◌∷◌, Option, Some, None, Ok, Err}
+use Rattle.std.proofs.Common.{◌≡◌, ◌∙◌, refl, sym, subst, ℕ, List, ◌∷◌, true, false, Option, Some, None, Ok, Err}
 use Rattle.std.specs.Prelude.{IsSome, Result}
 use Rattle.client_script.specs.declared.script_error.ScriptError.{ScriptError}
 use Rattle.mdb_datum.specs.Bytes.{Bytes}
 use Rattle.mdb_ports.specs.Files.{Contents}
 use Rattle.mdb_schema.specs.Broken.{Broken}
 use Rattle.memdb.specs.Causes.{Finds, Reaches, CallsFor, no_command, absent, too_large, broken, broken_script, unsupported, supported}
-use Rattle.memdb.specs.Outcome.{IsFirst, IsUnsupported, Answers, HasRead, CannotRead, TooLarge, IsAnswer, done, usage, broken_schema, cannot_read, not_yet}
+use Rattle.memdb.specs.Outcome.{IsSupported, IsUnsupported, Answers, HasRead, CannotRead, TooLarge, IsAnswer, done, usage, broken_schema, cannot_read, not_yet}
 use Rattle.memdb.specs.Outcome as outcome
 use Rattle.memdb.specs.Words.{Named, files_named, in_order}
 use Rattle.memdb.specs.inner.Judged.{Judged, answered, JudgedRead, inputs_read, schema_broken, script_broken}
@@ -91,6 +91,9 @@ never_both read inputs e f g = let h : Ok inputs ≡ Err e = sym f ∙ g in cc
 never_mixed : (read : Result Inputs LoadError) (rule : Broken) (client : ℕ) (why : ScriptError) → read ≡ Err (Schema (schema_error rule)) → read ≡ Err (Script client why) → ⊥
 never_mixed read rule client why e f = let h : Err (Schema (schema_error rule)) ≡ Err (Script client why) = sym e ∙ f in cc
 
+never_split : (inputs : Inputs) → IsUnsupported inputs → IsSupported inputs → ⊥
+never_split inputs u s = let h : true ≡ false = sym u ∙ s in cc
+
 broken_first : (names : List Bytes) (read : Result Inputs LoadError) (status : ℕ) (text : Bytes) (rule : Broken) → JudgedRead names read status text → read ≡ Err (Schema (schema_error rule)) → status ≡ 2
 broken_first names read status text rule (inputs_read i e j) b = absurd (never_both read i _ e b)
 broken_first names read status text rule (schema_broken is r e says) b = is
@@ -103,17 +106,17 @@ script_next names read status text client why (script_broken is k w e says) b = 
 
 unsupported_next : (names : List Bytes) (read : Result Inputs LoadError) (status : ℕ) (text : Bytes) (inputs : Inputs) → JudgedRead names read status text → read ≡ Ok inputs → IsUnsupported inputs → status ≡ 8
 unsupported_next names read status text inputs (inputs_read i e (answered is a)) f u =
-    absurd (subst (λ (x : Inputs). IsUnsupported x) (ok_once read inputs i f e) u a.table a.field a.supported)
+    absurd (never_split i (subst (λ (x : Inputs). IsUnsupported x) (ok_once read inputs i f e) u) a.supported)
 unsupported_next names read status text inputs (inputs_read i e (judged.unsupported is v says)) f u = is
 unsupported_next names read status text inputs (schema_broken is rule e says) f u = absurd (never_both read inputs _ f e)
 unsupported_next names read status text inputs (script_broken is k w e says) f u = absurd (never_both read inputs _ f e)
 
-supported_last : (names : List Bytes) (read : Result Inputs LoadError) (status : ℕ) (text : Bytes) (inputs : Inputs) (table field : Bytes) → JudgedRead names read status text → read ≡ Ok inputs → IsFirst inputs table field → status ≡ 0
-supported_last names read status text inputs table field (inputs_read i e (answered is a)) f s = is
-supported_last names read status text inputs table field (inputs_read i e (judged.unsupported is v says)) f s =
-    absurd (subst (λ (x : Inputs). IsUnsupported x) (ok_once read i inputs e f) v table field s)
-supported_last names read status text inputs table field (schema_broken is rule e says) f s = absurd (never_both read inputs _ f e)
-supported_last names read status text inputs table field (script_broken is k w e says) f s = absurd (never_both read inputs _ f e)
+supported_last : (names : List Bytes) (read : Result Inputs LoadError) (status : ℕ) (text : Bytes) (inputs : Inputs) → JudgedRead names read status text → read ≡ Ok inputs → IsSupported inputs → status ≡ 0
+supported_last names read status text inputs (inputs_read i e (answered is a)) f s = is
+supported_last names read status text inputs (inputs_read i e (judged.unsupported is v says)) f s =
+    absurd (never_split inputs (subst (λ (x : Inputs). IsUnsupported x) (ok_once read i inputs e f) v) s)
+supported_last names read status text inputs (schema_broken is rule e says) f s = absurd (never_both read inputs _ f e)
+supported_last names read status text inputs (script_broken is k w e says) f s = absurd (never_both read inputs _ f e)
 
 -- ---- each cause
 
@@ -168,5 +171,20 @@ called_for words seen status called text a (broken_script is named client rule f
     script_next named.clients _ status text client rule (read_judged words seen status text named _ a f plain) refl ∙ sym is
 called_for words seen status called text a (unsupported is named inputs f u plain) =
     unsupported_next named.clients _ status text inputs (read_judged words seen status text named _ a f plain) refl u ∙ sym is
-called_for words seen status called text a (supported is named inputs table field f s plain) =
-    supported_last named.clients _ status text inputs table field (read_judged words seen status text named _ a f plain) refl s ∙ sym is
+called_for words seen status called text a (supported is named inputs f s plain) =
+    supported_last named.clients _ status text inputs (read_judged words seen status text named _ a f plain) refl s ∙ sym is
+
+-- ---- status 8
+
+two_statuses : (status a b : ℕ) → status ≡ a → status ≡ b → a ≡ b
+two_statuses status a b e f = sym e ∙ f
+
+-- `not yet` is told where a line has one of the six words, and nowhere else
+pub only_not_yet : (words : List Bytes) (seen : Observed) (status : ℕ) (text : Bytes) → IsAnswer words seen status text → status ≡ 8 → outcome.NotYet words seen text
+only_not_yet words seen status text (done is d) e = let h = two_statuses status 0 8 is e in cc
+only_not_yet words seen status text (usage is u) e = let h = two_statuses status 1 8 is e in cc
+only_not_yet words seen status text (broken_schema is b) e = let h = two_statuses status 2 8 is e in cc
+only_not_yet words seen status text (outcome.broken_script is b) e = let h = two_statuses status 3 8 is e in cc
+only_not_yet words seen status text (cannot_read is r) e = let h = two_statuses status 5 8 is e in cc
+only_not_yet words seen status text (outcome.too_large is l) e = let h = two_statuses status 7 8 is e in cc
+only_not_yet words seen status text (not_yet is n) e = n

@@ -2,12 +2,5 @@ pub mod Answering
 pub mod CommandWords
 pub mod Converses
 pub mod Exclusion
-pub mod FirstScripts
-pub mod Forms
 pub mod Judging
-pub mod Legality
-pub mod OneIndex
-pub mod Options
-pub mod Rows
-pub mod Texts
-pub mod WorkedRows
+pub mod OneSession

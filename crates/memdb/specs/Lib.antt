@@ -1,9 +1,4 @@
 pub mod Causes
-pub mod FirstForm
-pub mod FirstScript
-pub mod Legal
 pub mod Outcome
-pub mod Reply
-pub mod Session
 pub mod Words
 pub mod inner

@@ -1,6 +1,10 @@
 -- What a run may answer, and what it then writes: a text for each status, with its cause.
-use Rattle.std.specs.Prelude.{◌≡◌, ◌<◌, ℕ, List, [], ◌∷◌, ◌++◌, length, take, All, Option, Some, None, Result, Ok, Err, codes, decimal}
+use Rattle.std.specs.Prelude.{◌≡◌, ◌<◌, ℕ, List, [], ◌∷◌, ◌++◌, length, take, Bool, true, false, Option, Some, None, Result, Ok, Err, codes, decimal}
+use Rattle.std.specs.List.{list_any}
+use Rattle.client_script.specs.Legal.{Legal}
 use Rattle.client_script.specs.Refusal.{error_word, error_line}
+use Rattle.client_script.specs.Turn.{is_of_watches}
+use Rattle.client_script.specs.declared.line.Line.{Line}
 use Rattle.client_script.specs.declared.script_error.ScriptError.{ScriptError}
 use Rattle.mdb_datum.specs.Bytes.{Bytes}
 use Rattle.mdb_datum.specs.Doc.{text}
@@ -8,9 +12,6 @@ use Rattle.mdb_datum.specs.Written.{compact}
 use Rattle.mdb_ports.specs.Sink.{Grows}
 use Rattle.mdb_schema.specs.Broken.{Broken}
 use Rattle.mdb_schema.specs.RuleWord.{rule_word}
-use Rattle.memdb.specs.FirstForm.{first_schema}
-use Rattle.memdb.specs.FirstScript.{IsFirstScript}
-use Rattle.memdb.specs.Legal.{Legal}
 use Rattle.memdb.specs.Words.{Named, files_named, in_order, usage_text}
 use Rattle.run_io.specs.Inputs.{schema_error}
 use Rattle.run_io.specs.Loads as load
@@ -22,20 +23,22 @@ use Rattle.run_io.specs.declared.load_error.LoadError.TheVariants.{Schema, Scrip
 
 -- ---- what the inputs of a command are
 
--- inputs of the first form, over a table and the member under its index `id`
-pub record IsFirst (inputs : Inputs) (table field : Bytes) : Type 0 where
-  pub schema : inputs.schema ≡ first_schema table field
-  pub scripts : All (IsFirstScript table field) inputs.scripts
+-- whether a line's first word is one of the six of watches: `watch`, `check`, `add`, `add-limit`,
+-- `size` and `wait`
+abbrev pub has_watches : List Line → Bool
+has_watches lines = list_any (λ (l : Line). is_of_watches l.command) lines
 
--- inputs that aren't supported
+-- inputs are supported where no script has such a line
+abbrev pub IsSupported : Inputs → Type 0
+IsSupported inputs = list_any has_watches inputs.scripts ≡ false
+
+-- and aren't where one has
 abbrev pub IsUnsupported : Inputs → Type 0
-IsUnsupported inputs = (table field : Bytes) → IsFirst inputs table field → ⊥
+IsUnsupported inputs = list_any has_watches inputs.scripts ≡ true
 
 -- a legal output for the inputs, where the clients' files have these names
 pub record Answers (names : List Bytes) (inputs : Inputs) (text : Bytes) : Type 0 where
-  pub table : Bytes
-  pub field : Bytes
-  pub supported : IsFirst inputs table field
+  pub supported : IsSupported inputs
   pub legal : Legal inputs.schema names inputs.scripts text
 
 -- ---- the texts
@@ -123,7 +126,7 @@ pub record TooLarge (words : List Bytes) (seen : Observed) (text : Bytes) : Type
   pub cause : load.IsPastLimit seen (in_order named) file
   pub says : text ≡ name_line (codes "too large ") cause.name
 
--- status 8: the schema and the scripts are lawful, and they aren't supported
+-- status 8: the schema and the scripts are lawful, and a line has one of the six words of watches
 pub record NotYet (words : List Bytes) (seen : Observed) (text : Bytes) : Type 0 where
   pub named : Named
   pub inputs : Inputs

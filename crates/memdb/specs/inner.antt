@@ -1,9 +1,5 @@
 pub mod CommandLine
 pub mod FilesOf
-pub mod FirstParts
-pub mod Form
 pub mod Judged
 pub mod NamedOf
-pub mod ReplyOf
-pub mod Single
 pub mod ToldOf

@@ -2,21 +2,19 @@
 //!
 //! [`run::run`] is the top call, and its contract is what the program promises: whatever the files
 //! hold, an answer of 0 says that the bytes written are answers in one history, and every other
-//! answer has its cause. The modules below it read the words, judge the schema and the script, carry
-//! the script out, and say what is written; `run_io` loads the files and writes the text. `main`
+//! answer has its cause. The modules below it read the words, run the client's session on a database
+//! (`client_session`), and say what is written; `run_io` loads the files and writes the text. `main`
 //! hands it the real files and the real output, of which nothing is claimed but counts and causes.
 #![tactic(auto)]
 
 mod answers;
-mod first_parts;
-mod form;
 mod judge;
 mod outcome;
 mod output;
-mod reply;
 mod run;
 #[cfg(test)]
 mod tests;
+mod watch_lines;
 mod words;
 
 use mdb_datum::Text;

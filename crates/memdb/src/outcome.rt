@@ -11,14 +11,21 @@ use crate::judge::judge;
 use crate::output::{Output, broken_schema, broken_script, cannot_read, too_large, usage};
 use crate::words::Named;
 use mdb_datum::Text;
-use mdb_ports::Files;
+use mdb_ports::{Files, Gate};
 use mdb_schema::SchemaError;
 use run_io::{LoadError, load};
 use std::alloc::{AllocError, Global};
+use std::sync::Wait;
 
 /// The output for words and the files that they name. Words that are no command touch no file. It
 /// takes memory for the files' bytes, the scripts and the text.
-pub fn outcome<F: Files>(alloc: Global, words: &[Text], files: &mut F) -> Result<Output, AllocError>
+pub fn outcome<R: Wait, F: Files, G: Gate>(
+    rt: &R,
+    alloc: Global,
+    words: &[Text],
+    files: &mut F,
+    gate: &G,
+) -> Result<Output, AllocError>
     ensures stays { let seen = observed (F.told files.old) (F.reliable files.old)
         (F.faults files.old) (F.faults files.new) in
         Stays seen (F.told files.new) (F.reliable files.new) }
@@ -28,13 +35,19 @@ pub fn outcome<F: Files>(alloc: Global, words: &[Text], files: &mut F) -> Result
     ensures untouched { files_named words.now ≡ None → files.new ≡ files.old }
 {
     match Named::of(alloc, words)? {
-        Some(named) => Ok(loaded(alloc, &named, files)?),
+        Some(named) => Ok(loaded(rt, alloc, &named, files, gate)?),
         None => Ok(usage(alloc)?),
     }
 }
 
 /// The output for the files that a command names.
-fn loaded<F: Files>(alloc: Global, named: &Named, files: &mut F) -> Result<Output, AllocError>
+fn loaded<R: Wait, F: Files, G: Gate>(
+    rt: &R,
+    alloc: Global,
+    named: &Named,
+    files: &mut F,
+    gate: &G,
+) -> Result<Output, AllocError>
     ensures stays { let seen = observed (F.told files.old) (F.reliable files.old)
         (F.faults files.old) (F.faults files.new) in
         Stays seen (F.told files.new) (F.reliable files.new) }
@@ -44,7 +57,7 @@ fn loaded<F: Files>(alloc: Global, named: &Named, files: &mut F) -> Result<Outpu
         → IsAnswer words seen output.status output.text.items) }
 {
     match load(alloc, files, &named.schema, &named.clients) {
-        Ok(inputs) => Ok(judge(alloc, named.client(), &inputs)?),
+        Ok(inputs) => Ok(judge(rt, alloc, gate, named.client(), inputs)?),
         Err(error) => Ok(told(alloc, named, error)?),
     }
 }

@@ -6,7 +6,6 @@ ghost use Rattle.mdb_datum.specs.Written.{compact};
 ghost use Rattle.memdb.specs.Outcome.{name_line, name_part, line_part, broken_text, script_text, not_yet_text};
 ghost use Rattle.memdb.specs.Words.{usage_text};
 
-use crate::reply::write_number;
 use client_script::ScriptError;
 use mdb_datum::{Datum, Text, write_doc};
 use mdb_schema::SchemaRule;
@@ -146,7 +145,7 @@ pub fn too_large(alloc: Global, name: &Text) -> Result<Output, AllocError>
     })
 }
 
-/// The schema and the scripts aren't supported.
+/// A line has one of the six words of watches, which aren't supported.
 pub fn not_yet(alloc: Global) -> Result<Output, AllocError>
     ensures { IfOk result (λ output. (output.status ≡ 8) × (output.text.items ≡ not_yet_text)) }
 {
@@ -164,4 +163,12 @@ fn name_line(alloc: Global, what: &[u8], name: &Text) -> Result<Vec<u8>, AllocEr
     line.extend_from_slice(name.as_str().as_bytes())?;
     line.push(b'\n')?;
     Ok(line)
+}
+
+/// Adds a number in decimal.
+pub fn write_number(number: u64, out: &mut Vec<u8>) -> Result<(), AllocError>
+    ensures { OnOk result (out.new.items ≡ out.old.items ++ decimal number) }
+{
+    let mut buffer = itoa::Buffer::new();
+    out.extend_from_slice(buffer.format(number).as_bytes())
 }

@@ -27,16 +27,17 @@ use std::thread::Threads;
 /// - 5: a file can't be read, and `cannot read NAME` was written;
 /// - 6: the sink failed, and the beginning of a text was written;
 /// - 7: a file has more than 1,048,576 bytes, and `too large NAME` was written;
-/// - 8: the schema and the script are lawful, but aren't supported, and `not yet` was written.
+/// - 8: the schema and the script are lawful, but a line has one of the words `watch`, `check`,
+///   `add`, `add-limit`, `size` and `wait`, which aren't supported, and `not yet` was written.
 ///
-/// One client is run, which waits for nobody: the runtime and the gate are not used.
+/// One client is run. The gate is passed at each line of its script.
 pub fn run<R: Threads + Wait + Sync, F: Files, S: Sink, G: Gate + Sync>(
-    _rt: &R,
+    rt: &R,
     alloc: Global,
     words: &[Text],
     files: &mut F,
     out: &mut S,
-    _gate: &G,
+    gate: &G,
 ) -> u8
     // What was written, and why.
     ensures answered { let seen = observed (F.told files.old) (F.reliable files.old)
@@ -80,7 +81,7 @@ pub fn run<R: Threads + Wait + Sync, F: Files, S: Sink, G: Gate + Sync>(
         Stays seen (F.told files.new) (F.reliable files.new)
         × (files_named words.now ≡ None → files.new ≡ files.old) }
 {
-    let output = match outcome(alloc, words, files) {
+    let output = match outcome(rt, alloc, words, files, gate) {
         Ok(output) => output,
         Err(AllocError) => return 4,
     };

@@ -1,10 +1,13 @@
-//! The top call over files and a sink in memory: the worked runs, and a failure at each call and
-//! each allocation.
+//! The top call over files and a sink in memory: worked sessions, each status with its text, and a
+//! failure at each call and each allocation.
 use super::*;
 use mdb_ports::{CallList, FileList, MemFiles, MemSink};
 use std::sync::Wait;
 use std::test::Fail;
 use std::thread::Threads;
+
+mod catalogue;
+mod sessions;
 
 const SCHEMA: &str = r#"{"memdb":1,"tables":{"t":{"indexes":{
 "id":{"unique":true,"indexer":{"kind":"text","field":"name"}}}}}}"#;
@@ -29,6 +32,13 @@ const TWO_TABLES: &str = r#"{"memdb":1,"tables":{
 
 const NO_ID: &str = r#"{"memdb":1,"tables":{"t":{"indexes":{
 "x":{"indexer":{"kind":"text","field":"a"}}}}}}"#;
+
+const COMMON_ID: &str = r#"{"memdb":1,"tables":{"t":{"indexes":{
+"id":{"indexer":{"kind":"text","field":"a"}}}}}}"#;
+
+const PREFIX_NAME: &str = r#"{"memdb":1,"tables":{"t":{"indexes":{
+"id":{"unique":true,"indexer":{"kind":"text","field":"a"}},
+"x_prefix":{"indexer":{"kind":"text","field":"a"}}}}}}"#;
 
 const BAD_INDEX: &str = r#"{"memdb":1,"tables":{"t":{"indexes":{"a\"b\u0001\n":1,"id":1}}}}"#;
 
@@ -70,13 +80,26 @@ const TWICE_OUT: &str = r#"client 1 c1
 6: row {"name":"ann"}
 "#;
 
+const GAP_OUT: &str = "client 1 c1\n1: write @0\n3: refused write-open\n";
+
+const NO_UUID_OUT: &str = r#"client 1 c1
+1: write @0
+2: refused bad-uuid id
+3: commit @1
+4: read @1
+5: refused bad-uuid
+6: refused bad-uuid
+"#;
+
 /// Words that are no command.
-const NO_COMMANDS: [&str; 4] = ["run S", "run S c1 c1", "run -x c1", "make 1 2 3"];
+const NO_COMMANDS: [&str; 5] = ["", "run S", "run S c1 c1", "run -x c1", "make 1 65 3"];
 
 const ENDS: &str = "client 1 c1\n1: write @0\n2: commit @1\n3: read @1\n";
 
+const NO_LINES: &str = "client 1 c1\n";
+
 /// A schema and a script, and the status and the text of their run.
-const CASES: [(&str, &str, u8, &str); 16] = [
+const CASES: [(&str, &str, u8, &str); 15] = [
     (SCHEMA, ANN, 0, ANN_OUT),
     (DEFAULTS, ANN, 0, ANN_OUT),
     (SCHEMA, TWICE, 0, TWICE_OUT),
@@ -90,18 +113,43 @@ const CASES: [(&str, &str, u8, &str); 16] = [
         2,
         "schema bad-name \"t\" \"a\\\"b\\u0001\\n\"\n",
     ),
-    (SCHEMA, "", 8, "not yet\n"),
-    (SCHEMA, "commit\n", 8, "not yet\n"),
-    (SCHEMA, "write\n\ncommit\nread\n", 8, "not yet\n"),
-    (SCHEMA, "write\ncommit\nread\nend\n", 8, "not yet\n"),
-    (FOLDED, ANN, 8, "not yet\n"),
-    (BY_UUID, ANN, 8, "not yet\n"),
-    (TWO_INDEXES, ANN, 8, "not yet\n"),
-    (TWO_TABLES, ANN, 8, "not yet\n"),
+    (SCHEMA, "", 0, NO_LINES),
+    (
+        SCHEMA,
+        "commit\n",
+        0,
+        "client 1 c1\n1: refused no-transaction\n",
+    ),
+    (SCHEMA, "write\n\nend\n", 0, GAP_OUT),
+    (FOLDED, ANN, 0, ANN_OUT),
+    (BY_UUID, ANN, 0, NO_UUID_OUT),
+    (TWO_INDEXES, ANN, 0, ANN_OUT),
+    (TWO_TABLES, ANN, 0, ANN_OUT),
+];
+
+const KEPT_NAMES: &str = "client 1 c1\n1: write @0\n2: deferred\n3: snapshot @0+\n4: rows 0\n";
+
+/// Scripts, and whether one of their lines has one of the words of watches as its first.
+const WATCHES: [(&str, u8, &str); 11] = [
+    ("watch w first t id\n", 8, "not yet\n"),
+    ("watch w in s first t id\n", 8, "not yet\n"),
+    ("check w\n", 8, "not yet\n"),
+    ("add s w\n", 8, "not yet\n"),
+    ("add-limit s 1 v w\n", 8, "not yet\n"),
+    ("size s\n", 8, "not yet\n"),
+    ("wait s\n", 8, "not yet\n"),
+    ("wait s until w", 8, "not yet\n"),
+    ("write\ncommit\n\n\tcheck w\nread\n", 8, "not yet\n"),
+    ("#watch\n# wait s\n", 0, NO_LINES),
+    (
+        "write\ndefer watch w\nsnapshot wait\nin wait get t id\n",
+        0,
+        KEPT_NAMES,
+    ),
 ];
 
 /// A schema and a script of which the rule that is told is broken: the schema's comes first.
-const BROKEN: [(&str, &str, u8, &str); 7] = [
+const BROKEN: [(&str, &str, u8, &str); 11] = [
     (
         SCHEMA,
         "write\nwrites\n",
@@ -112,13 +160,17 @@ const BROKEN: [(&str, &str, u8, &str); 7] = [
     (SCHEMA, "\n\nwait a.b\n", 3, "script 1 line 3 bad-name\n"),
     (SCHEMA, "insert t {", 3, "script 1 line 1 bad-doc\n"),
     (SCHEMA, "wait\ninsert t {", 3, "script 1 line 1 bad-shape\n"),
+    (SCHEMA, "check w\nwait\n", 3, "script 1 line 2 bad-shape\n"),
+    (NO_ID, "check w\n", 2, "schema no-id \"t\"\n"),
+    (COMMON_ID, "", 2, "schema id-not-unique \"t\" \"id\"\n"),
+    (PREFIX_NAME, "", 2, "schema bad-name \"t\" \"x_prefix\"\n"),
     (NO_ID, "commit\n", 2, "schema no-id \"t\"\n"),
     (NO_ID, "wait\n", 2, "schema no-id \"t\"\n"),
 ];
 
 fn parted(alloc: Global, text: &str) -> Result<Vec<Text>, AllocError> {
     let mut words = Vec::new(alloc);
-    for word in text.split(' ') {
+    for word in text.split_terminator(' ') {
         words.push(Text::of(alloc, word)?)?;
     }
     Ok(words)
@@ -154,8 +206,27 @@ fn failing(alloc: Global, call: u64) -> Result<CallList, AllocError> {
     Ok(calls)
 }
 
-/// Runs words over files, where a call of the files and one of the sink may fail, the sink taking 7
-/// bytes a call. Gives the status and the sink; want of memory is an error.
+/// A sink that takes 7 bytes a call, of which one may fail.
+fn sink(alloc: Global, call: u64) -> Result<MemSink, AllocError> {
+    MemSink::of(alloc, 4096, 7, failing(alloc, call)?)
+}
+
+/// Runs words over files. Gives the status and the sink.
+fn run_on<R: Threads + Wait + Sync>(
+    rt: &R,
+    alloc: Global,
+    words: &[Text],
+    files: MemFiles,
+    out: MemSink,
+) -> (u8, MemSink) {
+    let mut files = files;
+    let mut out = out;
+    let status = run::run(rt, alloc, words, &mut files, &mut out, &OpenGate);
+    (status, out)
+}
+
+/// Runs words over files, where a call of the files and one of the sink may fail. Gives the status
+/// and the sink.
 fn run_over<R: Threads + Wait + Sync>(
     rt: &R,
     alloc: Global,
@@ -164,13 +235,16 @@ fn run_over<R: Threads + Wait + Sync>(
     calls: (u64, u64),
 ) -> Result<(u8, MemSink), AllocError> {
     let words = parted(alloc, words)?;
-    let mut files = MemFiles::of(files, failing(alloc, calls.0)?);
-    let mut out = MemSink::of(alloc, 4096, 7, failing(alloc, calls.1)?)?;
-    let status = run::run(rt, alloc, &words, &mut files, &mut out, &OpenGate);
-    if status == 4 && out.bytes().is_empty() {
-        return Err(AllocError);
+    let files = MemFiles::of(files, failing(alloc, calls.0)?);
+    Ok(run_on(rt, alloc, &words, files, sink(alloc, calls.1)?))
+}
+
+/// What was written under a status. Want of memory is an error.
+fn written(status: u8, out: &MemSink) -> Result<&[u8], AllocError> {
+    match out.bytes() {
+        [] if status == 4 => Err(AllocError),
+        bytes => Ok(bytes),
     }
-    Ok((status, out))
 }
 
 /// Whether that run ends with a status and a text.
@@ -182,7 +256,24 @@ fn ends<R: Threads + Wait + Sync>(
     want: (u8, &str),
 ) -> Result<bool, AllocError> {
     let (status, out) = run_over(rt, alloc, words, files, (0, 0))?;
-    Ok(status == want.0 && out.bytes() == want.1.as_bytes())
+    Ok(written(status, &out)? == want.1.as_bytes() && status == want.0)
+}
+
+/// Whether the run of a schema and a script ends with a status and a text.
+fn is_answered<R: Threads + Wait + Sync>(
+    rt: &R,
+    alloc: Global,
+    schema: &str,
+    client: &str,
+    want: (u8, &str),
+) -> Result<bool, AllocError> {
+    ends(
+        rt,
+        alloc,
+        "run S c1",
+        two_files(alloc, schema, client)?,
+        want,
+    )
 }
 
 #[test]
@@ -198,9 +289,17 @@ fn words_that_are_no_command_give_the_usage(rt: HostRuntime) -> Result<(), Fail>
 #[test]
 fn a_schema_and_a_script_are_answered(rt: HostRuntime) -> Result<(), Fail> {
     for (schema, client, status, out) in &CASES {
-        let files = two_files(rt.alloc(), schema, client)?;
-        let holds = ends(&rt, rt.alloc(), "run S c1", files, (*status, out))?;
+        let holds = is_answered(&rt, rt.alloc(), schema, client, (*status, out))?;
         assert!(rt; holds, "{out}");
+    }
+    Ok(())
+}
+
+#[test]
+fn lines_of_watches_are_not_yet_supported(rt: HostRuntime) -> Result<(), Fail> {
+    for (client, status, out) in &WATCHES {
+        let holds = is_answered(&rt, rt.alloc(), SCHEMA, client, (*status, out))?;
+        assert!(rt; holds, "{client}");
     }
     Ok(())
 }
@@ -208,8 +307,7 @@ fn a_schema_and_a_script_are_answered(rt: HostRuntime) -> Result<(), Fail> {
 #[test]
 fn the_first_rule_that_is_broken_is_told(rt: HostRuntime) -> Result<(), Fail> {
     for (schema, client, status, out) in &BROKEN {
-        let files = two_files(rt.alloc(), schema, client)?;
-        let holds = ends(&rt, rt.alloc(), "run S c1", files, (*status, out))?;
+        let holds = is_answered(&rt, rt.alloc(), schema, client, (*status, out))?;
         assert!(rt; holds, "{out}");
     }
     Ok(())
@@ -276,7 +374,7 @@ fn is_told<R: Threads + Wait + Sync>(
     text: &str,
 ) -> Result<bool, AllocError> {
     let (found, out) = run_ann(rt, alloc, (call, 0))?;
-    Ok(found == status && out.bytes() == text.as_bytes())
+    Ok(written(found, &out)? == text.as_bytes() && found == status)
 }
 
 /// Each file takes two calls: its bytes, and its end.
@@ -301,7 +399,7 @@ fn a_call_of_the_files_that_fails_is_told(rt: HostRuntime) -> Result<(), Fail> {
 fn is_cut<R: Threads + Wait + Sync>(rt: &R, alloc: Global, taken: u8) -> Result<bool, AllocError> {
     let (status, out) = run_ann(rt, alloc, (0, u64::from(taken) + 1))?;
     let held = usize::from(taken) * 7;
-    Ok(status == 6 && Some(out.bytes()) == ANN_OUT.as_bytes().get(..held))
+    Ok(Some(written(status, &out)?) == ANN_OUT.as_bytes().get(..held) && status == 6)
 }
 
 // The text of 98 bytes takes 14 calls.
@@ -314,7 +412,14 @@ fn a_call_of_the_sink_that_fails_leaves_the_front(rt: HostRuntime) -> Result<(),
     Ok(())
 }
 
-/// Whether the run over a file of so many bytes, beside a schema, ends with a status and a text.
+/// A text of 99,999 empty lines and a comment of so many bytes.
+fn long_text(alloc: Global, bytes: usize) -> Result<String, AllocError> {
+    let mut text = "\n".repeat(alloc, 99_999)?;
+    text.push_str(&"#".repeat(alloc, bytes)?)?;
+    Ok(text)
+}
+
+/// Whether the run over such a file, beside a schema, ends with a status and a text.
 fn is_long<R: Threads + Wait + Sync>(
     rt: &R,
     alloc: Global,
@@ -322,34 +427,42 @@ fn is_long<R: Threads + Wait + Sync>(
     bytes: usize,
     want: (u8, &str),
 ) -> Result<bool, AllocError> {
-    let text = "#".repeat(alloc, bytes)?;
-    let mut files = one_file(alloc, name, text.as_str())?;
+    let mut files = one_file(alloc, name, &long_text(alloc, bytes)?)?;
     list(alloc, &mut files, "S", SCHEMA)?;
     ends(rt, alloc, "run S c1", files, want)
 }
 
 #[test]
 fn a_client_past_the_limit_is_told(rt: HostRuntime) -> Result<(), Fail> {
-    let at = is_long(&rt, rt.alloc(), "c1", 1_048_576, (8, "not yet\n"))?;
+    let at = is_long(&rt, rt.alloc(), "c1", 948_577, (0, NO_LINES))?;
     assert!(rt; at);
-    let past = is_long(&rt, rt.alloc(), "c1", 1_048_577, (7, "too large c1\n"))?;
+    let past = is_long(&rt, rt.alloc(), "c1", 948_578, (7, "too large c1\n"))?;
     assert!(rt; past);
     Ok(())
 }
 
 #[test]
 fn a_schema_past_the_limit_is_told(rt: HostRuntime) -> Result<(), Fail> {
-    let past = is_long(&rt, rt.alloc(), "S", 1_048_577, (7, "too large S\n"))?;
+    let past = is_long(&rt, rt.alloc(), "S", 948_578, (7, "too large S\n"))?;
     assert!(rt; past);
     Ok(())
+}
+
+/// Whether a run writes nothing under status 4, or else all of its text under 0.
+fn is_all_or_nothing<R: Threads + Wait + Sync>(rt: &R, alloc: Global) -> Result<bool, AllocError> {
+    let (status, out) = run_ann(rt, alloc, (0, 0))?;
+    let wanted: (u8, &[u8]) = if status == 4 {
+        (4, b"")
+    } else {
+        (0, ANN_OUT.as_bytes())
+    };
+    Ok((status, out.bytes()) == wanted)
 }
 
 // With an allocation that is refused the status is 4 and nothing is written, and else it is 0.
 #[test]
 fn a_run_that_wants_memory_writes_nothing(rt: HostRuntime) -> Result<(), Fail> {
-    let (status, out) = run_ann(&rt, rt.alloc(), (0, 0))?;
-    let held = out.bytes();
-    let holds = status == 4 && held.is_empty() || status == 0 && held == ANN_OUT.as_bytes();
+    let holds = is_all_or_nothing(&rt, rt.alloc())?;
     assert!(rt; holds);
     Ok(())
 }

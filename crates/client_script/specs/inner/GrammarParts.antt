@@ -6,8 +6,11 @@ use Rattle.mdb_datum.specs.Row.{Fields}
 use Rattle.mdb_schema.specs.Query.{Query}
 use Rattle.mdb_schema.specs.Tests.{◌>>=◌, passed}
 use Rattle.mdb_schema.specs.declared.ask.Ask.{Ask}
-use Rattle.client_script.specs.Parts.{next_word, something, nothing, name_in, row_in, limit_in, question_of, query_in}
+use Rattle.client_script.specs.Lines.{Word}
+use Rattle.client_script.specs.Parts.{Question, next_word, something, nothing, name_in, row_in, limit_in, question_of, query_in}
 use Rattle.client_script.specs.Refusal.{Ruled, bad_shape}
+use Rattle.client_script.specs.declared.command.Command.{Command}
+use Rattle.client_script.specs.declared.command.Command.TheVariants as command
 
 -- `TABLE DOC`
 abbrev pub table_and_row : Bytes → Ruled (Bytes × Fields)
@@ -17,6 +20,28 @@ table_and_row rest = do
   name ← name_in table.text
   row ← row_in doc
   Ok (name, row)
+
+-- a name and a document, as they stand in the line
+abbrev pub named_row : Bytes → Bytes → Ruled (Bytes × Fields)
+named_row table document = do
+  name ← name_in table
+  row ← row_in document
+  Ok (name, row)
+
+-- a name and a question
+abbrev pub named_query : Bytes → Question → Ruled (Bytes × Query)
+named_query word q = do
+  name ← name_in word
+  query ← query_in q
+  Ok (name, query)
+
+-- `watch NAME in NAME QUESTION`, of its two names and its question
+abbrev pub watch_kept : Bytes → Bytes → Question → Ruled Command
+watch_kept word kept q = do
+  name ← name_in word
+  snapshot ← name_in kept
+  query ← query_in q
+  Ok (command.WatchIn name snapshot query)
 
 -- `TABLE INDEX ARGS`
 abbrev pub asked_of : Ask → Bytes → Ruled Query
@@ -31,22 +56,41 @@ one_name rest = do
   end ← nothing w.rest
   name_in w.text
 
--- `SET LIMIT NAME NAME`, of which the limit alone is looked at
+-- two words, of which no more may follow
+abbrev pub two_words : Bytes → Ruled (Bytes × Bytes)
+two_words rest = do
+  first ← next_word rest
+  second ← next_word first.rest
+  end ← nothing second.rest
+  Ok (first.text, second.text)
+
+-- two names
+abbrev pub two_names : Bytes → Bytes → Ruled (Bytes × Bytes)
+two_names first second = do
+  name ← name_in first
+  other ← name_in second
+  Ok (name, other)
+
+-- `SET LIMIT NAME NAME`, of which the limit alone is looked at; first behind the set and the limit
 pub record LimitWords : Type 0 where
   pub set : Bytes
   pub limit : ℕ
   pub name : Bytes
   pub other : Bytes
 
-abbrev pub limit_words : Bytes → Ruled LimitWords
-limit_words rest = do
-  s ← next_word rest
-  l ← next_word s.rest
+abbrev pub words_behind : Bytes → Word → Ruled LimitWords
+words_behind set l = do
   w ← next_word l.rest
   o ← next_word w.rest
   end ← nothing o.rest
   limit ← limit_in l.text
-  Ok (record { set = s.text; limit = limit; name = w.text; other = o.text })
+  Ok (record { set = set; limit = limit; name = w.text; other = o.text })
+
+abbrev pub limit_words : Bytes → Ruled LimitWords
+limit_words rest = do
+  s ← next_word rest
+  l ← next_word s.rest
+  words_behind s.text l
 
 -- `until NAME`, of which the name isn't looked at
 abbrev pub until_word : Bytes → Ruled Bytes

@@ -1,6 +1,7 @@
 -- What is open, as the definitions of sessions see it.
-use Rattle.std.specs.Prelude.{◌≡◌, ◌≤◌, ◌+◌, ◌++◌, ℕ, false, [], ◌∷◌, length, map, ⊤}
+use Rattle.std.specs.Prelude.{◌≡◌, ◌≤◌, ◌+◌, ◌++◌, ℕ, false, List, [], ◌∷◌, length, map, ⊤}
 use Rattle.std.specs.List.{enumerate_from}
+use Rattle.client_session.specs.Begun.{AreAmong, number_begun}
 use Rattle.client_script.specs.Legal.{callers, number_printed}
 use Rattle.mdb_schema.specs.History.{History}
 use Rattle.mem_txn.specs.Database.{Caller, View}
@@ -10,6 +11,8 @@ use Rattle.client_script.specs.Client.{Transaction, closed, reading, writing, Cl
 use Rattle.client_script.specs.Reply.{Reply, committed}
 use Rattle.client_script.specs.Turn.{turn, outcome}
 use Rattle.client_script.specs.declared.command.Command.{Command}
+use Rattle.client_script.specs.declared.command.Command.TheVariants as command
+use Rattle.client_session.specs.Answered.{IsLater}
 use Rattle.client_session.specs.declared.open.Open.{Open}
 use Rattle.client_session.specs.declared.open.Open.TheVariants as opens
 
@@ -46,9 +49,12 @@ made caller (writing t) (committed m texts) =
     record { caller = caller; writes = t.writes } ∷ []
 made caller t r = []
 
--- the caller has seen the commit that the reply tells, and no other
+-- the caller has made the commit that the reply tells, and seen no other
 abbrev pub Grows : Caller → Caller → Transaction → Reply → Type 0
-Grows old new t r = new ≡ record old { seen = old.seen ++ made old.number t r }
+Grows old new t r = new ≡ record old {
+  seen = old.seen ++ made old.number t r;
+  own = old.own ++ made old.number t r;
+}
 
 -- a commit that is told has the next number
 abbrev pub IsNumbered : Caller → Transaction → Reply → Type 0
@@ -71,3 +77,36 @@ pub record TurnsTo (c : Command) (old new : Open) (r : Reply) : Type 0 where
   pub stands : Stands new
   pub grows : Grows (caller_of old) (caller_of new) (transaction_of old) r
   pub numbered : IsNumbered (caller_of old) (transaction_of old) r
+
+-- a transaction is open
+abbrev pub IsOpen : Open → Type 0
+IsOpen (opens.Nothing pass) = ⊥
+IsOpen (opens.Reading pass txn) = ⊤
+IsOpen (opens.Writing txn) = ⊤
+
+-- a command that begins or ends a transaction
+abbrev pub BeginsOrEnds : Command → Type 0
+BeginsOrEnds command.Read = ⊤
+BeginsOrEnds command.Write = ⊤
+BeginsOrEnds command.End = ⊤
+BeginsOrEnds command.Commit = ⊤
+BeginsOrEnds command.Abort = ⊤
+BeginsOrEnds c = ⊥
+
+-- the caller has seen more commits, of others, and read these counts; all else is as before
+pub record Looks (old new : Open) : Type 0 where
+  pub later : IsLater (caller_of old) (caller_of new)
+  pub own : (caller_of new).own ≡ (caller_of old).own
+  pub read : List ℕ
+  pub counts : (caller_of new).counts ≡ (caller_of old).counts ++ read
+  pub transaction : transaction_of new ≡ transaction_of old
+  pub stands : Stands new
+
+-- a line's turn, once the caller has seen the commits that there are by then; the number of a
+-- transaction that begins is a count that it has read
+pub record LooksAndTurns (c : Command) (old new : Open) (r : Reply) : Type 0 where
+  pub at : Open
+  pub looks : Looks old at
+  pub turns : TurnsTo c at new r
+  pub loads : (v : Client) → v.transaction ≡ transaction_of at → v.last ≤ length (caller_of at).seen
+      → AreAmong (number_begun r) looks.read

@@ -1,4 +1,5 @@
 -- Replies, as the definitions of sessions see them.
+use Rattle.std.specs.Prelude.{⊤}
 use Rattle.mdb_schema.specs.Schema.{DbSchema}
 use Rattle.mem_txn.specs.Transactions.{deferred_items}
 use Rattle.client_script.specs.Reply as said
@@ -21,3 +22,22 @@ reply_of schema (reply.Answered a) = said.answered a
 reply_of schema (reply.KeptAt n) = said.kept_at n
 reply_of schema (reply.KeptWithin n) = said.kept_within n
 reply_of schema (reply.Refused rule) = said.refused (rule_name schema rule)
+
+-- replies that are a word alone
+abbrev pub IsWord : Reply → Type 0
+IsWord reply.Ended = ⊤
+IsWord reply.Aborted = ⊤
+IsWord reply.Inserted = ⊤
+IsWord reply.Replaced = ⊤
+IsWord reply.Deleted = ⊤
+IsWord reply.Deferred = ⊤
+IsWord r = ⊥
+
+-- replies that are words and a number
+abbrev pub IsNumbered : Reply → Type 0
+IsNumbered (reply.ReadAt n) = ⊤
+IsNumbered (reply.WriteAt n) = ⊤
+IsNumbered (reply.Wiped k) = ⊤
+IsNumbered (reply.KeptAt n) = ⊤
+IsNumbered (reply.KeptWithin n) = ⊤
+IsNumbered r = ⊥

@@ -1,5 +1,5 @@
 //! Sessions over keys, notes, rules and users.
-ghost use Rattle.client_script.proofs.AloneIsLegal.{AreKnown};
+ghost use Rattle.client_script.specs.Session.{AreKnown};
 ghost use Rattle.mem_txn.specs.Database.{IsOf};
 
 use super::{Case, close, is_answered, opened, tells};
@@ -400,15 +400,10 @@ fn worked_sessions_are_answered(rt: HostRuntime) -> Result<(), Fail> {
 const ONE_COMMIT: &str = "1: write @0\n2: commit @1\n";
 
 /// Runs a session twice, and tells whether the text of its answers is this each time.
-fn tells_twice<R: Wait>(
-    rt: &R,
-    db: &mut Db,
-    session: &mut Session,
-    answers: &str,
-) -> Result<bool, Fail>
-    requires own { IsOf db.old session.old.caller }
+fn tells_twice<R: Wait>(rt: &R, db: &Db, session: &mut Session, answers: &str) -> Result<bool, Fail>
+    requires own { IsOf db.now session.old.caller }
     requires known { AreKnown session.old.script }
-    ensures { IsOf db.new session.new.caller }
+    ensures { IsOf db.now session.new.caller }
 {
     let first = tells(rt, db, session, answers)?;
     let second = tells(rt, db, session, answers)?;
@@ -417,8 +412,8 @@ fn tells_twice<R: Wait>(
 
 /// Whether a second run of a session adds no answer and no commit.
 fn is_run_once<R: Wait>(rt: &R, alloc: Global) -> Result<bool, Fail> {
-    let (mut db, passes, mut session) = opened(alloc, SCHEMA, "write\ncommit\n")?;
-    let told = tells_twice(rt, &mut db, &mut session, ONE_COMMIT);
+    let (db, passes, mut session) = opened(alloc, SCHEMA, "write\ncommit\n")?;
+    let told = tells_twice(rt, &db, &mut session, ONE_COMMIT);
     let commits = close(rt, db, passes, session);
     Ok(told? && commits == 1)
 }

@@ -1,16 +1,46 @@
--- A commit, but for the deferred items.
-use Rattle.std.specs.Prelude.{◌≡◌, ◌⊎◌, true, false, Result, Ok, Err}
-use Rattle.mem_txn.specs.Changes.{Changes, after_commit}
-use Rattle.mem_txn.specs.Database.{Caller, Database, IsOf}
-use Rattle.mem_txn.specs.Transactions.{IsAborted}
+-- The start and the end of a transaction, but for the deferred items.
+use Rattle.std.specs.Prelude.{◌≡◌, ◌⊎◌, ◌+◌, ◌^◌, ◌<◌, true, false, [], length, Result, Ok, Err}
+use Rattle.mdb_schema.specs.History.{after_writes}
+use Rattle.mem_txn.specs.Changes.{Changes, after_commit, begun, view_at}
+use Rattle.mem_txn.specs.Database.{Caller, View, state_seen}
+use Rattle.mem_txn.specs.Transactions.{changes_of, items_of}
+use Rattle.mem_txn.specs.declared.outcome.BeginRefused.{BeginRefused}
 use Rattle.mem_txn.specs.declared.outcome.CommitRefused.{CommitRefused}
+use Rattle.mem_txn.specs.declared.txn_error.BeginError.TheVariants as begin_errors
 use Rattle.mem_txn.specs.declared.txn_error.CommitError.TheVariants.{Memory, Spoiled}
+use Rattle.mem_txn.specs.declared.write_txn.WriteTxn.{WriteTxn}
+use Rattle.mem_txn.specs.inner.Versions.{Version}
 
--- the pass has seen the commit, after which the database stands; or it is refused, and exactly a
--- spoiled transaction is told so
-abbrev pub AnswersChanges : Changes → Result Caller CommitRefused → Database → Database → Type 0
-AnswersChanges t (Ok pass) old new =
-    (t.spoiled ≡ false) × (pass ≡ after_commit t) × IsOf new pass
-AnswersChanges t (Err refused) old new = IsAborted t.caller refused.pass old new
+-- why a caller with the writer's turn doesn't begin; it has its pass back
+abbrev pub RefusesTurn : Caller → BeginRefused → Type 0
+RefusesTurn p refused = (refused.pass ≡ p)
+    × ((refused.cause ≡ begin_errors.Memory)
+    ⊎ ((refused.cause ≡ begin_errors.CommitsSpent) × (length p.seen ≡ 2 ^ 63)))
+
+-- it begins without writes and items, or not
+abbrev pub AnswersTurn : {D : Type 0} → Caller → Result (WriteTxn D) BeginRefused → Type 0
+AnswersTurn p (Ok t) =
+    (length p.seen < 2 ^ 63) × (changes_of t ≡ begun p) × (items_of t ≡ [])
+AnswersTurn p (Err refused) = RefusesTurn p refused
+
+-- a transaction's value, which its commit shows
+abbrev pub next_version : Changes → Version
+next_version t = record {
+  view = view_at (length t.caller.seen + 1) t;
+  writes = t.writes;
+}
+
+-- the value is the next after what the caller has seen
+abbrev pub IsNext : Caller → Version → Type 0
+IsNext p v = v.view ≡ record {
+  schema = p.schema;
+  number = length p.seen + 1;
+  state = after_writes p.schema (state_seen p) v.writes;
+}
+
+-- the pass has made the commit; or it is refused, and exactly a spoiled transaction is told so
+abbrev pub AnswersChanges : Changes → Result Caller CommitRefused → Type 0
+AnswersChanges t (Ok pass) = (t.spoiled ≡ false) × (pass ≡ after_commit t)
+AnswersChanges t (Err refused) = (refused.pass ≡ t.caller)
     × (((t.spoiled ≡ true) × (refused.cause ≡ Spoiled))
     ⊎ ((t.spoiled ≡ false) × (refused.cause ≡ Memory)))

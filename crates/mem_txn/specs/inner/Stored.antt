@@ -1,6 +1,7 @@
 -- How the logic stores what contracts see of a database, its callers and their transactions.
 use Rattle.std.specs.Prelude.{◌≡◌, ℕ, Bool, true, false, List, refl}
 use Rattle.std.specs.Coded.{Coded, code_by, coded×, coded_ℕ, coded_bool, coded_list}
+use Rattle.atomic_table.specs.Seated.{TableId, table_id_coded}
 use Rattle.mdb_datum.specs.Row.{Fields}
 use Rattle.mdb_datum.specs.inner.Stored.{fields_code}
 use Rattle.mdb_encode.specs.Bytes.{Bytes}
@@ -14,6 +15,7 @@ use Rattle.table_index.specs.Table.{TableChange}
 use Rattle.table_index.specs.inner.Stored.{table_change_code}
 use Rattle.mem_txn.specs.Changes.{Changes}
 use Rattle.mem_txn.specs.Database.{Caller, Callers, Database, View}
+use Rattle.mem_txn.specs.inner.Versions.{Version}
 
 -- whether a write is a put, with the name of its table and its row
 abbrev pub Parts : Type 0
@@ -45,25 +47,55 @@ commit_code = code_by (ℕ × List Write) (coded× coded_ℕ writes_code)
 abbrev pub state_code : Coded State
 state_code = coded_list rows_code
 
+abbrev pub history_code : Coded History
+history_code = coded_list commit_code
+
+abbrev pub counts_code : Coded (List ℕ)
+counts_code = coded_list coded_ℕ
+
+-- a caller's number and database, its commits, and its counts and tries
+abbrev pub CallerParts : Type 0
+CallerParts = (ℕ × (TableId × DbSchema)) × ((History × History) × (List ℕ × List ℕ))
+
+abbrev pub caller_parts : Caller → CallerParts
+caller_parts c =
+    ((c.number, (c.database, c.schema)), ((c.seen, c.own), (c.counts, c.tries)))
+
+abbrev pub caller_from : CallerParts → Caller
+caller_from p = record {
+  number = p.0.0;
+  database = p.0.1.0;
+  schema = p.0.1.1;
+  seen = p.1.0.0;
+  own = p.1.0.1;
+  counts = p.1.1.0;
+  tries = p.1.1.1;
+}
+
 abbrev pub caller_code : Coded Caller
-caller_code = code_by (ℕ × (DbSchema × History))
-    (coded× coded_ℕ (coded× schema_code (coded_list commit_code)))
-    (λ c. (c.number, (c.schema, c.seen)))
-    (λ p. record { number = p.0; schema = p.1.0; seen = p.1.1 }) (λ _. refl)
+caller_code = code_by CallerParts
+    (coded× (coded× coded_ℕ (coded× table_id_coded schema_code))
+    (coded× (coded× history_code history_code) (coded× counts_code counts_code)))
+    caller_parts caller_from (λ _. refl)
 
 abbrev pub callers_code : Coded Callers
 callers_code = code_by (List Caller × ℕ) (coded× (coded_list caller_code) coded_ℕ)
     (λ c. (c.passes, c.made)) (λ p. record { passes = p.0; made = p.1 }) (λ _. refl)
 
 abbrev pub database_code : Coded Database
-database_code = code_by (DbSchema × (ℕ × State)) (coded× schema_code (coded× coded_ℕ state_code))
-    (λ d. (d.schema, (d.number, d.state)))
-    (λ p. record { schema = p.0; number = p.1.0; state = p.1.1 }) (λ _. refl)
+database_code = code_by (TableId × (ℕ × DbSchema))
+    (coded× table_id_coded (coded× coded_ℕ schema_code))
+    (λ d. (d.database, (d.callers, d.schema)))
+    (λ p. record { database = p.0; callers = p.1.0; schema = p.1.1 }) (λ _. refl)
 
 abbrev pub view_code : Coded View
 view_code = code_by (DbSchema × (ℕ × State)) (coded× schema_code (coded× coded_ℕ state_code))
     (λ v. (v.schema, (v.number, v.state)))
     (λ p. record { schema = p.0; number = p.1.0; state = p.1.1 }) (λ _. refl)
+
+abbrev pub version_code : Coded Version
+version_code = code_by (View × List Write) (coded× view_code writes_code)
+    (λ v. (v.view, v.writes)) (λ p. record { view = p.0; writes = p.1 }) (λ _. refl)
 
 abbrev pub changes_code : Coded Changes
 changes_code = code_by (Caller × (List Write × Bool))

@@ -1,10 +1,10 @@
 //! Deferred items of a type that isn't copied.
-ghost use Rattle.std.specs.Prelude.{◌≡◌, IfOk};
+ghost use Rattle.std.specs.Prelude.{◌≡◌};
 ghost use Rattle.mem_txn.specs.Database.{IsOf};
 ghost use Rattle.mem_txn.specs.Transactions.{changes_of};
 
-use super::opened;
-use crate::{Committed, Db, DeferredList, Pass, WriteTxn};
+use super::{closed, failed, opened};
+use crate::{BeginRefused, CommitRefused, Committed, Db, DeferredList, Pass, WriteTxn};
 use std::alloc::Global;
 use std::sync::Wait;
 use std::test::Fail;
@@ -30,20 +30,23 @@ fn defer_all(alloc: Global, txn: &mut WriteTxn<String>) -> bool
 fn commit_all<R: Wait>(
     rt: &R,
     alloc: Global,
-    db: &mut Db,
+    db: &Db,
     pass: Pass,
-) -> Result<(Pass, DeferredList<String>), Fail>
-    requires own { IsOf db.old pass }
-    ensures { IfOk result (λ made. IsOf db.new made.0) }
+) -> (Pass, Result<DeferredList<String>, Fail>)
+    requires own { IsOf db.now pass }
+    ensures { IsOf db.now result.0 }
 {
-    let Ok(txn) = db.write(rt, pass) else {
-        return Err(Fail::from("not begun"));
+    let txn = match db.write(rt, pass) {
+        Ok(txn) => txn,
+        Err(BeginRefused { pass, cause: _ }) => return (pass, failed()),
     };
     let mut txn = txn;
-    let _kept = defer_all(alloc, &mut txn);
+    if !defer_all(alloc, &mut txn) {
+        return (txn.abort(db), failed());
+    }
     match txn.commit(rt, db) {
-        Ok(Committed { pass, receipt }) => Ok((pass, receipt.items)),
-        Err(_) => Err(Fail::from("not committed")),
+        Ok(Committed { pass, receipt }) => (pass, Ok(receipt.items)),
+        Err(CommitRefused { pass, cause: _ }) => (pass, failed()),
     }
 }
 
@@ -71,8 +74,10 @@ fn are_placed(items: &DeferredList<String>) -> bool {
 
 /// Whether a commit hands the items out.
 fn are_handed_out<R: Wait>(rt: &R, alloc: Global) -> Result<bool, Fail> {
-    let (mut db, pass) = opened(alloc)?;
-    let (_pass, mut items) = commit_all(rt, alloc, &mut db, pass)?;
+    let (db, passes, pass) = opened(alloc)?;
+    let (pass, told) = commit_all(rt, alloc, &db, pass);
+    drop(closed(rt, db, passes, pass));
+    let mut items = told?;
     Ok(are_placed(&items) && are_taken(&mut items))
 }
 

@@ -1,11 +1,13 @@
 //! Thousands of transactions on a database and on plain lists, which answer the same.
-ghost use Rattle.std.specs.Prelude.{◌≡◌, IfOk};
+ghost use Rattle.std.specs.Prelude.{◌≡◌};
 ghost use Rattle.mem_txn.specs.Database.{IsOf};
 ghost use Rattle.mem_txn.specs.Transactions.{changes_of};
 
 use super::drawn::{Plain, QUESTIONS, Question, Random, is_alike, table_of, text_of, wipe_plain};
-use super::{opened, query_of, row_of};
-use crate::{Committed, Db, Pass, ReadTxn, Snapshot, TxnWriteError, WriteTxn};
+use super::{closed, failed, opened, query_of, row_of};
+use crate::{
+    BeginRefused, CommitRefused, Committed, Db, Pass, ReadTxn, Snapshot, TxnWriteError, WriteTxn,
+};
 use mdb_datum::Row;
 use mdb_schema::{Ask, Query, WriteError};
 use std::alloc::Global;
@@ -175,30 +177,30 @@ fn operate_often(
 }
 
 /// Ends a transaction by its commit or its abort.
-pub fn end<R: Wait>(rt: &R, commits: bool, db: &mut Db, txn: WriteTxn<u8>) -> Result<Pass, Fail>
-    requires own { IsOf db.old (changes_of txn).caller }
-    ensures { IfOk result (λ pass. IsOf db.new pass) }
+pub fn end<R: Wait>(rt: &R, commits: bool, db: &Db, txn: WriteTxn<u8>) -> (Pass, Result<bool, Fail>)
+    requires own { IsOf db.now (changes_of txn).caller }
+    ensures { IsOf db.now result.0 }
 {
     if !commits {
-        return Ok(txn.abort(db));
+        return (txn.abort(db), Ok(true));
     }
     match txn.commit(rt, db) {
-        Ok(Committed { pass, .. }) => Ok(pass),
-        Err(_) => Err(Fail::from("no memory")),
+        Ok(Committed { pass, receipt: _ }) => (pass, Ok(true)),
+        Err(CommitRefused { pass, cause: _ }) => (pass, failed()),
     }
 }
 
-/// Runs a transaction to its end, where it is answered alike.
+/// Runs a transaction to its end, and tells whether it is answered alike.
 fn run_begun<R: Wait>(
     rt: &R,
     alloc: Global,
     random: &mut Random,
-    db: &mut Db,
+    db: &Db,
     txn: WriteTxn<u8>,
     plain: &mut Plain,
-) -> Result<Pass, Fail>
-    requires own { IsOf db.old (changes_of txn).caller }
-    ensures { IfOk result (λ pass. IsOf db.new pass) }
+) -> (Pass, Result<bool, Fail>)
+    requires own { IsOf db.now (changes_of txn).caller }
+    ensures { IsOf db.now result.0 }
 {
     let mut txn = txn;
     let mut after = *plain;
@@ -210,18 +212,7 @@ fn run_begun<R: Wait>(
             }
             end(rt, commits, db, txn)
         }
-        told => {
-            drop(txn.abort(db));
-            Err(cause_of(told))
-        }
-    }
-}
-
-/// Why a transaction is given up.
-pub fn cause_of(told: Result<bool, Fail>) -> Fail {
-    match told {
-        Ok(_) => Fail::from("another answer"),
-        Err(fail) => fail,
+        told => (txn.abort(db), told),
     }
 }
 
@@ -230,86 +221,122 @@ fn run_both<R: Wait>(
     rt: &R,
     alloc: Global,
     random: &mut Random,
-    db: &mut Db,
+    db: &Db,
     pass: Pass,
     plain: &mut Plain,
-) -> Result<Pass, Fail>
-    requires own { IsOf db.old pass }
-    ensures { IfOk result (λ pass. IsOf db.new pass) }
+) -> (Pass, Result<bool, Fail>)
+    requires own { IsOf db.now pass }
+    ensures { IsOf db.now result.0 }
 {
     match db.write(rt, pass) {
         Ok(txn) => run_begun(rt, alloc, random, db, txn, plain),
-        Err(_) => Err(Fail::from("no memory")),
+        Err(BeginRefused { pass, cause: _ }) => (pass, failed()),
     }
 }
 
-/// Runs a transaction, and tells whether the rows after it are alike.
+/// Whether the rows that are read now are alike.
+pub fn reads_alike<R: Wait>(
+    rt: &R,
+    alloc: Global,
+    db: &Db,
+    pass: &mut Pass,
+    plain: &Plain,
+) -> Result<bool, Fail>
+    requires own { IsOf db.now pass.old }
+    ensures { IsOf db.now pass.new }
+{
+    let read = db.read(rt, pass)?;
+    are_read(alloc, &read, plain)
+}
+
+/// Runs a transaction, and tells whether it and the rows after it are alike.
 fn run_read<R: Wait>(
     rt: &R,
     alloc: Global,
     random: &mut Random,
-    db: &mut Db,
+    db: &Db,
     pass: Pass,
     plain: &mut Plain,
-) -> Result<(Pass, bool), Fail>
-    requires own { IsOf db.old pass }
-    ensures { IfOk result (λ made. IsOf db.new made.0) }
+) -> (Pass, Result<bool, Fail>)
+    requires own { IsOf db.now pass }
+    ensures { IsOf db.now result.0 }
 {
-    let mut pass = run_both(rt, alloc, random, db, pass, plain)?;
-    let read = db.read(rt, &mut pass)?;
-    let same = are_read(alloc, &read, plain)?;
-    Ok((pass, same))
+    let (mut pass, told) = run_both(rt, alloc, random, db, pass, plain);
+    let told = match told {
+        Ok(true) => reads_alike(rt, alloc, db, &mut pass, plain),
+        told => told,
+    };
+    (pass, told)
 }
 
-/// Runs transactions.
+/// Runs transactions, and tells whether all are alike.
 fn run_often<R: Wait>(
     rt: &R,
     alloc: Global,
     random: &mut Random,
-    db: &mut Db,
+    db: &Db,
     pass: Pass,
     plain: &mut Plain,
     count: u64,
-) -> Result<Pass, Fail>
-    requires own { IsOf db.old pass }
-    ensures { IfOk result (λ p. IsOf db.new p) }
+) -> (Pass, Result<bool, Fail>)
+    requires own { IsOf db.now pass }
+    ensures { IsOf db.now result.0 }
 {
     let mut pass = pass;
     for _ in 0..count {
-        let (next, same) = run_read(rt, alloc, random, db, pass, plain)?;
-        if !same {
-            return Err(Fail::from("other rows"));
-        }
+        let (next, told) = run_read(rt, alloc, random, db, pass, plain);
         pass = next;
+        match told {
+            Ok(true) => {}
+            told => return (pass, told),
+        }
     }
-    Ok(pass)
+    (pass, Ok(true))
 }
 
 /// A snapshot of a snapshot.
-fn kept_of<R: Wait>(rt: &R, db: &mut Db, pass: &mut Pass) -> Result<ReadTxn, Fail>
-    requires own { IsOf db.old pass.old }
-    ensures { IfOk result (λ _. IsOf db.new pass.new) }
+fn kept_of<R: Wait>(rt: &R, db: &Db, pass: &mut Pass) -> Result<ReadTxn, Fail>
+    requires own { IsOf db.now pass.old }
+    ensures { IsOf db.now pass.new }
 {
     let read = db.read(rt, pass)?;
     Ok(read.snapshot()?.snapshot()?)
 }
 
 /// Runs transactions, and tells whether a snapshot stays as it is over the later ones.
-fn is_kept_long<R: Wait>(rt: &R, alloc: Global, db: &mut Db, pass: Pass) -> Result<bool, Fail>
-    requires own { IsOf db.old pass }
+fn is_kept_long<R: Wait>(rt: &R, alloc: Global, db: &Db, pass: Pass) -> (Pass, Result<bool, Fail>)
+    requires own { IsOf db.now pass }
+    ensures { IsOf db.now result.0 }
 {
     let mut random = Random(0x9e37_79b9_7f4a_7c15);
     let mut plain: Plain = [None; 12];
-    let mut pass = run_often(rt, alloc, &mut random, db, pass, &mut plain, 100)?;
+    let (mut pass, first) = run_often(rt, alloc, &mut random, db, pass, &mut plain, 100);
+    match first {
+        Ok(true) => {}
+        told => return (pass, told),
+    }
     let before = plain;
-    let kept = kept_of(rt, db, &mut pass)?;
-    drop(run_often(rt, alloc, &mut random, db, pass, &mut plain, 4_000)?);
-    are_read(alloc, &kept, &before)
+    let kept = match kept_of(rt, db, &mut pass) {
+        Ok(kept) => kept,
+        Err(fail) => return (pass, Err(fail)),
+    };
+    let (pass, next) = run_often(rt, alloc, &mut random, db, pass, &mut plain, 4_000);
+    match next {
+        Ok(true) => (pass, are_read(alloc, &kept, &before)),
+        told => (pass, told),
+    }
+}
+
+/// Whether a long run in a new database is as on plain lists.
+fn is_alike_long<R: Wait>(rt: &R, alloc: Global) -> Result<bool, Fail> {
+    let (db, passes, pass) = opened(alloc)?;
+    let (pass, told) = is_kept_long(rt, alloc, &db, pass);
+    drop(closed(rt, db, passes, pass));
+    told
 }
 
 #[test]
 fn a_long_run_is_as_on_plain_lists(rt: HostRuntime) -> Result<(), Fail> {
-    let (mut db, pass) = opened(rt.alloc())?;
-    assert!(rt; is_kept_long(&rt, rt.alloc(), &mut db, pass)?);
+    assert!(rt; is_alike_long(&rt, rt.alloc())?);
     Ok(())
 }

@@ -1,6 +1,6 @@
 // Read transactions of a database without rows.
-use super::{is_told, query_of, schema_of};
-use crate::{Db, ReadTxn};
+use super::{closed, failed, is_told, opened, query_of};
+use crate::ReadTxn;
 use mdb_schema::{Ask, AskError};
 use std::alloc::Global;
 use std::sync::Wait;
@@ -11,19 +11,20 @@ fn is_empty(alloc: Global, read: &ReadTxn, table: &str) -> Result<bool, Fail> {
     let query = query_of(alloc, Ask::Get, (table, "id"), "[]")?;
     match read.ask(&query) {
         Ok(answer) => is_told(alloc, &answer, ""),
-        Err(error) => Ok(error == AskError::UnknownTable && table == "planets"),
+        Err(AskError::UnknownTable) => Ok(table == "planets"),
+        Err(_) => failed(),
     }
 }
 
 /// The last state of a database to which nobody writes.
-fn closed<R: Wait>(rt: &R, alloc: Global) -> Result<ReadTxn, Fail> {
-    let (db, passes) = Db::create(alloc, schema_of(alloc)?, 1)?;
-    Ok(db.close(rt, passes))
+fn unwritten<R: Wait>(rt: &R, alloc: Global) -> Result<ReadTxn, Fail> {
+    let (db, passes, pass) = opened(alloc)?;
+    Ok(closed(rt, db, passes, pass))
 }
 
 /// Whether no table has a row, and an unknown one is refused.
 fn are_empty<R: Wait>(rt: &R, alloc: Global) -> Result<bool, Fail> {
-    let last = closed(rt, alloc)?;
+    let last = unwritten(rt, alloc)?;
     Ok(
         is_empty(alloc, &last, "users")?
             && is_empty(alloc, &last, "notes")?

@@ -1,12 +1,12 @@
 //! Each allocation may fail: a refused call gives the pass back, and the database answers as
 //! before.
-ghost use Rattle.std.specs.Prelude.{◌≡◌, IfOk};
+ghost use Rattle.std.specs.Prelude.{◌≡◌};
 ghost use Rattle.mem_txn.specs.Database.{IsOf};
 ghost use Rattle.mem_txn.specs.Transactions.{changes_of};
 
 use super::drawn::{Plain, Random, table_of, text_of};
-use super::mixed::are_read;
-use super::{opened, row_of};
+use super::mixed::reads_alike;
+use super::{closed, opened, row_of};
 use crate::{
     BeginError, BeginRefused, CommitError, CommitRefused, Committed, Db, Pass, SnapError, WriteTxn,
 };
@@ -14,11 +14,12 @@ use std::alloc::Global;
 use std::sync::Wait;
 use std::test::Fail;
 
-/// A transaction that was tried, the rows after it, and whether its answers are right.
+/// What became of a transaction that was tried.
 #[derive(Drop)]
-struct Tried {
-    pass: Pass,
+struct Outcome {
+    /// The rows after it.
     plain: Plain,
+    /// Whether its answers are right.
     right: bool,
 }
 
@@ -53,25 +54,29 @@ fn is_spoiled(txn: &mut WriteTxn<u8>, spoiled: bool) -> bool
 /// Commits a transaction that leaves these rows, or those before it.
 fn try_commit<R: Wait>(
     rt: &R,
-    db: &mut Db,
+    db: &Db,
     txn: WriteTxn<u8>,
     spoiled: bool,
     plain: (&Plain, &Plain),
-) -> Tried
-    requires own { IsOf db.old (changes_of txn).caller }
-    ensures { IsOf db.new result.pass }
+) -> (Pass, Outcome)
+    requires own { IsOf db.now (changes_of txn).caller }
+    ensures { IsOf db.now result.0 }
 {
     match txn.commit(rt, db) {
-        Ok(Committed { pass, .. }) => Tried {
+        Ok(Committed { pass, receipt: _ }) => (
             pass,
-            plain: *plain.1,
-            right: !spoiled,
-        },
-        Err(CommitRefused { pass, cause }) => Tried {
+            Outcome {
+                plain: *plain.1,
+                right: !spoiled,
+            },
+        ),
+        Err(CommitRefused { pass, cause }) => (
             pass,
-            plain: *plain.0,
-            right: spoiled == (cause == CommitError::Spoiled),
-        },
+            Outcome {
+                plain: *plain.0,
+                right: spoiled == (cause == CommitError::Spoiled),
+            },
+        ),
     }
 }
 
@@ -79,26 +84,23 @@ fn try_begun<R: Wait>(
     rt: &R,
     alloc: Global,
     random: &mut Random,
-    db: &mut Db,
+    db: &Db,
     txn: WriteTxn<u8>,
     plain: &Plain,
-) -> Result<Tried, Fail>
-    requires own { IsOf db.old (changes_of txn).caller }
-    ensures { IfOk result (λ tried. IsOf db.new tried.pass) }
+) -> (Pass, Result<Outcome, Fail>)
+    requires own { IsOf db.now (changes_of txn).caller }
+    ensures { IsOf db.now result.0 }
 {
     let mut txn = txn;
     let mut after = *plain;
     match insert_some(alloc, random, &mut txn, &mut after) {
         Ok(spoiled) => {
             let told = is_spoiled(&mut txn, spoiled);
-            let mut tried = try_commit(rt, db, txn, spoiled, (plain, &after));
+            let (pass, mut tried) = try_commit(rt, db, txn, spoiled, (plain, &after));
             tried.right = tried.right && told;
-            Ok(tried)
+            (pass, Ok(tried))
         }
-        Err(fail) => {
-            drop(txn.abort(db));
-            Err(fail)
-        }
+        Err(fail) => (txn.abort(db), Err(fail)),
     }
 }
 
@@ -107,60 +109,82 @@ fn try_both<R: Wait>(
     rt: &R,
     alloc: Global,
     random: &mut Random,
-    db: &mut Db,
+    db: &Db,
     pass: Pass,
     plain: &Plain,
-) -> Result<Tried, Fail>
-    requires own { IsOf db.old pass }
-    ensures { IfOk result (λ tried. IsOf db.new tried.pass) }
+) -> (Pass, Result<Outcome, Fail>)
+    requires own { IsOf db.now pass }
+    ensures { IsOf db.now result.0 }
 {
     match db.write(rt, pass) {
         Ok(txn) => try_begun(rt, alloc, random, db, txn, plain),
-        Err(BeginRefused { pass, cause }) => Ok(Tried {
+        Err(BeginRefused { pass, cause }) => (
             pass,
-            plain: *plain,
-            right: cause == BeginError::Memory,
-        }),
+            Ok(Outcome {
+                plain: *plain,
+                right: cause == BeginError::Memory,
+            }),
+        ),
     }
 }
 
-/// Tries a transaction, and tells whether the rows after it are right.
+/// Tries a transaction, and tells whether the rows after it are right. Then these are the rows.
 fn try_read<R: Wait>(
     rt: &R,
     alloc: Global,
     random: &mut Random,
-    db: &mut Db,
+    db: &Db,
     pass: Pass,
-    plain: &Plain,
-) -> Result<Tried, Fail>
-    requires own { IsOf db.old pass }
-    ensures { IfOk result (λ tried. IsOf db.new tried.pass) }
+    plain: &mut Plain,
+) -> (Pass, Result<bool, Fail>)
+    requires own { IsOf db.now pass }
+    ensures { IsOf db.now result.0 }
 {
-    let mut tried = try_both(rt, alloc, random, db, pass, plain)?;
-    let read = db.read(rt, &mut tried.pass)?;
-    tried.right = tried.right && are_read(alloc, &read, &tried.plain)?;
-    Ok(tried)
+    let (mut pass, tried) = try_both(rt, alloc, random, db, pass, plain);
+    let told = match tried {
+        Ok(tried) => {
+            let after = tried.plain;
+            *plain = after;
+            match reads_alike(rt, alloc, db, &mut pass, plain) {
+                Ok(alike) => Ok(tried.right && alike),
+                Err(fail) => Err(fail),
+            }
+        }
+        Err(fail) => Err(fail),
+    };
+    (pass, told)
 }
 
 /// Whether each of some transactions is answered right.
-fn are_tried<R: Wait>(rt: &R, alloc: Global) -> Result<bool, Fail> {
+fn are_tried<R: Wait>(rt: &R, alloc: Global, db: &Db, pass: Pass) -> (Pass, Result<bool, Fail>)
+    requires own { IsOf db.now pass }
+    ensures { IsOf db.now result.0 }
+{
     let mut random = Random(0x2545_f491_4f6c_dd1d);
     let mut plain: Plain = [None; 12];
-    let (mut db, mut pass) = opened(alloc)?;
+    let mut pass = pass;
     for _ in 0..12 {
-        let tried = try_read(rt, alloc, &mut random, &mut db, pass, &plain)?;
-        if !tried.right {
-            return Ok(false);
+        let (next, told) = try_read(rt, alloc, &mut random, db, pass, &mut plain);
+        pass = next;
+        match told {
+            Ok(true) => {}
+            told => return (pass, told),
         }
-        pass = tried.pass;
-        plain = tried.plain;
     }
-    Ok(true)
+    (pass, Ok(true))
+}
+
+/// Whether they are in a new database.
+fn are_tried_anew<R: Wait>(rt: &R, alloc: Global) -> Result<bool, Fail> {
+    let (db, passes, pass) = opened(alloc)?;
+    let (pass, told) = are_tried(rt, alloc, &db, pass);
+    drop(closed(rt, db, passes, pass));
+    told
 }
 
 // It passes whichever allocation fails, or ends in an error.
 #[test]
 fn a_refusal_leaves_the_database(rt: HostRuntime) -> Result<(), Fail> {
-    assert!(rt; are_tried(&rt, rt.alloc())?);
+    assert!(rt; are_tried_anew(&rt, rt.alloc())?);
     Ok(())
 }

@@ -1,11 +1,12 @@
 //! Worked examples: transactions on a database, each write and question with its answer.
-ghost use Rattle.std.specs.Prelude.{◌≡◌, IfOk};
+ghost use Rattle.std.specs.Prelude.{◌≡◌};
 ghost use Rattle.mem_txn.specs.Database.{IsOf};
 ghost use Rattle.mem_txn.specs.Transactions.{changes_of};
 
-use super::mixed::{cause_of, end};
-use super::{is_told, opened, query_of, row_of};
-use crate::{Db, Pass, ReadTxn, Snapshot, TxnAskError, TxnWriteError, WriteTxn};
+use super::mixed::end;
+use super::{closed, failed, is_told, opened, query_of, row_of};
+use crate::{BeginRefused, Db, Pass, ReadTxn, Snapshot, TxnAskError, TxnWriteError, WriteTxn};
+use mdb_datum::Row;
 use mdb_schema::{Answer, Ask, AskError, WriteError};
 use std::alloc::Global;
 use std::sync::Wait;
@@ -55,20 +56,35 @@ fn ask_word(error: AskError) -> &'static str {
     }
 }
 
+/// Whether a refusal is told by this word. Want of memory is no answer, and ends the test.
+fn is_word(expected: &str, word: &str) -> Result<bool, Fail> {
+    if word == "memory" {
+        return failed();
+    }
+    Ok(expected == word)
+}
+
+/// Whether a delete is answered so.
+fn is_deleted(txn: &mut WriteTxn<u8>, line: &Line, row: &Row) -> Result<bool, Fail>
+    ensures { (changes_of txn.new).caller ≡ (changes_of txn.old).caller }
+{
+    match txn.delete(line.1, row) {
+        Ok(_) => Ok(line.3 == "deleted"),
+        Err(error) => is_word(line.3, write_word(error)),
+    }
+}
+
 /// Whether a write is answered so.
 fn is_written(alloc: Global, txn: &mut WriteTxn<u8>, line: &Line) -> Result<bool, Fail>
     ensures { (changes_of txn.new).caller ≡ (changes_of txn.old).caller }
 {
     let row = row_of(alloc, line.2)?;
     if line.0 == "delete" {
-        return match txn.delete(line.1, &row) {
-            Ok(_) => Ok(line.3 == "deleted"),
-            Err(error) => Ok(line.3 == write_word(error)),
-        };
+        return is_deleted(txn, line, &row);
     }
     match txn.insert(line.1, &row) {
         Ok(replaced) => Ok(line.3 == if replaced { "replaced" } else { "inserted" }),
-        Err(error) => Ok(line.3 == write_word(error)),
+        Err(error) => is_word(line.3, write_word(error)),
     }
 }
 
@@ -92,7 +108,7 @@ fn is_answered(
 ) -> Result<bool, Fail> {
     match answer {
         Ok(answer) => is_told(alloc, &answer, expected),
-        Err(error) => Ok(expected == ask_word(error)),
+        Err(error) => is_word(expected, ask_word(error)),
     }
 }
 
@@ -103,7 +119,7 @@ fn is_own(alloc: Global, txn: &mut WriteTxn<u8>, asked: &Asked) -> Result<bool, 
     let query = query_of(alloc, asked.0, asked.1, asked.2)?;
     match txn.ask(&query) {
         Ok(answer) => is_told(alloc, &answer, asked.3),
-        Err(TxnAskError::Refused(error)) => Ok(asked.3 == ask_word(error)),
+        Err(TxnAskError::Refused(error)) => is_word(asked.3, ask_word(error)),
         Err(TxnAskError::Spoiled) => Ok(false),
     }
 }
@@ -134,25 +150,22 @@ fn are_right(
     is_own(alloc, txn, asked)
 }
 
-/// Plays a transaction to its end.
+/// Plays a transaction to its end, and tells whether it is answered so.
 fn play_begun<R: Wait>(
     rt: &R,
     alloc: Global,
-    db: &mut Db,
+    db: &Db,
     txn: WriteTxn<u8>,
     lines: &[Line],
     asked: &Asked,
-) -> Result<Pass, Fail>
-    requires own { IsOf db.old (changes_of txn).caller }
-    ensures { IfOk result (λ pass. IsOf db.new pass) }
+) -> (Pass, Result<bool, Fail>)
+    requires own { IsOf db.now (changes_of txn).caller }
+    ensures { IsOf db.now result.0 }
 {
     let mut txn = txn;
     match are_right(alloc, &mut txn, lines, asked) {
         Ok(true) => end(rt, true, db, txn),
-        told => {
-            drop(txn.abort(db));
-            Err(cause_of(told))
-        }
+        told => (txn.abort(db), told),
     }
 }
 
@@ -160,17 +173,17 @@ fn play_begun<R: Wait>(
 fn play<R: Wait>(
     rt: &R,
     alloc: Global,
-    db: &mut Db,
+    db: &Db,
     pass: Pass,
     lines: &[Line],
     asked: &Asked,
-) -> Result<Pass, Fail>
-    requires own { IsOf db.old pass }
-    ensures { IfOk result (λ pass. IsOf db.new pass) }
+) -> (Pass, Result<bool, Fail>)
+    requires own { IsOf db.now pass }
+    ensures { IsOf db.now result.0 }
 {
     match db.write(rt, pass) {
         Ok(txn) => play_begun(rt, alloc, db, txn, lines, asked),
-        Err(_) => Err(Fail::from("no memory")),
+        Err(BeginRefused { pass, cause: _ }) => (pass, failed()),
     }
 }
 
@@ -178,30 +191,33 @@ fn play<R: Wait>(
 fn play_two<R: Wait>(
     rt: &R,
     alloc: Global,
-    db: &mut Db,
+    db: &Db,
     pass: Pass,
     script: &Script,
-) -> Result<Pass, Fail>
-    requires own { IsOf db.old pass }
-    ensures { IfOk result (λ pass. IsOf db.new pass) }
+) -> (Pass, Result<bool, Fail>)
+    requires own { IsOf db.now pass }
+    ensures { IsOf db.now result.0 }
 {
-    let pass = play(rt, alloc, db, pass, script.first, &NO_NOTES)?;
-    play(rt, alloc, db, pass, script.next, &script.asked)
+    let (pass, told) = play(rt, alloc, db, pass, script.first, &NO_NOTES);
+    match told {
+        Ok(true) => play(rt, alloc, db, pass, script.next, &script.asked),
+        told => (pass, told),
+    }
 }
 
 /// Whether a read transaction on this commit answers each question so.
 fn is_read<R: Wait>(
     rt: &R,
     alloc: Global,
-    db: &mut Db,
-    pass: Pass,
+    db: &Db,
+    pass: &mut Pass,
     number: u64,
     questions: &[Asked],
 ) -> Result<bool, Fail>
-    requires own { IsOf db.old pass }
+    requires own { IsOf db.now pass.old }
+    ensures { IsOf db.now pass.new }
 {
-    let mut pass = pass;
-    let read = db.read(rt, &mut pass)?;
+    let read = db.read(rt, pass)?;
     if read.number() != number {
         return Ok(false);
     }
@@ -217,11 +233,31 @@ struct Script {
     questions: &'static [Asked],
 }
 
-/// Whether a script is answered so.
+/// Whether a script is answered so, and then what is read.
+fn is_played_on<R: Wait>(
+    rt: &R,
+    alloc: Global,
+    db: &Db,
+    pass: Pass,
+    script: &Script,
+) -> (Pass, Result<bool, Fail>)
+    requires own { IsOf db.now pass }
+    ensures { IsOf db.now result.0 }
+{
+    let (mut pass, told) = play_two(rt, alloc, db, pass, script);
+    let told = match told {
+        Ok(true) => is_read(rt, alloc, db, &mut pass, 2, script.questions),
+        told => told,
+    };
+    (pass, told)
+}
+
+/// Whether a script is answered so in a new database.
 fn is_played<R: Wait>(rt: &R, alloc: Global, script: &Script) -> Result<bool, Fail> {
-    let (mut db, pass) = opened(alloc)?;
-    let pass = play_two(rt, alloc, &mut db, pass, script)?;
-    is_read(rt, alloc, &mut db, pass, 2, script.questions)
+    let (db, passes, pass) = opened(alloc)?;
+    let (pass, told) = is_played_on(rt, alloc, &db, pass, script);
+    drop(closed(rt, db, passes, pass));
+    told
 }
 
 const NO_NOTES: Asked = (Ask::Get, ("notes", "id"), "[]", "");
@@ -365,33 +401,51 @@ fn is_wiped(alloc: Global, txn: &mut WriteTxn<u8>) -> Result<bool, Fail>
     ensures { (changes_of txn.new).caller ≡ (changes_of txn.old).caller }
 {
     let query = query_of(alloc, Ask::Get, ("users", "id_prefix"), r#"["an"]"#)?;
-    let told = txn.delete_prefix(&query);
-    Ok(told == Ok(2) && is_own(alloc, txn, &NOT_WIPED)?)
-}
-
-fn abort_wiped<R: Wait>(rt: &R, alloc: Global, db: &mut Db, pass: Pass) -> Result<Pass, Fail>
-    requires own { IsOf db.old pass }
-    ensures { IfOk result (λ pass. IsOf db.new pass) }
-{
-    let Ok(txn) = db.write::<u8, R>(rt, pass) else {
-        return Err(Fail::from("no memory"));
-    };
-    let mut txn = txn;
-    match is_wiped(alloc, &mut txn) {
-        Ok(true) => end(rt, false, db, txn),
-        told => {
-            drop(txn.abort(db));
-            Err(cause_of(told))
-        }
+    match txn.delete_prefix(&query) {
+        Ok(2) => is_own(alloc, txn, &NOT_WIPED),
+        Ok(_) => Ok(false),
+        Err(_) => failed(),
     }
 }
 
-/// Whether a wipe takes rows out of its transaction, and leaves the database.
+fn abort_wiped<R: Wait>(rt: &R, alloc: Global, db: &Db, pass: Pass) -> (Pass, Result<bool, Fail>)
+    requires own { IsOf db.now pass }
+    ensures { IsOf db.now result.0 }
+{
+    match db.write(rt, pass) {
+        Ok(txn) => {
+            let mut txn = txn;
+            let told = is_wiped(alloc, &mut txn);
+            (txn.abort(db), told)
+        }
+        Err(BeginRefused { pass, cause: _ }) => (pass, failed()),
+    }
+}
+
+/// Whether a wipe takes rows out of its transaction, and leaves those that were committed.
+fn is_undone_on<R: Wait>(rt: &R, alloc: Global, db: &Db, pass: Pass) -> (Pass, Result<bool, Fail>)
+    requires own { IsOf db.now pass }
+    ensures { IsOf db.now result.0 }
+{
+    let (pass, played) = play(rt, alloc, db, pass, &WIPED, &THREE);
+    match played {
+        Ok(true) => {}
+        told => return (pass, told),
+    }
+    let (mut pass, wiped) = abort_wiped(rt, alloc, db, pass);
+    let told = match wiped {
+        Ok(true) => is_read(rt, alloc, db, &mut pass, 1, &[THREE]),
+        told => told,
+    };
+    (pass, told)
+}
+
+/// The same in a new database.
 fn is_undone<R: Wait>(rt: &R, alloc: Global) -> Result<bool, Fail> {
-    let (mut db, pass) = opened(alloc)?;
-    let pass = play(rt, alloc, &mut db, pass, &WIPED, &THREE)?;
-    let pass = abort_wiped(rt, alloc, &mut db, pass)?;
-    is_read(rt, alloc, &mut db, pass, 1, &[THREE])
+    let (db, passes, pass) = opened(alloc)?;
+    let (pass, told) = is_undone_on(rt, alloc, &db, pass);
+    drop(closed(rt, db, passes, pass));
+    told
 }
 
 const WIPED: [Line; 3] = [
@@ -438,30 +492,43 @@ fn between(alloc: Global, txn: &mut WriteTxn<u8>) -> Result<Snapshot, Fail>
 }
 
 /// The snapshot of a transaction that is aborted.
-fn outlived<R: Wait>(
-    rt: &R,
-    alloc: Global,
-    db: &mut Db,
-    pass: Pass,
-) -> Result<(Pass, Snapshot), Fail>
-    requires own { IsOf db.old pass }
-    ensures { IfOk result (λ made. IsOf db.new made.0) }
+fn outlived<R: Wait>(rt: &R, alloc: Global, db: &Db, pass: Pass) -> (Pass, Result<Snapshot, Fail>)
+    requires own { IsOf db.now pass }
+    ensures { IsOf db.now result.0 }
 {
-    let Ok(txn) = db.write::<u8, R>(rt, pass) else {
-        return Err(Fail::from("no memory"));
-    };
-    let mut txn = txn;
-    let kept = between(alloc, &mut txn);
-    let pass = txn.abort(db);
-    Ok((pass, kept?))
+    match db.write(rt, pass) {
+        Ok(txn) => {
+            let mut txn = txn;
+            let kept = between(alloc, &mut txn);
+            (txn.abort(db), kept)
+        }
+        Err(BeginRefused { pass, cause: _ }) => (pass, failed()),
+    }
 }
 
 /// Whether a snapshot stays, and the database has nothing of the transaction.
+fn is_outlived_on<R: Wait>(rt: &R, alloc: Global, db: &Db, pass: Pass) -> (Pass, Result<bool, Fail>)
+    requires own { IsOf db.now pass }
+    ensures { IsOf db.now result.0 }
+{
+    let (mut pass, kept) = outlived(rt, alloc, db, pass);
+    let kept = match kept {
+        Ok(kept) => is_kept(alloc, &kept),
+        Err(fail) => Err(fail),
+    };
+    let told = match kept {
+        Ok(true) => is_read(rt, alloc, db, &mut pass, 0, &[NO_USERS]),
+        told => told,
+    };
+    (pass, told)
+}
+
+/// The same in a new database.
 fn is_outlived<R: Wait>(rt: &R, alloc: Global) -> Result<bool, Fail> {
-    let (mut db, pass) = opened(alloc)?;
-    let (pass, kept) = outlived(rt, alloc, &mut db, pass)?;
-    let kept = is_kept(alloc, &kept)?;
-    Ok(is_read(rt, alloc, &mut db, pass, 0, &[NO_USERS])? && kept)
+    let (db, passes, pass) = opened(alloc)?;
+    let (pass, told) = is_outlived_on(rt, alloc, &db, pass);
+    drop(closed(rt, db, passes, pass));
+    told
 }
 
 fn is_kept(alloc: Global, kept: &Snapshot) -> Result<bool, Fail> {

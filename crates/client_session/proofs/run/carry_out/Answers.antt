@@ -1,31 +1,5 @@
-use Rattle.std.proofs.Common.{rules, arith, ◌≡◌, ◌∙◌, ap, sym, None}
-use Rattle.std.specs.Prelude.{option_copied, slice_get}
-use Rattle.std.proofs.lemmas.Option.{slice_get-get_or}
-use Rattle.client_script.specs.declared.line.Line.{Line}
-use Rattle.client_script.specs.declared.command.Command.TheVariants as command
-use Rattle.client_session.proofs.Carrying.{first, next, known_at, was_ok}
+use Rattle.client_session.proofs.Carrying.{carried_ok}
 use Rattle.client_session.proofs.run.carry_out.Goals as goal
 
-pub loop-at-init : goal.loop-at-init
-loop-at-init g c = record {
-  own = c.requires.own;
-  carried = first c.args.pass c.new.result c.args.text.now.items c.new.ensures;
-}
-
-pub unreachable-requires : goal.unreachable-requires
-unreachable-requires g c =
-    let none : None ≡ slice_get c.args.script.now c.loop-at.at = sym (ap option_copied c.in_default.is) ∙ c.get.ensures in
-    let lt = c.loop-at-test.true in
-    let len = c.len-at-end.ensures in
-    let d : Line = record { number = 0; command = command.Read } in
-    let some = slice_get-get_or c.args.script.now c.loop-at.at d (search (arith, lt, len)) in
-    cc
-
-pub answer_line-next-requires-clause-known : goal.answer_line-next-requires-clause-known
-answer_line-next-requires-clause-known g c = known_at c.args.script.now c.loop-at.at c.in-Some.line.now c.requires.known (sym c.get.ensures ∙ ap option_copied c.in-Some.is)
-
-pub loop-at-preserved : goal.loop-at-preserved
-loop-at-preserved g c = record {
-  own = c.answer_line-next.ensures.own;
-  carried = next c.args.pass c.args.script.now c.loop-at.at c.loop-at.desk c.answer_line-next.result.0 c.args.text.now.items c.loop-at.text.items c.answer_line-next.new.text.items c.in-Some.line.now (sym c.get.ensures ∙ ap option_copied c.in-Some.is) c.loop-at.invariant.carried (was_ok c.answer_line-next.result.1 (search (rules)) c.answer_line-next.ensures.answered);
-}
+pub returns-clause-answered : goal.returns-clause-answered
+returns-clause-answered g c = carried_ok c.args.pass c.close.result c.args.script.now c.answer_lines-desk.result.0 c.args.text.now.items c.answer_lines-desk.new.text.items c.answer_lines-desk.result.1 c.close.ensures c.answer_lines-desk.ensures.answered

@@ -1,5 +1,5 @@
 use Rattle.std.proofs.Common.{drop}
-use Rattle.client_script.proofs.AloneIsLegal.{AreKnown}
+use Rattle.client_script.specs.Session.{AreKnown}
 use Rattle.client_session.proofs.tests.are_known.Given as goal
 
 -- the script is known where the lines are that weren't looked at

@@ -1,19 +1,18 @@
-use Rattle.std.proofs.Common.{refl}
-use Rattle.client_script.specs.declared.command.Command.TheVariants as command
-use Rattle.client_session.proofs.DeskTurns.{replies_told, replies_once}
+use Rattle.std.proofs.Common.{rules, refl}
+use Rattle.client_session.specs.inner.DeskView.{IsRequest}
+use Rattle.client_session.specs.inner.OpenView.{caller_of}
+use Rattle.client_session.proofs.BegunNumbers.{request_starts}
+use Rattle.client_session.proofs.DeskTurns.{looked_told, once_told}
+use Rattle.client_session.proofs.OpenTurns.{later_same}
 use Rattle.client_session.proofs.desk.Desk.turn.Goals as goal
 
 pub returns-in-Read-clause-turn : goal.returns-in-Read-clause-turn
-returns-in-Read-clause-turn g c = replies_told command.Read c.args.command.now c.args.self c.read-open.result.0 _ _ c.read-open.result.1 c.in-Read.is refl refl c.read-open.ensures.turn
+returns-in-Read-clause-turn g c = looked_told c.args.command.now c.args.command.now c.args.self c.turn-open.result.0 _ _ c.turn-open.result.1 refl refl c.requires.known c.turn-open.ensures.turn
 
-pub returns-in-Write-clause-turn : goal.returns-in-Write-clause-turn
-returns-in-Write-clause-turn g c = replies_told command.Write c.args.command.now c.args.self c.write-open.result.0 _ _ c.write-open.result.1 c.in-Write.is refl refl c.write-open.ensures.turn
-
-pub returns-in-Commit-clause-turn : goal.returns-in-Commit-clause-turn
-returns-in-Commit-clause-turn g c = replies_told command.Commit c.args.command.now c.args.self c.commit-open.result.0 _ _ c.commit-open.result.1 c.in-Commit.is refl refl c.commit-open.ensures.turn
-
-pub returns-in-End-clause-turn : goal.returns-in-End-clause-turn
-returns-in-End-clause-turn g c = replies_once command.End c.args.command.now c.args.self c.end-open.result.0 _ c.in-End.is refl c.end-open.ensures.turn
-
-pub returns-in-Abort-clause-turn : goal.returns-in-Abort-clause-turn
-returns-in-Abort-clause-turn g c = replies_once command.Abort c.args.command.now c.args.self c.abort-open.result.0 _ c.in-Abort.is refl c.abort-open.ensures.turn
+pub returns-in_default : goal.returns-in_default
+returns-in_default g c =
+    let is : IsRequest c.args.command.now = search (rules) in
+    record {
+      turn = once_told c.args.command.now c.args.self c.request-told.new.self _ c.request-told.result (request_starts c.args.command.now is) c.requires.stands c.request-told.ensures.turn;
+      caller = later_same (caller_of c.args.self.«open») (caller_of c.request-told.new.self.«open») c.request-told.ensures.caller;
+    }

@@ -1,12 +1,20 @@
-use Rattle.std.proofs.Common.{◌≡◌, ◌∙◌, map, sym, ap}
-use Rattle.std.specs.Arc.{arc_value}
-use Rattle.mem_txn.specs.Database.{Database, View, state_seen}
-use Rattle.mem_txn.proofs.BegunTables.{begun_stand}
+use Rattle.std.proofs.Common.{◌≡◌, length, sym, subst}
+use Rattle.mem_txn.specs.Database.{Caller, HasRead, HasSeen}
+use Rattle.mem_txn.specs.inner.Versions.{caller_of}
+use Rattle.mem_txn.proofs.BegunAnswers.{begin_answers}
+use Rattle.mem_txn.proofs.OneHistory.{numbered, turned}
 use Rattle.mem_txn.proofs.db.Db.write.Goals as goal
 
-pub begun-requires-clause-tables : goal.begun-requires-clause-tables
-begun-requires-clause-tables g c =
-    let shown : View = c.version-version.result.now in
-    let schema : shown.schema ≡ c.args.pass.schema = ap (λ (v : View). v.schema) c.version-version.ensures ∙ ap (λ (d : Database). d.schema) c.self.view_is ∙ sym c.requires.own.schema in
-    let state : shown.state ≡ state_seen c.args.pass = ap (λ (v : View). v.state) c.version-version.ensures ∙ ap (λ (d : Database). d.state) c.self.view_is ∙ c.requires.own.state in
-    begun_stand (map arc_value c.tables.result.now) c.args.pass.schema (state_seen c.args.pass) c.in-Ok.tables c.in-Ok.ensures (c.tables.ensures.schemas ∙ schema) (c.tables.ensures.state ∙ state)
+pub returns-in-Ok : goal.returns-in-Ok
+returns-in-Ok g c =
+    let old = c.pass.inside.token in
+    let new = c.begin.new.pass in
+    let e = c.begin.ensures in
+    let seen : HasSeen c.args.pass c.of.result = subst (λ (p : Caller). HasSeen p c.of.result) c.pass.view_is (subst (HasSeen (caller_of old)) (sym c.of.ensures) (turned old new c.pass.invariant e.pass e.seen e.counts e.tries)) in
+    let read : HasRead c.args.pass c.of.result (length c.of.result.seen) = subst (λ (p : Caller). HasRead p c.of.result (length c.of.result.seen)) c.pass.view_is (subst (λ (q : Caller). HasRead (caller_of old) q (length q.seen)) (sym c.of.ensures) (numbered old new c.in-Ok.shown.number c.pass.invariant e.seen c.in-Ok.ensures.number)) in
+    begin_answers c.args.pass c.of.result seen read c.begun.result c.begun.ensures
+
+pub returns-in-Err : goal.returns-in-Err
+returns-in-Err g c =
+    let e = c.begin.ensures in
+    (subst (λ (p : Caller). HasSeen p (caller_of c.begin.new.pass)) c.pass.view_is (turned c.pass.inside.token c.begin.new.pass c.pass.invariant e.pass e.seen e.counts e.tries), tt)

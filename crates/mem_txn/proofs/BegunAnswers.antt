@@ -1,0 +1,52 @@
+-- How a call that begins a transaction is answered, of what its caller has seen and of what it is answered then.
+use Rattle.std.proofs.Common.{◌≡◌, ◌∙◌, ◌<◌, ◌^◌, List, [], ◌∷◌, length, map, Option, Some, IfSome, Result, Ok, Err, IfOk, inl, inr, sym, ap, subst}
+use Rattle.std.specs.declared.alloc.AllocError.{AllocError}
+use Rattle.mdb_schema.specs.Schema.{DbSchema}
+use Rattle.mdb_schema.specs.State.{State}
+use Rattle.table_index.specs.Table.{TableChange, TableRows}
+use Rattle.mem_txn.specs.Changes.{Changes, begun}
+use Rattle.mem_txn.specs.Database.{Caller, HasRead, HasSeen}
+use Rattle.mem_txn.specs.Transactions.{AnswersBegin, HasWon, IsRefused, changes_of}
+use Rattle.mem_txn.specs.declared.outcome.BeginRefused.{BeginRefused}
+use Rattle.mem_txn.specs.declared.write_txn.WriteTxn.{WriteTxn}
+use Rattle.mem_txn.specs.inner.Commits.{AnswersTurn, RefusesTurn}
+use Rattle.mem_txn.specs.inner.VersionTables.{StandFor, schemas_of, state_of, unwritten}
+use Rattle.mem_txn.proofs.BegunTables.{begun_stand}
+
+-- tables of a caller's state that nobody has written to
+pub tables_stand : (ts : List TableRows) (schema : DbSchema) (s : State) (r : Result (List TableChange) AllocError) → schemas_of ts ≡ schema → state_of ts ≡ s → IfOk r (λ us. us ≡ map unwritten ts) → IfOk r (λ us. StandFor us schema s)
+tables_stand ts schema s (Ok us) schemas rows is = begun_stand ts schema s us is schemas rows
+tables_stand ts schema s (Err e) schemas rows is = tt
+
+-- what holds of a value that is there
+pub some_has : {A : Type 0} (o : Option A) (a : A) (P : A → Type 0) → o ≡ Some a → IfSome o P → P a
+some_has {A} o a P is holds = subst (λ (x : Option A). IfSome x P) is holds
+
+module _ (p q : Caller) (seen : HasSeen p q) (read : HasRead p q (length q.seen)) where
+  refuses : (r : BeginRefused) → RefusesTurn q r → HasSeen p r.pass × IsRefused p r.pass r.cause
+  refuses r (same, inl memory) = (subst (HasSeen p) (sym same) seen, subst (IsRefused p r.pass) (sym memory) tt)
+  refuses r (same, inr spent) = (
+    subst (HasSeen p) (sym same) seen,
+    subst (IsRefused p r.pass) (sym spent.0) (subst (λ (z : Caller). HasRead p z (length z.seen)) (sym same) read, ap (λ (z : Caller). length z.seen) same ∙ spent.1),
+  )
+
+  begins : {D : Type 0} (t : WriteTxn D) → AnswersTurn q (Ok t) → AnswersBegin p (Ok t)
+  begins t answers =
+      let same : q ≡ (changes_of t).caller = sym (ap (λ (c : Changes). c.caller) answers.1) in (
+        subst (HasSeen p) same seen,
+        subst (λ (z : Caller). HasRead p z (length z.seen)) same read,
+        subst (λ (z : Caller). length z.seen < 2 ^ 63) same answers.0,
+        answers.1 ∙ ap begun same,
+        answers.2,
+      )
+
+  pub begin_answers : {D : Type 0} (r : Result (WriteTxn D) BeginRefused) → AnswersTurn q r → AnswersBegin p r
+  begin_answers (Ok t) answers = begins t answers
+  begin_answers (Err r) answers = refuses r answers
+
+  module _ (won : HasWon p q) where
+    pub try_begins : {D : Type 0} (t : WriteTxn D) → AnswersTurn q (Ok t) → AnswersBegin p (Ok t) × HasWon p (changes_of t).caller
+    try_begins t answers = (begins t answers, subst (HasWon p) (sym (ap (λ (c : Changes). c.caller) answers.1)) won)
+
+    pub try_refuses : (r : BeginRefused) → RefusesTurn q r → HasSeen p r.pass × IsRefused p r.pass r.cause × HasWon p r.pass
+    try_refuses r answers = let both = refuses r answers in (both.0, both.1, subst (HasWon p) (sym answers.0) won)

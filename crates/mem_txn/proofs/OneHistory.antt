@@ -1,0 +1,183 @@
+-- What a list of values tells as a history, and what the calls of the front make of a pass as its caller.
+use Rattle.std.proofs.Common.{◌≡◌, ◌∙◌, ◌+◌, ◌^◌, ◌<◌, ◌≤◌, ◌++◌, ℕ, zero, suc, [], ◌∷◌, List, Bool, true, false, map, length, sym, ap, refl, subst, arith, add-one, ne_eqb, filter}
+use Rattle.std.specs.Prelude.{if◌then◌else◌, ◌==◌}
+use mathlib.Core.List.{IsPrefix}
+use Rattle.std.proofs.lemmas.List.{map-append, length-map, length-append, append_assoc, append-nil}
+use Rattle.atomic_table.specs.Seated.{TableId}
+use Rattle.db_front.specs.Commits as front
+use Rattle.db_front.specs.Passes.{Known, AreIdle, IsNumber, fresh, all_fresh}
+use Rattle.db_front.specs.Passes as front_passes
+use Rattle.mdb_schema.specs.History.{Commit, History, after_writes, state_at}
+use Rattle.mdb_schema.specs.Schema.{DbSchema}
+use Rattle.mdb_schema.specs.State.{State}
+use Rattle.mem_txn.specs.Database.{AreIn, AreNamed, AreOf, Caller, Database, HasRead, HasSeen, IsOf, IsWhole, View, commits_by, new_pass, new_passes, view_after}
+use Rattle.mem_txn.specs.inner.Commits.{IsNext}
+use Rattle.mem_txn.specs.inner.Versions.{AreTokens, IsBegun, IsToken, StandsFor, Version, Versions, caller_of, entry_of, history_in, opening, schema_in}
+use Rattle.mem_txn.proofs.StatesAfter.{state_seen-more}
+
+-- ---- longer lists
+
+pub prefix-map : {X Y : Type 0} (f : X → Y) (xs ys : List X) → IsPrefix xs ys → IsPrefix (map f xs) (map f ys)
+prefix-map f xs ys p = (map f p.0, sym (map-append f xs p.0) ∙ ap (map f) p.1)
+
+pub begun_longer : (old new : Versions) → IsBegun old → IsPrefix old new → IsBegun new
+begun_longer [] new begun p = absurd begun
+begun_longer (e ∷ es) new begun p = subst IsBegun p.1 begun
+
+pub schema_longer : (old new : Versions) → IsBegun old → IsPrefix old new → schema_in new ≡ schema_in old
+schema_longer [] new begun p = absurd begun
+schema_longer (e ∷ es) new begun p = ap schema_in (sym p.1)
+
+pub history_longer : (old new : Versions) → IsBegun old → IsPrefix old new → IsPrefix (history_in old) (history_in new)
+history_longer [] new begun p = absurd begun
+history_longer (e ∷ es) new begun p = subst (λ (h : Versions). IsPrefix (map entry_of es) (history_in h)) p.1 (map entry_of p.0, sym (map-append entry_of es p.0))
+
+pub history_length : (h : Versions) → IsBegun h → length (history_in h) + 1 ≡ length h
+history_length [] begun = absurd begun
+history_length (e ∷ es) begun = let n = length-map es entry_of in omega (arith, n)
+
+-- ---- one more commit
+
+next_in : (h : Versions) (n : ℕ) (v : Version) → IsBegun h → history_in (h ++ (n, v) ∷ []) ≡ history_in h ++ record { caller = n; writes = v.writes } ∷ []
+next_in [] n v begun = absurd begun
+next_in (e ∷ es) n v begun = map-append entry_of es ((n, v) ∷ [])
+
+pub next_stands : (k : Known Version) (v : Version) → IsBegun k.seen → IsNext (caller_of k) v → StandsFor (k.seen ++ (k.number, v) ∷ []) v
+next_stands k v begun next =
+    let h = k.seen in
+    let c : Commit = record { caller = k.number; writes = v.writes } in
+    let more : IsPrefix h (h ++ (k.number, v) ∷ []) = ((k.number, v) ∷ [], refl) in
+    let schema : schema_in (h ++ (k.number, v) ∷ []) ≡ schema_in h = schema_longer h (h ++ (k.number, v) ∷ []) begun more in
+    let list : history_in (h ++ (k.number, v) ∷ []) ≡ history_in h ++ c ∷ [] = next_in h k.number v begun in
+    let count : length (history_in h) + 1 ≡ length (history_in h ++ c ∷ []) = sym (length-append (history_in h) (c ∷ [])) in
+    let state : after_writes (schema_in h) (state_at (schema_in h) (history_in h) (length (history_in h))) v.writes ≡ state_at (schema_in h) (history_in h ++ c ∷ []) (length (history_in h ++ c ∷ [])) = sym (state_seen-more (schema_in h) (history_in h) c) in
+    let view : v.view ≡ view_after (schema_in h) (history_in h ++ c ∷ []) = next ∙ (λ i. let r : View = record { schema = schema_in h; number = count i; state = state i } in r) in (
+      begun_longer h (h ++ (k.number, v) ∷ []) begun more,
+      view ∙ (λ i. view_after (sym schema i) (sym list i)),
+    )
+
+-- the caller after its commit, and the end of its turn
+pub committed : (k k' k'' : Known Version) (v : Version) → IsBegun k.seen → k' ≡ record k { seen = k.seen ++ (k.number, v) ∷ []; mine = k.mine ++ (k.number, v) ∷ []; stage = 2 } → k'' ≡ record k' { stage = 0 }
+    → caller_of k'' ≡ record (caller_of k) { seen = (caller_of k).seen ++ record { caller = k.number; writes = v.writes } ∷ []; own = (caller_of k).own ++ record { caller = k.number; writes = v.writes } ∷ [] }
+committed k k' k'' v begun made left =
+    let c : Commit = record { caller = k.number; writes = v.writes } in
+    let more : IsPrefix k.seen (k.seen ++ (k.number, v) ∷ []) = ((k.number, v) ∷ [], refl) in
+    let schema : schema_in (k.seen ++ (k.number, v) ∷ []) ≡ schema_in k.seen = schema_longer k.seen (k.seen ++ (k.number, v) ∷ []) begun more in
+    let list : history_in (k.seen ++ (k.number, v) ∷ []) ≡ history_in k.seen ++ c ∷ [] = next_in k.seen k.number v begun in
+    let own : map entry_of (k.mine ++ (k.number, v) ∷ []) ≡ map entry_of k.mine ++ c ∷ [] = map-append entry_of k.mine ((k.number, v) ∷ []) in
+    ap caller_of left ∙ ap caller_of made
+    ∙ (λ i. let r : Caller = record { number = k.number; database = k.table; schema = schema i; seen = list i; own = own i; counts = k.counts; tries = k.tries } in r)
+
+pub committed_token : (k k' k'' : Known Version) (v : Version) → IsToken 1 k → k' ≡ record k { seen = k.seen ++ (k.number, v) ∷ []; mine = k.mine ++ (k.number, v) ∷ []; stage = 2 } → k'' ≡ record k' { stage = 0 } → IsToken 0 k''
+committed_token k k' k'' v token made left =
+    subst (IsToken 0) (sym (left ∙ ap (λ (z : Known Version). let r : Known Version = record z { stage = 0 } in r) made))
+    (record { at = refl; named = token.named; few = token.few; begun = begun_longer k.seen (k.seen ++ (k.number, v) ∷ []) token.begun ((k.number, v) ∷ [], refl) })
+
+-- ---- a pass that has seen more
+
+module _ (stage : ℕ) (old new : Known Version) (token : IsToken stage old) (seen : IsPrefix old.seen new.seen) where
+  pub has_seen : new.number ≡ old.number → new.table ≡ old.table → new.mine ≡ old.mine → IsPrefix old.counts new.counts → IsPrefix old.tries new.tries → HasSeen (caller_of old) (caller_of new)
+  has_seen number table mine counts tries = record {
+    seen = history_longer old.seen new.seen token.begun seen;
+    counts = counts;
+    tries = tries;
+    others = λ i. let r : Caller = record { number = number i; database = table i; schema = schema_longer old.seen new.seen token.begun seen i; seen = history_in new.seen; own = map entry_of (mine i); counts = new.counts; tries = new.tries } in r;
+  }
+
+  pub has_read : (n : ℕ) → IsNumber old new n → HasRead (caller_of old) (caller_of new) n
+  has_read n is = let count = history_length new.seen (begun_longer old.seen new.seen token.begun seen) in let told = is.0 in (omega (arith, count, told), is.1)
+
+  pub token_at : (stage' : ℕ) → new.number ≡ old.number → new.stage ≡ stage' → IsToken stage' new
+  token_at stage' number at = record {
+    at = at;
+    named = subst (λ (n : ℕ). 0 < n) (sym number) token.named;
+    few = subst (λ (n : ℕ). n ≤ 64) (sym number) token.few;
+    begun = begun_longer old.seen new.seen token.begun seen;
+  }
+
+-- the two sorts of steps that see more
+pub looked : (old new : Known Version) → IsToken 0 old → new ≡ record old { seen = new.seen; counts = new.counts } → IsPrefix old.seen new.seen → IsPrefix old.counts new.counts → HasSeen (caller_of old) (caller_of new)
+looked old new token is seen counts =
+    has_seen 0 old new token seen (ap (λ (k : Known Version). k.number) is) (ap (λ (k : Known Version). k.table) is) (ap (λ (k : Known Version). k.mine) is) counts ([], append-nil old.tries ∙ sym (ap (λ (k : Known Version). k.tries) is))
+
+pub turned : (old new : Known Version) → IsToken 0 old → new ≡ record old { seen = new.seen; counts = new.counts; tries = new.tries; stage = new.stage } → IsPrefix old.seen new.seen → IsPrefix old.counts new.counts → IsPrefix old.tries new.tries
+    → HasSeen (caller_of old) (caller_of new)
+turned old new token is seen counts tries =
+    has_seen 0 old new token seen (ap (λ (k : Known Version). k.number) is) (ap (λ (k : Known Version). k.table) is) (ap (λ (k : Known Version). k.mine) is) counts tries
+
+pub numbered : (old new : Known Version) (n : ℕ) → IsToken 0 old → IsPrefix old.seen new.seen → IsNumber old new n → HasRead (caller_of old) (caller_of new) (length (caller_of new).seen)
+numbered old new n token seen is = let read = has_read 0 old new token seen n is in subst (λ (k : ℕ). HasRead (caller_of old) (caller_of new) k) read.0 read
+
+pub left_token : (k k' : Known Version) → IsToken 1 k → k' ≡ record k { stage = 0 } → IsToken 0 k'
+left_token k k' token left = subst (IsToken 0) (sym left) (record { at = refl; named = token.named; few = token.few; begun = token.begun })
+
+-- ---- the passes of a new database
+
+append_tokens : (ks : List (Known Version)) (k : Known Version) → AreTokens ks → IsToken 0 k → AreTokens (ks ++ k ∷ [])
+append_tokens [] k all token = (token, tt)
+append_tokens (j ∷ ks) k all token = (all.0, append_tokens ks k all.1 token)
+
+module _ (t : TableId) (schema : DbSchema) where
+  pub fresh_tokens : (n : ℕ) → n ≤ 64 → AreTokens (all_fresh t (opening schema) n)
+  fresh_tokens zero few = tt
+  fresh_tokens (suc n) few = append_tokens (all_fresh t (opening schema) n) (fresh t (opening schema) (suc n)) (fresh_tokens n (omega (arith, few))) (record { at = refl; named = omega arith; few = few; begun = refl })
+
+  pub fresh_callers : (db : Database) → db.database ≡ t → db.schema ≡ schema → (n : ℕ) → map caller_of (all_fresh t (opening schema) n) ≡ new_passes db n
+  fresh_callers db here same zero = refl
+  fresh_callers db here same (suc n) =
+      let last : caller_of (fresh t (opening schema) (suc n)) ≡ new_pass db (suc n) = λ i. let r : Caller = record { number = suc n; database = sym here i; schema = sym same i; seen = []; own = []; counts = []; tries = [] } in r in
+      map-append caller_of (all_fresh t (opening schema) n) (fresh t (opening schema) (suc n) ∷ [])
+      ∙ (λ i. fresh_callers db here same n i ++ last i ∷ [])
+
+-- ---- lists of passes
+
+pub given_tokens : (ks ks' : List (Known Version)) (k : Known Version) → AreTokens ks → IsToken 0 k → ks' ≡ ks ++ k ∷ [] → AreTokens ks'
+given_tokens ks ks' k all token is = subst AreTokens (sym is) (append_tokens ks k all token)
+
+pub idle_of : (db : Database) (t : TableId) (ks : List (Known Version)) → db.database ≡ t → AreTokens ks → AreOf db (map caller_of ks) → AreIdle t ks
+idle_of db t [] here tokens own = tt
+idle_of db t (k ∷ ks) here tokens own = (own.0.0 ∙ here, tokens.0.at, idle_of db t ks here tokens.1 own.1)
+
+-- ---- the end
+
+entries_by : (c : ℕ) (es : Versions) → commits_by c (map entry_of es) ≡ map entry_of (front.commits_by c es)
+entries_by c [] = refl
+entries_by c (e ∷ es) = at (e.0 == c) (entries_by c es)
+  where
+    at : (b : Bool) → commits_by c (map entry_of es) ≡ map entry_of (front.commits_by c es)
+        → (if b then entry_of e ∷ commits_by c (map entry_of es) else commits_by c (map entry_of es)) ≡ map entry_of (if b then e ∷ front.commits_by c es else front.commits_by c es)
+    at true q = ap (λ (z : History). entry_of e ∷ z) q
+    at false q = q
+
+own_in : (c : ℕ) (h : Versions) → 0 < c → IsBegun h → commits_by c (history_in h) ≡ map entry_of (front.commits_by c h)
+own_in c [] pos begun = absurd begun
+own_in c (e ∷ es) pos begun =
+    let first : e.0 ≡ 0 = ap (λ z. z.0) begun in
+    let other : (e.0 == c) ≡ false = ne_eqb e.0 c (λ same. omega (arith, first, same, pos)) in
+    entries_by c es ∙ ap (λ (b : Bool). map entry_of (if b then e ∷ front.commits_by c es else front.commits_by c es)) (sym other)
+
+named_in : (n : ℕ) (es : Versions) → front.AreNamed n es → AreNamed n (map entry_of es)
+named_in n [] named = tt
+named_in n (e ∷ es) named = (named.0, named.1, named_in n es named.2)
+
+all_in : (h : Versions) (ks : List (Known Version)) → IsBegun h → AreTokens ks → front_passes.AreIn h ks → AreIn (history_in h) (map caller_of ks)
+all_in h [] begun tokens own = tt
+all_in h (k ∷ ks) begun tokens own = (
+  own_in k.number h tokens.0.named begun ∙ ap (map entry_of) own.0,
+  history_longer k.seen h tokens.0.begun own.1,
+  all_in h ks begun tokens.1 own.2,
+)
+
+schema_of_all : (db : Database) (h : Versions) (ks : List (Known Version)) → 0 < length ks → AreTokens ks → AreOf db (map caller_of ks) → front_passes.AreIn h ks → schema_in h ≡ db.schema
+schema_of_all db h [] some tokens own all = absurd (omega (arith, some))
+schema_of_all db h (k ∷ ks) some tokens own all = schema_longer k.seen h tokens.0.begun all.1 ∙ own.0.1
+
+pub closed : (db : Database) (h : Versions) (ks : List (Known Version)) (v : Version) (n : ℕ) → 0 < length ks → AreTokens ks → AreOf db (map caller_of ks) → front.IsHistory db.callers h → front_passes.AreIn h ks
+    → n + 1 ≡ length h → n ≤ 2 ^ 63 → StandsFor h v → (H : History) × IsWhole db (map caller_of ks) H × (v.view ≡ view_after db.schema H)
+closed db h ks v n some tokens own history all count few stands =
+    let length_is = history_length h stands.0 in
+    let named : AreNamed db.callers (history_in h) = subst (λ (g : Versions). AreNamed db.callers (history_in g)) (sym history.2) (named_in db.callers history.1 history.3) in (
+      history_in h,
+      record { named = named; own = all_in h ks stands.0 tokens all; few = omega (arith, length_is, count, few) },
+      stands.1 ∙ ap (λ (s : DbSchema). view_after s (history_in h)) (schema_of_all db h ks some tokens own all),
+    )

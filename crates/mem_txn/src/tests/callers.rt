@@ -1,0 +1,354 @@
+//! Callers that share a database, one after the other and on threads.
+ghost use Rattle.std.specs.Prelude.{◌≡◌, [], IfOk, Some};
+ghost use Rattle.mem_txn.specs.Database.{Caller, IsOf};
+ghost use Rattle.mem_txn.specs.Transactions.{changes_of};
+
+use super::schema_of;
+use crate::{
+    BeginRefused, CommitRefused, Committed, Db, Pass, Passes, ReadTxn, Snapshot, Tried, WriteTxn,
+};
+use mdb_datum::{Datum, Row, Text, read_doc};
+use mdb_schema::{Answer, Ask, Query, Rows};
+use std::alloc::{AllocError, Global};
+use std::sync::Wait;
+use std::test::Fail;
+use std::thread::{Threads, join_mut};
+
+/// A database of two callers, the list of its passes without them, and they.
+fn pair(alloc: Global) -> Result<(Db, Passes, Pass, Pass), Fail>
+    ensures one { IfOk result (λ made. IsOf made.0 made.2) }
+    ensures two { IfOk result (λ made. IsOf made.0 made.3) }
+    ensures rest { IfOk result (λ made. made.1 ≡ record { passes = []; made = 2 }) }
+{
+    let (db, mut passes) = Db::create(alloc, schema_of(alloc)?, 2)?;
+    match (passes.take(), passes.take()) {
+        (Some(one), Some(two)) => Ok((db, passes, one, two)),
+        _ => unreachable!(),
+    }
+}
+
+/// The last state, when both passes are back.
+fn closed<R: Wait>(rt: &R, db: Db, mut passes: Passes, one: Pass, two: Pass) -> ReadTxn
+    requires one { IsOf db one }
+    requires two { IsOf db two }
+    requires rest { passes ≡ record { passes = []; made = 2 } }
+{
+    passes.give(one);
+    passes.give(two);
+    db.close(rt, passes)
+}
+
+/// Adds the last two digits of a number.
+fn push_digits(text: &mut String, number: u64) -> Result<(), AllocError> {
+    text.push(DIGITS[(number / 10 % 10) as usize])?;
+    text.push(DIGITS[(number % 10) as usize])?;
+    Ok(())
+}
+
+const DIGITS: [char; 10] = ['0', '1', '2', '3', '4', '5', '6', '7', '8', '9'];
+
+/// The name of a caller's commit: its letter and two digits.
+fn name_of(alloc: Global, letter: char, own: u64) -> Result<String, AllocError> {
+    let mut text = String::new(alloc);
+    text.push(letter)?;
+    push_digits(&mut text, own)?;
+    Ok(text)
+}
+
+/// The row of a caller's commit, whose age is the number of commits before it and 1000.
+fn row_of(alloc: Global, letter: char, own: u64, before: u64) -> Result<Row, AllocError> {
+    let mut text = String::from_str(alloc, "{\"age\":10")?;
+    push_digits(&mut text, before)?;
+    text.push_str(",\"name\":\"")?;
+    text.push_str(&name_of(alloc, letter, own)?)?;
+    text.push_str("\"}")?;
+    match read_doc(alloc, text.as_bytes()) {
+        Ok(Datum::Members(members)) => Row::of(alloc, members),
+        _ => Err(AllocError),
+    }
+}
+
+/// Inserts the row of a caller's commit.
+fn insert_own(
+    alloc: Global,
+    txn: &mut WriteTxn<u8>,
+    letter: char,
+    own: u64,
+) -> Result<(), AllocError>
+    ensures { (changes_of txn.new).caller ≡ (changes_of txn.old).caller }
+{
+    let row = row_of(alloc, letter, own, txn.number())?;
+    match txn.insert("users", &row) {
+        Ok(_) => Ok(()),
+        Err(_) => Err(AllocError),
+    }
+}
+
+/// One transaction of a caller.
+fn one_txn<R: Wait>(
+    rt: &R,
+    alloc: Global,
+    db: &Db,
+    pass: Pass,
+    letter: char,
+    own: u64,
+    commits: bool,
+) -> (Pass, Result<(), AllocError>)
+    requires own { IsOf db.now pass }
+    ensures { IsOf db.now result.0 }
+{
+    let mut txn = match db.write(rt, pass) {
+        Ok(txn) => txn,
+        Err(BeginRefused { pass, cause: _ }) => return (pass, Err(AllocError)),
+    };
+    let done = insert_own(alloc, &mut txn, letter, own);
+    if done.is_err() || !commits {
+        return (txn.abort(db), done);
+    }
+    match txn.commit(rt, db) {
+        Ok(Committed { pass, receipt: _ }) => (pass, Ok(())),
+        Err(CommitRefused { pass, cause: _ }) => (pass, Err(AllocError)),
+    }
+}
+
+/// Transactions of a caller, one after the other.
+fn some_txns<R: Wait>(
+    rt: &R,
+    alloc: Global,
+    db: &Db,
+    pass: Pass,
+    letter: char,
+    count: u64,
+    commits: bool,
+) -> (Pass, Result<(), AllocError>)
+    requires own { IsOf db.now pass }
+    ensures { IsOf db.now result.0 }
+{
+    let mut pass = pass;
+    for own in 0..count {
+        let (next, done) = one_txn(rt, alloc, db, pass, letter, own, commits);
+        pass = next;
+        if done.is_err() {
+            return (pass, done);
+        }
+    }
+    (pass, Ok(()))
+}
+
+/// The same of a pass that a thread borrows.
+fn some_borrowed<R: Wait>(
+    rt: &R,
+    alloc: Global,
+    db: &Db,
+    held: &mut Option<Pass>,
+    letter: char,
+    count: u64,
+    commits: bool,
+) -> Result<(), AllocError>
+    requires own { (p : Caller) × (held.old ≡ Some p) × IsOf db.now p }
+    ensures { (p : Caller) × (held.new ≡ Some p) × IsOf db.now p }
+{
+    let Some(pass) = held.take() else {
+        unreachable!()
+    };
+    let (pass, done) = some_txns(rt, alloc, db, pass, letter, count, commits);
+    let gone = held.replace(pass);
+    let None = gone else { unreachable!() };
+    done
+}
+
+/// How many users there are of each caller, by age, where each caller's are in the order of its own.
+fn in_order(alloc: Global, rows: &Rows) -> Result<Option<(u64, u64)>, Fail> {
+    let mut counts = (0, 0);
+    for row in rows.iter() {
+        let Some(Datum::Str(name)) = row.members().get("name") else {
+            return Ok(None);
+        };
+        if name.as_str() == name_of(alloc, 'a', counts.0)?.as_str() {
+            counts.0 = counts.0.saturating_add(1);
+        } else if name.as_str() == name_of(alloc, 'b', counts.1)?.as_str() {
+            counts.1 = counts.1.saturating_add(1);
+        } else {
+            return Ok(None);
+        }
+    }
+    Ok(Some(counts))
+}
+
+/// The users of a state, by age.
+fn are_in_order(alloc: Global, read: &ReadTxn, counts: (u64, u64)) -> Result<bool, Fail> {
+    let query = super::query_of(alloc, Ask::Get, ("users", "age"), "[]")?;
+    match read.ask(&query)? {
+        Answer::Many(rows) => Ok(in_order(alloc, &rows)? == Some(counts)),
+        Answer::One(_) => Ok(false),
+    }
+}
+
+/// Whether both callers' commits in turn are all there, each caller's in order.
+fn are_made<R: Wait>(rt: &R, alloc: Global) -> Result<bool, Fail> {
+    let (db, passes, one, two) = pair(alloc)?;
+    let (one, first) = some_txns(rt, alloc, &db, one, 'a', 50, true);
+    let (two, second) = some_txns(rt, alloc, &db, two, 'b', 50, true);
+    let (one, aborted) = some_txns(rt, alloc, &db, one, 'a', 50, false);
+    let last = closed(rt, db, passes, one, two);
+    first.and(second).and(aborted)?;
+    Ok(last.number() == 100 && are_in_order(alloc, &last, (50, 50))?)
+}
+
+#[test]
+fn two_callers_make_fifty_commits_each(rt: HostRuntime) -> Result<(), Fail> {
+    assert!(rt; are_made(&rt, rt.alloc())?);
+    Ok(())
+}
+
+/// Whether a try of a caller finds another's transaction open.
+fn is_taken<R: Wait>(rt: &R, db: &Db, pass: Pass) -> (Pass, Result<bool, AllocError>)
+    requires own { IsOf db.now pass }
+    ensures { IsOf db.now result.0 }
+{
+    match db.try_write::<u8, R>(rt, pass) {
+        Ok(Tried::Begun(txn)) => (txn.abort(db), Ok(false)),
+        Ok(Tried::Taken(pass)) => (pass, Ok(true)),
+        Err(BeginRefused { pass, cause: _ }) => (pass, Err(AllocError)),
+    }
+}
+
+/// Whether the first of two is so and the second isn't.
+fn is_first_alone(
+    first: Result<bool, AllocError>,
+    second: Result<bool, AllocError>,
+) -> Result<bool, AllocError> {
+    Ok(first? && !second?)
+}
+
+/// While one caller's transaction is open, a try of the other finds it taken; then it begins one.
+fn try_twice<R: Wait>(
+    rt: &R,
+    db: &Db,
+    one: Pass,
+    two: Pass,
+) -> (Pass, Pass, Result<bool, AllocError>)
+    requires one { IsOf db.now one }
+    requires two { IsOf db.now two }
+    ensures one { IsOf db.now result.0 }
+    ensures two { IsOf db.now result.1 }
+{
+    match db.try_write::<u8, R>(rt, one) {
+        Ok(Tried::Begun(txn)) => {
+            let (two, first) = is_taken(rt, db, two);
+            let one = txn.abort(db);
+            let (two, next) = is_taken(rt, db, two);
+            (one, two, is_first_alone(first, next))
+        }
+        Ok(Tried::Taken(one)) => (one, two, Ok(false)),
+        Err(
+            BeginRefused {
+                pass: one,
+                cause: _,
+            },
+        ) => (one, two, Err(AllocError)),
+    }
+}
+
+#[test]
+fn a_try_finds_a_transaction_taken_and_then_begins(rt: HostRuntime) -> Result<(), Fail> {
+    let (db, passes, one, two) = pair(rt.alloc())?;
+    let (one, two, right) = try_twice(&rt, &db, one, two);
+    drop(closed(&rt, db, passes, one, two));
+    assert!(rt; right?);
+    Ok(())
+}
+
+/// Asks a state a hundred times, and tells whether it has no users each time.
+fn stays_empty(alloc: Global, read: &ReadTxn) -> Result<bool, AllocError> {
+    for _ in 0..100 {
+        let query = all_users(alloc)?;
+        match read.ask(&query) {
+            Ok(Answer::Many(rows)) => {
+                if rows.len() != 0 {
+                    return Ok(false);
+                }
+            }
+            _ => return Err(AllocError),
+        }
+    }
+    Ok(true)
+}
+
+/// The question for all users.
+fn all_users(alloc: Global) -> Result<Query, AllocError> {
+    let table = Text::of(alloc, "users")?;
+    let index = Text::of(alloc, "id")?;
+    match read_doc(alloc, b"[]") {
+        Ok(Datum::Items(args)) => Ok(Query::from_parts(Ask::Get, table, index, args)),
+        _ => Err(AllocError),
+    }
+}
+
+/// Whether a state stays as it is while the caller makes a hundred commits on another thread.
+fn is_kept<R: Threads + Wait + Sync>(
+    rt: &R,
+    alloc: Global,
+    db: &Db,
+    read: &ReadTxn,
+    two: &mut Option<Pass>,
+) -> Result<bool, AllocError>
+    requires { (p : Caller) × (two.old ≡ Some p) × IsOf db.now p }
+    ensures { (p : Caller) × (two.new ≡ Some p) × IsOf db.now p }
+{
+    let (kept, done) = join_mut(
+        rt,
+        &mut || -> Result<bool, AllocError> { stays_empty(alloc, read) },
+        &mut || -> Result<(), AllocError>
+            requires { (p : Caller) × (two.now ≡ Some p) × IsOf db.now p }
+            ensures { (p : Caller) × (two.exit.now ≡ Some p) × IsOf db.entry.now p }
+        { some_borrowed(rt, alloc, db, two, 'b', 100, true) },
+    );
+    done?;
+    Ok(kept? && stays_empty(alloc, read)?)
+}
+
+/// The same of the first caller's snapshot, and the number of commits at the end.
+fn kept_long<R: Threads + Wait + Sync>(rt: &R, alloc: Global) -> Result<(bool, u64), Fail> {
+    let (db, passes, mut one, two) = pair(alloc)?;
+    let read = db.read(rt, &mut one);
+    let mut two = Some(two);
+    let kept = match &read {
+        Ok(read) => is_kept(rt, alloc, &db, read, &mut two),
+        Err(AllocError) => Err(AllocError),
+    };
+    match two {
+        Some(two) => {
+            let last = closed(rt, db, passes, one, two);
+            Ok((kept?, last.number()))
+        }
+        None => unreachable!(),
+    }
+}
+
+#[test]
+fn a_snapshot_outlives_a_hundred_commits(rt: HostRuntime) -> Result<(), Fail> {
+    assert!(rt; kept_long(&rt, rt.alloc())? == (true, 100));
+    Ok(())
+}
+
+fn may_be_sent<T: Send>(_value: &T) {}
+
+fn may_be_shared<T: Send + Sync>(_value: &T) {}
+
+/// Callers on threads share a database and what it answers from, each with a pass of its own. The
+/// function is over a type that it doesn't look at.
+fn threads_may_have_all<R: Threads>(
+    _rt: &R,
+    db: &Db,
+    passes: &Passes,
+    pass: &Pass,
+    read: &ReadTxn,
+    kept: &Snapshot,
+) {
+    may_be_shared(db);
+    may_be_sent(passes);
+    may_be_sent(pass);
+    may_be_shared(read);
+    may_be_shared(kept);
+}

@@ -1,0 +1,74 @@
+//! A session over a catalogue of nodes and services: keys in lower case, of two parts, of each member
+//! of a map, and of a test.
+use super::is_answered;
+use std::test::Fail;
+
+const SCHEMA: &str = r#"{"memdb":1,"tables":{
+"nodes":{"indexes":{"id":{"unique":true,"indexer":{"kind":"text","field":"node","lowercase":true}},
+"meta":{"allow_missing":true,"indexer":{"kind":"text_map","field":"meta"}},
+"uuid":{"unique":true,"allow_missing":true,"indexer":{"kind":"uuid","field":"uuid"}}}},
+"services":{"indexes":{"id":{"unique":true,"indexer":{"kind":"compound","parts":[
+{"kind":"text","field":"node","lowercase":true},{"kind":"text","field":"sid","lowercase":true}]}},
+"service":{"allow_missing":true,"indexer":{"kind":"text","field":"name","lowercase":true}},
+"up":{"indexer":{"kind":"conditional","field":"status","equals":"passing"}}}}}}"#;
+
+const CATALOGUE: &str = r#"write
+insert nodes {"node":"Web-1","uuid":"11111111-2222-3333-4444-555555555555","meta":{"rack":"r1"}}
+insert services {"node":"web-1","sid":"api1","name":"api","status":"passing"}
+insert services {"node":"web-1","sid":"api2","name":"api","status":"critical"}
+defer registered web-1
+defer told the ring
+commit
+read
+first nodes id ["WEB-1"]
+get nodes meta ["rack"]
+get services id_prefix ["web-1","api2"]
+get services up [true]
+end
+write
+insert services {"node":"web-1","sid":"api2","name":"api","status":"passing"}
+commit
+write
+delete-prefix services id_prefix ["web-1"]
+delete-all nodes id
+commit
+read
+get services service ["API"]
+"#;
+
+const OUT: &str = r#"client 1 c1
+1: write @0
+2: inserted
+3: inserted
+4: inserted
+5: deferred
+6: deferred
+7: commit @1
+  did told the ring
+  did registered web-1
+8: read @1
+9: row {"meta":{"rack":"r1"},"node":"Web-1","uuid":"11111111-2222-3333-4444-555555555555"}
+10: rows 1
+  {"meta":{"rack":"r1"},"node":"Web-1","uuid":"11111111-2222-3333-4444-555555555555"}
+11: rows 1
+  {"name":"api","node":"web-1","sid":"api2","status":"critical"}
+12: rows 1
+  {"name":"api","node":"web-1","sid":"api1","status":"passing"}
+13: ended
+14: write @1
+15: replaced
+16: commit @2
+17: write @2
+18: deleted 2
+19: deleted 1
+20: commit @3
+21: read @3
+22: rows 0
+"#;
+
+#[test]
+fn a_catalogue_is_answered(rt: HostRuntime) -> Result<(), Fail> {
+    let holds = is_answered(&rt, rt.alloc(), SCHEMA, CATALOGUE, (0, OUT))?;
+    assert!(rt; holds);
+    Ok(())
+}
