@@ -2,7 +2,7 @@
 ghost use Rattle.std.specs.Prelude.{◌≡◌, ◌∷◌, [], IfOk, IsTrue};
 ghost use Rattle.client_script.specs.Session.{AreKnown};
 ghost use Rattle.client_script.specs.Turn.{is_of_watches};
-ghost use Rattle.mem_txn.specs.Database.{IsOf, new_callers};
+ghost use Rattle.mem_txn.specs.Database.{IsCaller, IsOf, new_callers};
 
 use crate::Session;
 use client_script::{Command, Script, read_script};
@@ -75,14 +75,16 @@ fn script_of(alloc: Global, text: &str) -> Result<Script, Fail>
 
 /// A new database with the schema that a text reads as, and the pass of its one caller.
 fn new_db(alloc: Global, schema: &str) -> Result<(Db, Passes), Fail>
-    ensures { IfOk result (λ made. made.1 ≡ new_callers made.0 1) }
+    ensures passes { IfOk result (λ made. made.1 ≡ new_callers made.0 1) }
+    ensures alone { IfOk result (λ made. made.0.callers ≡ 1) }
 {
     Ok(Db::create(alloc, schema_of(alloc, schema)?, 1)?)
 }
 
 /// A new database, and a session of its one caller.
 fn opened(alloc: Global, schema: &str, script: &str) -> Result<(Db, Passes, Session), Fail>
-    ensures own { IfOk result (λ made. IsOf made.0 made.2.caller) }
+    ensures own { IfOk result (λ made. IsCaller made.0 1 made.2.caller) }
+    ensures alone { IfOk result (λ made. made.0.callers ≡ 1) }
     ensures one { IfOk result (λ made. made.1 ≡ record { passes = []; made = 1 }) }
     ensures known { IfOk result (λ made. AreKnown made.2.script) }
 {
@@ -101,7 +103,7 @@ fn opened(alloc: Global, schema: &str, script: &str) -> Result<(Db, Passes, Sess
 fn tells<R: Wait>(rt: &R, db: &Db, session: &mut Session, answers: &str) -> Result<bool, Fail>
     requires own { IsOf db.now session.old.caller }
     requires known { AreKnown session.old.script }
-    ensures own { IsOf db.now session.new.caller }
+    ensures own { IsCaller db.now session.old.caller.number session.new.caller }
     ensures script { session.new.script ≡ session.old.script }
 {
     session.run(rt, db, &OpenGate)?;
@@ -110,7 +112,8 @@ fn tells<R: Wait>(rt: &R, db: &Db, session: &mut Session, answers: &str) -> Resu
 
 /// Ends a session and closes its database, and gives the number of commits.
 fn close<R: Wait>(rt: &R, db: Db, passes: Passes, session: Session) -> u64
-    requires own { IsOf db session.caller }
+    requires own { IsCaller db 1 session.caller }
+    requires alone { db.callers ≡ 1 }
     requires one { passes ≡ record { passes = []; made = 1 } }
 {
     let mut passes = passes;

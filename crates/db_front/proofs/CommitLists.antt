@@ -34,6 +34,9 @@ prefix_more xs ys zs p = (p.0 ++ zs, sym (append_assoc xs p.0 zs) ∙ ap (λ w. 
 pub prefix_by : {A : Type 0} (a b c : List A) (n : A) → b ≡ a → c ≡ b ++ n ∷ [] → IsPrefix a c
 prefix_by a b c n same e = (n ∷ [], ap (λ xs. xs ++ n ∷ []) (sym same) ∙ sym e)
 
+pub tries_by : (a b c ts : List ℕ) → b ≡ a → c ≡ b ++ ts ++ 0 ∷ [] → IsPrefix a c
+tries_by a b c ts same e = (ts ++ 0 ∷ [], sym (append_assoc a ts (0 ∷ [])) ∙ (ap (λ xs. xs ++ ts ++ 0 ∷ []) (sym same) ∙ sym e))
+
 pub take_more : {A : Type 0} (k : ℕ) (xs ys : List A) → k ≤ length xs → take k (xs ++ ys) ≡ take k xs
 take_more zero xs ys h = refl
 take_more (suc k) [] ys h = absurd (omega (arith, h))

@@ -57,8 +57,9 @@ module _ {V : Type 0} (stands : List (ℕ × V) → V → Type 0) (fired : List 
             behind = λ _. b;
           };
           seats = seats_set stands fired r.now n' s.views id w
-              record { own = f.own; more = f.more; apart = f.apart; writes = λ _. (wr.0, wr.1, refl, wr.3, wr.4); shows = λ q. absurd (omega (arith, q)) }
+              record { limit = f.limit; own = f.own; more = f.more; apart = f.apart; writes = λ _. (wr.0, wr.1, refl, wr.3, wr.4); shows = λ q. absurd (omega (arith, q)) }
               (λ j v ne vat g. record {
+                limit = g.limit;
                 own = g.own;
                 more = g.more;
                 apart = g.apart;
@@ -120,6 +121,7 @@ module _ {V : Type 0} (stands : List (ℕ × V) → V → Type 0) (fired : List 
           };
           seats = seats_set stands fired r.now n' s.views id w
               record {
+                limit = f.limit;
                 own = λ p. grown r.now id me.0 c.0 sh.3 (f.own p);
                 more = hands_grown r.now.callers r.now.owner (log_of r.now) id me.0.more me.0.number c.0 (f.apart.0 mine) f.more;
                 apart = f.apart;
@@ -128,6 +130,7 @@ module _ {V : Type 0} (stands : List (ℕ × V) → V → Type 0) (fired : List 
               }
               (λ j v ne vat g.
               let away : r.now.owner me.0.number ≢ j = λ q. ne (sym q ∙ own.seat) in record {
+                limit = g.limit;
                 own = λ p. let x = g.own p in carries_grown r.now.callers r.now.owner (log_of r.now) j (v.number, v.mine, v.seen) me.0.number c.0 (λ q. away (ap r.now.owner (sym q) ∙ x.seat)) x;
                 more = hands_grown r.now.callers r.now.owner (log_of r.now) j v.more me.0.number c.0 (hands_lack r.now.callers r.now.owner (log_of r.now) j v.more me.0.number away g.more) g.more;
                 apart = g.apart;
@@ -167,6 +170,7 @@ module _ {V : Type 0} (stands : List (ℕ × V) → V → Type 0) (fired : List 
           };
           seats = seats_set stands fired r.now n' s.views id w
               record {
+                limit = f.limit;
                 own = f.own;
                 more = f.more;
                 apart = f.apart;
@@ -174,6 +178,7 @@ module _ {V : Type 0} (stands : List (ℕ × V) → V → Type 0) (fired : List 
                 shows = λ o. let x = f.shows o in (x.0, x.1, x.2, x.3, now_covers me.0.log x.4);
               }
               (λ j v ne vat g. record {
+                limit = g.limit;
                 own = g.own;
                 more = g.more;
                 apart = g.apart;

@@ -1,8 +1,7 @@
 -- The numbers of the passes go to one seat, one after the other.
 use Rattle.std.proofs.Common.{◌≡◌, List, [], ◌∷◌, ◌++◌, map, sym, refl, ap, ◌∙◌, subst, append_assoc, None, slice_get}
 use Rattle.std.proofs.lemmas.List.{append-nil}
-use Rattle.atomic_table.specs.Seated.{TableId}
-use Rattle.db_front.specs.Passes.{Known, AreIdle}
+use Rattle.db_front.specs.Passes.{FrontId, Known, AreIdle}
 use Rattle.db_front.specs.inner.Plays.{Sat}
 use Rattle.db_front.specs.inner.Seats.{hand_of}
 
@@ -15,7 +14,7 @@ none_first [] e = refl
 none_first (x ∷ xs) e = absurd (cc e)
 
 module _ {V : Type 0} where
-  pub gathered : (t : TableId) (m0 m1 m2 : Sat V) (all gone old new : List (Known V)) (p : Known V) → all ≡ gone ++ old → old ≡ p ∷ new
+  pub gathered : (t : FrontId) (m0 m1 m2 : Sat V) (all gone old new : List (Known V)) (p : Known V) → all ≡ gone ++ old → old ≡ p ∷ new
       → m1 ≡ (record m0.0 { more = map hand_of gone }, m0.1) → m2 ≡ (record m1.0 { more = m1.0.more ++ hand_of p ∷ [] }, m1.1) → AreIdle t old
       → AreIdle t new × (gone' : List (Known V)) × (all ≡ gone' ++ new) × (m2 ≡ (record m0.0 { more = map hand_of gone' }, m0.1))
   gathered t m0 m1 m2 all gone old new p all_is old_is m1_is m2_is idle = (

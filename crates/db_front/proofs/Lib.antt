@@ -1,5 +1,6 @@
 pub mod CommitLists
 pub mod FreshPasses
+pub mod AllPasses
 pub mod IdlePasses
 pub mod Gathered
 pub mod Hands

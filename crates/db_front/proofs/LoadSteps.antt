@@ -32,6 +32,7 @@ module _ {V : Type 0} (stands : List (ℕ × V) → V → Type 0) (fired : List 
         keeps,
         tt,
         quiet stands fired callers s r _ id me.0 w (set-get_or s.words 0 0) at refl record {
+          limit = f.limit;
           own = f.own;
           more = f.more;
           apart = f.apart;

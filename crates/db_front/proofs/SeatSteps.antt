@@ -23,8 +23,8 @@ module _ {V : Type 0} (stands : List (ℕ × V) → V → Type 0) (fired : List 
   abbrev F : Now V → ℕ → View V → Type 0
   F = Fits stands fired
 
-  pub splits : (callers id : ℕ) (v : View V) (p : Hand V) (ps : List (Hand V)) → v.more ≡ p ∷ ps → Splits (Rule callers) id v (fewer v) (handed_over v)
-  splits callers id v p ps is s r at =
+  pub splits : (callers id : ℕ) (v : View V) (p : Hand V) (ps : List (Hand V)) → v.more ≡ p ∷ ps → 0 < v.number → Splits (Rule callers) id v (fewer v) (handed_over v)
+  splits callers id v p ps is known s r at =
       let n : Now V = r.now in
       let f = r.seats id v at in
       let hs : Hands n.callers n.owner (log_of n) id (p ∷ ps) = subst (λ l. Hands n.callers n.owner (log_of n) id l) is f.more in
@@ -33,11 +33,12 @@ module _ {V : Type 0} (stands : List (ℕ × V) → V → Type 0) (fired : List 
       let to : ℕ = length s.views in
       let n' : Now V = record n { owner = moves n.owner p.0 to } in
       let w : View V = record v { more = ps } in
-      let x : View V = blank p.0 p.2 p.1 [] in
+      let x : View V = blank v.callers p.0 p.2 p.1 [] in
       let left : fewer v ≡ w = ap (λ l. record v { more = drop 1 l }) is in
-      let right : handed_over v ≡ x = ap given is in
+      let right : handed_over v ≡ x = ap (given v.callers) is in
       let t = turns_set stands fired n s.views id v w at refl r.turns in
       let mine : F n' id w = record {
+        limit = f.limit;
         own = λ q. carries_moved n.callers n.owner (log_of n) id (v.number, v.mine, v.seen) p.0 to (λ e. (lacks q).0 (sym e)) (f.own q);
         more = hands_moved n.callers n.owner (log_of n) id ps p.0 to ap'.0 hs.1;
         apart = ((λ q. (lacks q).1), ap'.1);
@@ -45,6 +46,7 @@ module _ {V : Type 0} (stands : List (ℕ × V) → V → Type 0) (fired : List 
         shows = f.shows;
       } in
       let theirs : F n' to x = record {
+        limit = λ q. f.limit known;
         own = λ q. record {
           named = hs.0.named;
           few = hs.0.few;
@@ -59,6 +61,7 @@ module _ {V : Type 0} (stands : List (ℕ × V) → V → Type 0) (fired : List 
       } in
       let others : (j : ℕ) (u : View V) → j ≢ id → get_elem? s.views j ≡ some u → F n j u → F n' j u = λ j u ne uat g.
       let away : n.owner p.0 ≢ j = λ q. ne (sym q ∙ hs.0.seat) in record {
+        limit = g.limit;
         own = λ q. let y = g.own q in carries_moved n.callers n.owner (log_of n) j (u.number, u.mine, u.seen) p.0 to (λ e. away (ap n.owner (sym e) ∙ y.seat)) y;
         more = hands_moved n.callers n.owner (log_of n) j u.more p.0 to (hands_lack n.callers n.owner (log_of n) j u.more p.0 away g.more) g.more;
         apart = g.apart;
@@ -83,7 +86,7 @@ module _ {V : Type 0} (stands : List (ℕ × V) → V → Type 0) (fired : List 
             (λ (e : (j ≡ length (set s.views id w)) × (x ≡ u)). subst (λ (z : ℕ × View V). F n' z.0 z.1) (λ i. (sym (e.0 ∙ set_length s.views id w) i, e.1 i)) theirs) (at_end (set s.views id w) x u j uat);
       }
 
-  pub joins : (callers id other : ℕ) (v w : View V) → 0 < w.number → w.more ≡ [] → w.stage ≡ 0 → Joins (Rule callers) id v other w (joined v w) (blank 0 [] [] [])
+  pub joins : (callers id other : ℕ) (v w : View V) → 0 < w.number → w.more ≡ [] → w.stage ≡ 0 → Joins (Rule callers) id v other w (joined v w) (blank 0 0 [] [] [])
   joins callers id other v w named alone idle s r at ne at' =
       let n : Now V = r.now in
       let f = r.seats id v at in
@@ -95,6 +98,7 @@ module _ {V : Type 0} (stands : List (ℕ × V) → V → Type 0) (fired : List 
       let back : id ≢ other = λ q. ne (sym q) in
       let apart : n.owner w.number ≢ id = λ e. ne (sym go.seat ∙ e) in
       let mine : F n' id (joined v w) = record {
+        limit = f.limit;
         own = λ q. carries_merged n.callers n.owner (log_of n) id (v.number, v.mine, v.seen) other id back (f.own q);
         more = hands_more n.callers n'.owner (log_of n) id v.more p (hands_merged n.callers n.owner (log_of n) id v.more other id back f.more) record {
           named = go.named;
@@ -110,7 +114,8 @@ module _ {V : Type 0} (stands : List (ℕ × V) → V → Type 0) (fired : List 
         writes = f.writes;
         shows = f.shows;
       } in
-      let gone : F n' other (blank 0 [] [] []) = record {
+      let gone : F n' other (blank 0 0 [] [] []) = record {
+        limit = λ q. absurd (omega (arith, q));
         own = λ q. absurd (omega (arith, q));
         more = tt;
         apart = ((λ _. tt), tt);
@@ -118,22 +123,23 @@ module _ {V : Type 0} (stands : List (ℕ × V) → V → Type 0) (fired : List 
         shows = λ q. absurd (omega (arith, q));
       } in
       let others : (j : ℕ) (u : View V) → j ≢ id → j ≢ other → F n j u → F n' j u = λ j u a b x. record {
+        limit = x.limit;
         own = λ q. carries_merged n.callers n.owner (log_of n) j (u.number, u.mine, u.seen) other id b (x.own q);
         more = hands_merged n.callers n.owner (log_of n) j u.more other id b x.more;
         apart = x.apart;
         writes = x.writes;
         shows = x.shows;
       } in
-      let t = turns_set stands fired n (set s.views id (joined v w)) other w (blank 0 [] [] []) at' (sym idle) (turns_set stands fired n s.views id v (joined v w) at refl r.turns) in
+      let t = turns_set stands fired n (set s.views id (joined v w)) other w (blank 0 0 [] [] []) at' (sym idle) (turns_set stands fired n s.views id v (joined v w) at refl r.turns) in
       record {
         now = n';
         limit = r.limit;
         words = r.words;
         slot = record { home = r.slot.home; away = r.slot.away };
         turns = record { room = t.room; named = t.named; free = t.free; held = t.held; whole = t.whole; behind = t.behind };
-        seats = λ j u uat. ⊎_elim (λ (e : (j ≡ other) × (blank 0 [] [] [] ≡ u)). subst (λ (z : ℕ × View V). F n' z.0 z.1) (λ i. (sym e.0 i, e.1 i)) gone)
+        seats = λ j u uat. ⊎_elim (λ (e : (j ≡ other) × (blank 0 0 [] [] [] ≡ u)). subst (λ (z : ℕ × View V). F n' z.0 z.1) (λ i. (sym e.0 i, e.1 i)) gone)
             (λ (e : (j ≢ other) × (get_elem? (set s.views id (joined v w)) j ≡ some u)). ⊎_elim (λ (d : (j ≡ id) × (joined v w ≡ u)). subst (λ (z : ℕ × View V). F n' z.0 z.1) (λ i. (sym d.0 i, d.1 i)) mine)
-            (λ (d : (j ≢ id) × (get_elem? s.views j ≡ some u)). others j u d.0 e.0 (r.seats j u d.1)) (at_set s.views id j (joined v w) u e.1)) (at_set (set s.views id (joined v w)) other j (blank 0 [] [] []) u uat);
+            (λ (d : (j ≢ id) × (get_elem? s.views j ≡ some u)). others j u d.0 e.0 (r.seats j u d.1)) (at_set s.views id j (joined v w) u e.1)) (at_set (set s.views id (joined v w)) other j (blank 0 0 [] [] []) u uat);
       }
 
   -- the log beside the opening value
@@ -163,6 +169,7 @@ module _ {V : Type 0} (stands : List (ℕ × V) → V → Type 0) (fired : List 
 
       seats : (j : ℕ) (v : View V) → get_elem? (first_view (c.0, callers) ∷ []) j ≡ some v → F now j v
       seats zero v e = subst (F now 0) (some-injective (first_view (c.0, callers)) v e) record {
+        limit = λ _. refl;
         own = λ q. record { named = q; few = omega arith; seat = refl; made = none_made c.0 callers q; seen = prefix_self (start c.0) };
         more = dealt_hands c.0 callers 1 (callers - 1) (omega arith) (omega (arith, some_one));
         apart = ((λ _. dealt_lack_above (start c.0) callers 1 (callers - 1) (omega (arith, some_one))), dealt_apart (start c.0) 1 (callers - 1));
@@ -186,7 +193,7 @@ module _ {V : Type 0} (stands : List (ℕ × V) → V → Type 0) (fired : List 
   -- what the end tells, from the views of the last seat as it goes
   pub ended : (callers id : ℕ) (st : Step (Option (V × Log))) (m1 m2 m3 m4 m5 : Sat V) (h h' : List (ℕ × V)) (ts : List ℕ) (l : Log) (n d : ℕ) (ws : List ℕ) (xs : List (Option (V × Log)))
       → 0 < m1.0.number → IsPrefix m1.0.seen h → m2.0 ≡ begun m1.0 h ts → (0 < m2.0.stage → h' ≡ m2.0.seen) → m3.0 ≡ record m2.0 { seen = h'; out = 1; log = l } → counted st m3 n m4 → noted stands fired st m4 d m5
-      → Final (Seen (Rule callers) id m5.0) ws xs → IsHistory callers h' × (n + 1 ≡ length h') × (d ≡ n) × HasHand h' m1.0 × (n ≤ 2 ^ 63)
+      → Final (Seen (Rule callers) id m5.0) ws xs → IsHistory callers h' × (n + 1 ≡ length h') × (d ≡ n) × HasHand h' m1.0 × (n ≤ 2 ^ 63) × HasFirings fired d h' l
   ended callers id st m1 m2 m3 m4 m5 h h' ts l n d ws xs named pre e2 whole e3 c o fin =
       let x3 : View V = record m1.0 { seen = h'; tries = ts; stage = 1; out = 1; log = l } in
       let x4 : View V = record x3 { counts = m1.0.counts ++ n ∷ [] } in
@@ -202,6 +209,7 @@ module _ {V : Type 0} (stands : List (ℕ × V) → V → Type 0) (fired : List 
         omega (arith, len, fin_len),
         (k.1, subst (λ z. IsPrefix m1.0.seen z) (sym same) pre, k.2),
         c.3,
+        (subst (λ (u : View V). 0 < u.out → HasFirings fired d u.seen u.log) q4 (λ out. (o.1 out).0)) (omega arith),
       )
 
 module _ {V : Type 0} where

@@ -1,5 +1,5 @@
 -- Taking turns and giving them back keeps the rule.
-use Rattle.std.proofs.Common.{◌≡◌, ℕ, zero, suc, ◌==◌, ◌<◌, List, [], ◌∷◌, ◌++◌, length, get_or, set, sym, refl, ap, ◌∙◌, subst, arith, Option, Some}
+use Rattle.std.proofs.Common.{◌≡◌, ℕ, zero, suc, ◌==◌, ◌<◌, ◌≤◌, List, [], ◌∷◌, ◌++◌, length, get_or, set, sym, refl, ap, ◌∙◌, subst, arith, Option, Some}
 use mathlib.Core.Option.{none, some}
 use lib.ListN.{get_elem?}
 use prog.Atomic.{either}
@@ -9,7 +9,7 @@ use Rattle.db_front.specs.declared.board.View.{View}
 use Rattle.db_front.specs.inner.Kept.{Now, log_of, Carries, Covers, Fits, IsKept}
 use Rattle.db_front.specs.inner.Plays.{Sat, tried, left, laid, took}
 use Rattle.db_front.proofs.CommitLists.{set_at, prefix_self, missed}
-use Rattle.db_front.proofs.Unchanged.{seats_set, turns_set, quiet, others_turn}
+use Rattle.db_front.proofs.Unchanged.{seats_set, turns_set, quiet, turn_named, others_turn}
 
 module _ {V : Type 0} (stands : List (ℕ × V) → V → Type 0) (fired : List (ℕ × V) → Log → Type 0) where
   abbrev Rule : ℕ → State (Option (V × Log)) (View V) → Type 0
@@ -64,6 +64,7 @@ module _ {V : Type 0} (stands : List (ℕ × V) → V → Type 0) (fired : List 
               };
               seats = seats_set stands fired r.now n' s.views id w
                   record {
+                    limit = f.limit;
                     own = λ p. now_seen r.now id me.0 (f.own p);
                     more = f.more;
                     apart = f.apart;
@@ -71,6 +72,7 @@ module _ {V : Type 0} (stands : List (ℕ × V) → V → Type 0) (fired : List 
                     shows = λ o. let x = f.shows o in (x.0, x.1, x.2, refl, (x.4.0, λ q. absurd (omega (arith, q))));
                   }
                   (λ j v ne vat g. record {
+                    limit = g.limit;
                     own = g.own;
                     more = g.more;
                     apart = g.apart;
@@ -81,13 +83,16 @@ module _ {V : Type 0} (stands : List (ℕ × V) → V → Type 0) (fired : List 
             ((λ _. (log_of r.now, (f.own mine).seen, refl)), (λ ne. absurd (ne refl))),
           )
       go (suc t) e =
-          let w : View V = record me.0 { tries = me.0.tries ++ suc t ∷ [] } in (
+          let w : View V = record me.0 { tries = me.0.tries ++ suc t ∷ [] } in
+          let named : r.now.turn ≤ r.now.callers = turn_named stands fired callers s r (omega (arith, e)) in
+          let limit : me.0.callers ≡ r.now.callers = f.limit mine in
+          let few : suc t ≤ me.0.callers = omega (arith, named, limit, e) in (
             w,
             keeps,
             tt,
             quiet stands fired callers s r _ id me.0 w (ap (λ (k : ℕ). length r.now.commits ∷ r.now.done ∷ k ∷ r.now.shown ∷ []) (missed t me.0.number ∙ sym e) ∙ sym r.words) at refl
-                record { own = f.own; more = f.more; apart = f.apart; writes = f.writes; shows = f.shows },
-            ((λ q. absurd (omega (arith, q))), (λ _. ((λ q. others_turn stands fired callers s r id me.0 at idle mine (omega (arith, e)) (e ∙ q)), refl))),
+                record { limit = f.limit; own = f.own; more = f.more; apart = f.apart; writes = f.writes; shows = f.shows },
+            ((λ q. absurd (omega (arith, q))), (λ _. ((λ q. others_turn stands fired callers s r id me.0 at idle mine (omega (arith, e)) (e ∙ q)), few, refl))),
           )
 
   pub leaves : (callers slots id : ℕ) (me : Sat V) → me.0.stage ≡ 1 → Allows (Rule callers) slots id me 2 (λ _. 0) (λ _. left (step slots 2 0 0 none) me 0)
@@ -115,6 +120,7 @@ module _ {V : Type 0} (stands : List (ℕ × V) → V → Type 0) (fired : List 
           };
           seats = seats_set stands fired r.now n' s.views id w
               record {
+                limit = f.limit;
                 own = f.own;
                 more = f.more;
                 apart = f.apart;
@@ -122,6 +128,7 @@ module _ {V : Type 0} (stands : List (ℕ × V) → V → Type 0) (fired : List 
                 shows = λ o. let x = f.shows o in (x.0, x.1, x.2, x.3, (x.4.0, λ q. absurd (omega (arith, q))));
               }
               (λ j v ne vat g. record {
+                limit = g.limit;
                 own = g.own;
                 more = g.more;
                 apart = g.apart;
@@ -163,6 +170,7 @@ module _ {V : Type 0} (stands : List (ℕ × V) → V → Type 0) (fired : List 
               turns = record { room = t.room; named = t.named; free = t.free; held = t.held; whole = t.whole; behind = t.behind };
               seats = seats_set stands fired r.now n' s.views id w
                   record {
+                    limit = f.limit;
                     own = λ p. now_seen r.now id me.0 (f.own p);
                     more = f.more;
                     apart = f.apart;
@@ -170,6 +178,7 @@ module _ {V : Type 0} (stands : List (ℕ × V) → V → Type 0) (fired : List 
                     shows = λ _. (mine, refl, refl, refl, h.3);
                   }
                   (λ j v ne vat g. record {
+                    limit = g.limit;
                     own = g.own;
                     more = g.more;
                     apart = g.apart;
@@ -214,8 +223,8 @@ module _ {V : Type 0} (stands : List (ℕ × V) → V → Type 0) (fired : List 
           };
           turns = record { room = t.room; named = t.named; free = t.free; held = t.held; whole = t.whole; behind = t.behind };
           seats = seats_set stands fired r.now n' s.views id w
-              record { own = f.own; more = f.more; apart = f.apart; writes = f.writes; shows = λ q. absurd (omega (arith, q)) }
-              (λ j v ne vat g. record { own = g.own; more = g.more; apart = g.apart; writes = g.writes; shows = λ o. absurd (ne (sym (g.shows o).1 ∙ sh.1)) }) r.seats;
+              record { limit = f.limit; own = f.own; more = f.more; apart = f.apart; writes = f.writes; shows = λ q. absurd (omega (arith, q)) }
+              (λ j v ne vat g. record { limit = g.limit; own = g.own; more = g.more; apart = g.apart; writes = g.writes; shows = λ o. absurd (ne (sym (g.shows o).1 ∙ sh.1)) }) r.seats;
         },
         (refl, ap rest hand),
       )

@@ -1,5 +1,5 @@
 -- What a step leaves: the views of other seats, and the facts on turns.
-use Rattle.std.proofs.Common.{◌≡◌, ◌≢◌, ℕ, ◌<◌, List, set, sym, ap, ◌∙◌, subst, ⊎_elim, arith, Option}
+use Rattle.std.proofs.Common.{◌≡◌, ◌≢◌, ℕ, ◌<◌, ◌≤◌, List, set, sym, ap, ◌∙◌, subst, ⊎_elim, arith, Option}
 use mathlib.Core.Logic.{dite}
 use mathlib.Core.Option.{some, some-injective}
 use native.Mathlib.Decide.{ℕ_discrete}
@@ -45,6 +45,15 @@ module _ {V : Type 0} (stands : List (ℕ × V) → V → Type 0) (fired : List 
     turns = turns_set r.now s.views id v w at stage r.turns;
     seats = seats_set r.now r.now s.views id w fits (λ j u _ _ f. f) r.seats;
   }
+
+  -- a turn that is taken has the number of a caller
+  pub turn_named : (callers : ℕ) (s : State (Option (V × Log)) (View V)) (r : IsKept stands fired callers s) → 0 < r.now.turn → r.now.turn ≤ r.now.callers
+  turn_named callers s r taken =
+      let h = r.turns.held taken in
+      let g = r.seats r.now.writer h.1 h.2 in
+      let named : h.1.number ≡ r.now.turn = (g.writes (omega (arith, h.0, h.3))).3 in
+      let few = (g.own (omega (arith, named, taken))).few in
+      omega (arith, named, few)
 
   -- a turn that is taken has a number of another seat
   pub others_turn : (callers : ℕ) (s : State (Option (V × Log)) (View V)) (r : IsKept stands fired callers s) (id : ℕ) (v : View V)

@@ -1,5 +1,6 @@
 -- The same steps from a seat that is known whole.
 use Rattle.std.proofs.Common.{◌≡◌, ◌≢◌, ℕ, zero, suc, ◌+◌, ◌-◌, ◌^◌, ◌%◌, ◌<◌, ◌≤◌, List, [], ◌∷◌, ◌++◌, length, sym, refl, ap, ◌∙◌, subst, arith, Option, Some, None}
+use Rattle.std.proofs.lemmas.List.{append-nil}
 use mathlib.Core.Option.{none}
 use mathlib.Core.List.{IsPrefix}
 use Rattle.atomic_table.specs.Table.{State, Step, step, Allows, rest}
@@ -9,7 +10,6 @@ use Rattle.db_front.specs.Commits.{HasFirings}
 use Rattle.db_front.specs.inner.Kept.{IsKept}
 use Rattle.db_front.specs.inner.Plays.{Sat, tried, laid, committed}
 use Rattle.db_front.specs.inner.Seats.{begun}
-use Rattle.db_front.proofs.CommitLists.{prefix_self, prefix_more}
 use Rattle.db_front.proofs.TurnSteps.{lays_back}
 use Rattle.db_front.proofs.CommitSteps.{commits, lays_new}
 
@@ -60,31 +60,33 @@ module _ {V : Type 0} (stands : List (ℕ × V) → V → Type 0) (fired : List 
   laid_is st me m' v stage n is did = λ i. ((did.0 ∙ ap (λ (w : View V). record w { out = 0; stage = stage }) is) i, did.1 i)
 
   pub tried_is : (st : Step (Option (V × Log))) (me m' : Sat V) (v : View V) (ts : List ℕ) (n : ℕ) → me ≡ (record v { tries = ts }, []) → IsPrefix v.tries ts → n ≡ 0 → tried st me n m'
-      → (h : List (ℕ × V)) × (ts' : List ℕ) × IsPrefix v.seen h × IsPrefix v.tries ts' × (m' ≡ (begun v h ts', []))
-  tried_is st me m' v ts n is pre none_had did = let t = did.0 none_had in (
-    t.0,
-    ts ++ n ∷ [],
-    subst (λ m. IsPrefix m.0.seen t.0) is t.1,
-    prefix_more _ ts (n ∷ []) pre,
-    t.2 ∙ ap (λ (m : Sat V). (record m.0 { seen = t.0; tries = m.0.tries ++ n ∷ []; stage = 1 }, m.1)) is,
-  )
+      → (h : List (ℕ × V)) × (ts' : List ℕ) × IsPrefix v.seen h × (m' ≡ (begun v h (v.tries ++ ts' ++ 0 ∷ []), []))
+  tried_is st me m' v ts n is pre none_had did =
+      let t = did.0 none_had in
+      let all : ts ++ n ∷ [] ≡ v.tries ++ pre.0 ++ 0 ∷ [] = λ i. sym pre.1 i ++ none_had i ∷ [] in (
+        t.0,
+        pre.0,
+        subst (λ m. IsPrefix m.0.seen t.0) is t.1,
+        t.2 ∙ (ap (λ (m : Sat V). (record m.0 { seen = t.0; tries = m.0.tries ++ n ∷ []; stage = 1 }, m.1)) is ∙ ap (λ us. (begun v t.0 us, [])) all),
+      )
 
 module _ {V : Type 0} where
   -- what one try tells, of a seat that holds nothing
   pub tries_told : (st : Step (Option (V × Log))) (m m' : Sat V) (number n : ℕ) → m.0.number ≡ number → m.1 ≡ [] → tried st m n m'
       → (m'.0.tries ≡ m.0.tries ++ n ∷ [])
-      × (n ≡ 0 → (h : List (ℕ × V)) × (ts : List ℕ) × IsPrefix m.0.seen h × IsPrefix m.0.tries ts × (m' ≡ (begun m.0 h ts, [])))
-      × (n ≢ 0 → (n ≢ number) × (m' ≡ (record m.0 { tries = m'.0.tries }, [])))
+      × (n ≡ 0 → (h : List (ℕ × V)) × (ts : List ℕ) × IsPrefix m.0.seen h × (m' ≡ (begun m.0 h (m.0.tries ++ ts ++ 0 ∷ []), [])))
+      × (n ≢ 0 → (n ≢ number) × (n ≤ m.0.callers) × (m' ≡ (record m.0 { tries = m'.0.tries }, [])))
   tries_told st m m' number zero is empty did = let t = did.0 refl in (
     ap (λ (k : Sat V). k.0.tries) t.2,
-    (λ _. (t.0, m.0.tries ++ 0 ∷ [], t.1, prefix_more m.0.tries m.0.tries (0 ∷ []) (prefix_self m.0.tries), t.2 ∙ ap (λ (cs : List (ℕ × Option (V × Log))). (begun m.0 t.0 (m.0.tries ++ 0 ∷ []), cs)) empty)),
+    (λ _. (t.0, [], t.1, t.2 ∙ (λ i. (begun m.0 t.0 (sym (append-nil m.0.tries) i ++ 0 ∷ []), empty i)))),
     (λ ne. absurd (ne refl)),
   )
   tries_told st m m' number (suc n) is empty did = let t = did.1 (λ q. omega (arith, q)) in (
-    ap (λ (k : Sat V). k.0.tries) t.1,
+    ap (λ (k : Sat V). k.0.tries) t.2,
     (λ q. absurd (omega (arith, q))),
     (λ _. (
       (λ q. t.0 (q ∙ sym is)),
-      t.1 ∙ (ap (λ (cs : List (ℕ × Option (V × Log))). (record m.0 { tries = m.0.tries ++ suc n ∷ [] }, cs)) empty ∙ ap (λ (ts : List ℕ). (record m.0 { tries = ts }, [])) (sym (ap (λ (k : Sat V). k.0.tries) t.1))),
+      t.1,
+      t.2 ∙ (ap (λ (cs : List (ℕ × Option (V × Log))). (record m.0 { tries = m.0.tries ++ suc n ∷ [] }, cs)) empty ∙ ap (λ (ts : List ℕ). (record m.0 { tries = ts }, [])) (sym (ap (λ (k : Sat V). k.0.tries) t.2))),
     )),
   )

@@ -1,14 +1,18 @@
 -- What callers see of passes and of what they share.
-use Rattle.std.specs.Prelude.{◌≡◌, ◌≢◌, ℕ, zero, suc, ◌+◌, ◌^◌, ◌≤◌, ◌⊎◌, List, [], ◌∷◌, ◌++◌, length, Option, Result, IfOk, IfSome, IfNone}
+use Rattle.std.specs.Prelude.{◌≡◌, ◌≢◌, ℕ, zero, suc, ◌+◌, ◌^◌, ◌<◌, ◌≤◌, ◌⊎◌, List, [], ◌∷◌, ◌++◌, length, Option, Result, IfOk, IfSome, IfNone}
 use mathlib.Core.List.{IsPrefix}
 use Rattle.atomic_table.specs.Seated.{TableId}
 use Rattle.db_front.specs.Commits.{commits_by}
+
+-- which front it is: its table, and how many callers it has
+abbrev pub FrontId : Type 0
+FrontId = TableId × ℕ
 
 -- A pass: its caller's number, the list of commits that it has seen, its own commits, the counts
 -- that it has read, the words that its tries for the writer's turn found. The stage is 1 with the
 -- writer's turn, 2 where it has published, else 0.
 pub record Known (V : Type 0) : Type 0 where
-  pub table : TableId
+  pub table : FrontId
   pub number : ℕ
   pub seen : List (ℕ × V)
   pub mine : List (ℕ × V)
@@ -21,13 +25,13 @@ pub record Held (V : Type 0) : Type 0 where
   pub room : ℕ
   pub passes : List (Known V)
 
--- what callers share: which table it is, and how many callers it has
+-- what callers share: which front it is, and how many callers it has
 pub record Group : Type 0 where
-  pub table : TableId
+  pub table : FrontId
   pub callers : ℕ
 
 -- a pass that has done nothing
-abbrev pub fresh : {V : Type 0} → TableId → V → ℕ → Known V
+abbrev pub fresh : {V : Type 0} → FrontId → V → ℕ → Known V
 fresh t o c = record {
   table = t;
   number = c;
@@ -39,12 +43,21 @@ fresh t o c = record {
 }
 
 -- the passes 1 to n
-abbrev pub all_fresh : {V : Type 0} → TableId → V → ℕ → List (Known V)
+abbrev pub all_fresh : {V : Type 0} → FrontId → V → ℕ → List (Known V)
 all_fresh t o zero = []
 all_fresh t o (suc n) = all_fresh t o n ++ fresh t o (suc n) ∷ []
 
--- the passes belong to the table, and none holds the writer's turn
-abbrev pub AreIdle : {V : Type 0} → TableId → List (Known V) → Type 0
+-- caller c has a pass in the list
+abbrev pub HasPass : {V : Type 0} → ℕ → List (Known V) → Type 0
+HasPass c [] = ⊥
+HasPass c (p ∷ ps) = (p.number ≡ c) ⊎ HasPass c ps
+
+-- each of the callers 1 to n has a pass in the list
+abbrev pub AreAll : {V : Type 0} → ℕ → List (Known V) → Type 0
+AreAll n ps = (c : ℕ) → 0 < c → c ≤ n → HasPass c ps
+
+-- the passes belong to the front, and none holds the writer's turn
+abbrev pub AreIdle : {V : Type 0} → FrontId → List (Known V) → Type 0
 AreIdle t [] = Unit {0}
 AreIdle t (p ∷ ps) = (p.table ≡ t) × (p.stage ≡ 0) × AreIdle t ps
 
@@ -52,6 +65,15 @@ AreIdle t (p ∷ ps) = (p.table ≡ t) × (p.stage ≡ 0) × AreIdle t ps
 abbrev pub AreIn : {V : Type 0} → List (ℕ × V) → List (Known V) → Type 0
 AreIn h [] = Unit {0}
 AreIn h (p ∷ ps) = (commits_by p.number h ≡ p.mine) × IsPrefix p.seen h × AreIn h ps
+
+-- caller c has a pass in the list of passes, whose own commits are all those of c in h
+abbrev pub HasMade : {V : Type 0} → List (ℕ × V) → List (Known V) → ℕ → Type 0
+HasMade h [] c = ⊥
+HasMade h (p ∷ ps) c = ((p.number ≡ c) × (commits_by c h ≡ p.mine)) ⊎ HasMade h ps c
+
+-- the commits in h of each of the callers 1 to n are those that its pass made
+abbrev pub AreMade : {V : Type 0} → ℕ → List (ℕ × V) → List (Known V) → Type 0
+AreMade n h ps = (c : ℕ) → 0 < c → c ≤ n → HasMade h ps c
 
 module _ {V : Type 0} where
   -- the number of commits of the list that the pass now has seen, which it read in this call
@@ -64,10 +86,15 @@ module _ {V : Type 0} where
   abbrev pub Won : Known V → Known V → Type 0
   Won old new = new.tries ≡ old.tries ++ 0 ∷ []
 
-  -- one try was made, which found another caller's number, and nothing else was done
-  abbrev pub Lost : Known V → Known V → Type 0
-  Lost old new =
-      (n : ℕ) × (n ≢ 0) × (n ≢ old.number)
+  -- tries were made, the last of which found the writer's turn free
+  abbrev pub WonAtLast : Known V → Known V → Type 0
+  WonAtLast old new = (ts : List ℕ) × (new.tries ≡ old.tries ++ ts ++ 0 ∷ [])
+
+  -- one try was made, which found the number of another of so many callers, and nothing else was
+  -- done
+  abbrev pub Lost : ℕ → Known V → Known V → Type 0
+  Lost callers old new =
+      (n : ℕ) × (n ≢ 0) × (n ≢ old.number) × (n ≤ callers)
       × (new ≡ record old { tries = old.tries ++ n ∷ [] })
 
 -- all commits are finished, or all but the last

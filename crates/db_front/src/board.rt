@@ -40,6 +40,8 @@ impl<V: Drop> Model for Opening<V> {
 
 /// What a seat knows, in proofs alone: no value of this type is made.
 pub(crate) struct View<V> {
+    /// How many callers the front has.
+    pub(crate) callers: u64,
     /// The caller's number.
     pub(crate) number: u64,
     /// The list that it has seen, from the opening value on.

@@ -1,8 +1,8 @@
 //! The end of the front.
 ghost use Rattle.std.specs.Prelude.{◌≡◌, ℕ, ◌+◌, ◌^◌, ◌<◌, ◌≤◌, List, [], ◌∷◌, ◌++◌, length, map};
 ghost use Rattle.std.specs.Arc.{arc_value};
-ghost use Rattle.db_front.specs.Commits.{IsHistory};
-ghost use Rattle.db_front.specs.Passes.{AreIdle, AreIn};
+ghost use Rattle.db_front.specs.Commits.{HasFirings, IsHistory};
+ghost use Rattle.db_front.specs.Passes.{AreAll, AreIdle, AreIn, AreMade};
 ghost use Rattle.db_front.specs.inner.Kept.{HasHand};
 ghost use Rattle.db_front.specs.inner.Seats.{IsSized, IsFree, IsSame, hand_of};
 
@@ -21,7 +21,7 @@ use std::sync::atomic::AtomicU64;
 /// Takes the number of a pass into the seat.
 fn absorb<V: Version>(board: &Board<V>, place: &mut Place<V>, pass: Pass<V>)
     requires table { (place.old.table_id ≡ board.now.table_id) × IsSized board.now.table_id }
-    requires pass { (pass.table ≡ board.now.table_id) × (pass.stage ≡ 0) }
+    requires pass { (pass.table ≡ (board.now.table_id, board.now.key.1)) × (pass.stage ≡ 0) }
     ensures seat { IsSame place.old place.new }
     ensures joined { place.new.me ≡ (
       record place.old.me.0 {
@@ -41,7 +41,7 @@ fn absorb<V: Version>(board: &Board<V>, place: &mut Place<V>, pass: Pass<V>)
 /// Takes the numbers of all these passes into the seat.
 fn gather<V: Version>(board: &Board<V>, place: &mut Place<V>, mut passes: Passes<V>)
     requires table { (place.old.table_id ≡ board.now.table_id) × IsSized board.now.table_id }
-    requires idle { AreIdle board.now.table_id passes.passes }
+    requires idle { AreIdle (board.now.table_id, board.now.key.1) passes.passes }
     requires alone { place.old.me.0.more ≡ [] }
     ensures seat { IsSame place.old place.new }
     ensures joined { place.new.me
@@ -65,7 +65,8 @@ fn settle<V: Version, R: Wait>(
     requires free { IsFree place number × (place.me.0.stage ≡ 0) }
     ensures { (h : List (ℕ × V)) × IsHistory table.shared.key.1 h × HasHand h place.me.0
         × (result.number + 1 ≡ length h) × (result.finished ≡ result.number)
-        × (result.number ≤ 2 ^ 63) × V.stands h (arc_value result.value) }
+        × (result.number ≤ 2 ^ 63) × V.stands h (arc_value result.value)
+        × HasFirings V.fired result.finished h result.log }
 {
     take_turn(rt, &table.shared, sleepers, &mut place, number);
     let Card { value, log } = enter(rt, &table.shared, sleepers, &mut place, number);
@@ -83,15 +84,18 @@ fn settle<V: Version, R: Wait>(
 }
 
 impl<V: Version> Shared<V> {
-    /// Ends the front, and gives the last value with the number of all commits. In their list are the
-    /// own commits of each of these passes, each once and in order. It takes no memory, and waits for
-    /// the turns of callers whose passes aren't among these.
+    /// Ends the front, with the passes of all its callers. It gives the last value with the number of
+    /// all commits, and a log with all their firings. In their list are the own commits of each caller,
+    /// each once and in order, and no others. It takes no memory.
     pub fn close<R: Wait>(self, rt: &R, mut passes: Passes<V>) -> Shown<V>
         requires there { 0 < length passes.passes }
+        requires all { AreAll self.callers passes.passes }
         requires idle { AreIdle self.table passes.passes }
         ensures { (h : List (ℕ × V)) × IsHistory self.callers h × AreIn h passes.passes
             × (result.number + 1 ≡ length h) × (result.finished ≡ result.number)
-            × (result.number ≤ 2 ^ 63) × V.stands h (arc_value result.value) }
+            × (result.number ≤ 2 ^ 63) × V.stands h (arc_value result.value)
+            × HasFirings V.fired result.finished h result.log
+            × AreMade self.callers h passes.passes }
     {
         let Shared { table, sleepers } = self;
         let Some(first) = passes.take() else {

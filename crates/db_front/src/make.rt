@@ -1,7 +1,7 @@
 //! The front at its start, with its passes.
 ghost use Rattle.std.specs.Prelude.{IfOk, ◌≡◌, ℕ, ◌+◌, ◌-◌, ◌<◌, ◌≤◌, [], ◌∷◌, ◌++◌, length};
 ghost use Rattle.std.specs.Arc.{arc_value};
-ghost use Rattle.db_front.specs.Passes.{fresh, all_fresh, AreIdle};
+ghost use Rattle.db_front.specs.Passes.{fresh, all_fresh, AreAll, AreIdle};
 ghost use Rattle.db_front.specs.inner.Kept.{start, dealing};
 ghost use Rattle.db_front.specs.inner.Seats.{IsSized};
 
@@ -25,7 +25,7 @@ fn deal_one<V: Version>(board: &Board<V>, place: &mut Place<V>, number: u64) -> 
     requires dealing { place.old.me ≡ (dealing board.now.key number, []) }
     ensures table { place.new.table_id ≡ place.old.table_id }
     ensures dealing { place.new.me ≡ (dealing board.now.key (number + 1), []) }
-    ensures pass { result ≡ fresh board.now.table_id board.now.key.0 number }
+    ensures pass { result ≡ fresh (board.now.table_id, board.now.key.1) board.now.key.0 number }
 {
     let other = board.split_seat::<Hand>(place);
     Pass {
@@ -45,7 +45,7 @@ fn deal<V: Version>(board: &Board<V>, place: &mut Place<V>, passes: &mut Passes<
     ensures dealing { place.new.me ≡ (dealing board.now.key callers, []) }
     ensures passes { passes.new ≡ record {
       room = callers;
-      passes = all_fresh board.now.table_id board.now.key.0 (callers - 1);
+      passes = all_fresh (board.now.table_id, board.now.key.1) board.now.key.0 (callers - 1);
     } }
 {
     for number in 1..callers {
@@ -98,6 +98,7 @@ pub fn make_shared<V: Version>(
       passes = all_fresh t.0.table (arc_value value) callers;
     }) }
     ensures count { IfOk result (λ t. length t.1.passes ≡ callers) }
+    ensures all { IfOk result (λ t. AreAll t.0.callers t.1.passes) }
     ensures idle { IfOk result (λ t. AreIdle t.0.table t.1.passes) }
 {
     let (table, mut place) = lay(alloc, value, log, callers as u64)?;

@@ -103,5 +103,5 @@ impl<V> Join<View<V>> for Hand {
 
     ghost both = { joined };
 
-    ghost spent = { blank 0 [] [] [] };
+    ghost spent = { blank 0 0 [] [] [] };
 }

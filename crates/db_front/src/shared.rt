@@ -3,7 +3,7 @@ ghost use Rattle.std.specs.Prelude.{IfOk, OnOk, OnErr, ◌≡◌, ◌+◌, ◌-�
 ghost use Rattle.std.specs.Arc.{arc_value};
 ghost use mathlib.Core.List.{IsPrefix};
 ghost use Rattle.db_front.specs.Commits.{HasFirings, IsLastOf};
-ghost use Rattle.db_front.specs.Passes.{IsNumber, AllOrAllButLast, IfBegun, IfTaken, Won, Lost};
+ghost use Rattle.db_front.specs.Passes.{IsNumber, AllOrAllButLast, IfBegun, IfTaken, Won, WonAtLast, Lost};
 
 use crate::board::BoardTable;
 use crate::card::Card;
@@ -34,7 +34,7 @@ impl<V: Version> Model for Shared<V> {
     ghost Value = { Group };
 
     ghost view = { λ s. record {
-      table = s.table.shared.table_id;
+      table = (s.table.shared.table_id, s.table.shared.key.1);
       callers = s.table.shared.key.1;
     } };
 
@@ -93,6 +93,7 @@ impl<V: Version> Shared<V> {
         ensures seen { IsPrefix pass.old.seen pass.new.seen }
         ensures counts { IsPrefix pass.old.counts pass.new.counts }
         ensures tries { IsPrefix pass.old.tries pass.new.tries }
+        ensures won { WonAtLast pass.old pass.new }
         ensures room { length pass.new.seen ≤ 2 ^ 63 + 1 }
         ensures value { IfOk result (λ s. V.stands pass.new.seen (arc_value s.value)) }
         ensures number { IfOk result (λ s. IsNumber pass.old pass.new s.number) }
@@ -138,7 +139,7 @@ impl<V: Version> Shared<V> {
         ensures finished { IfBegun result (λ s. s.finished ≡ s.number) }
         ensures log { IfBegun result (λ s. HasFirings V.fired s.number pass.new.seen s.log) }
         ensures won { IfBegun result (λ s. Won pass.old pass.new × (pass.new.stage ≡ 1)) }
-        ensures taken { IfTaken result (Lost pass.old pass.new) }
+        ensures taken { IfTaken result (Lost self.now.callers pass.old pass.new) }
         ensures memory { OnErr result (Won pass.old pass.new × (pass.new.stage ≡ 0)) }
         ensures room { OnErr result (length pass.new.seen ≤ 2 ^ 63 + 1) }
     {

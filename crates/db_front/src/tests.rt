@@ -1,7 +1,7 @@
 //! Commits of one, two and sixty-four callers, with values that list who committed.
 ghost use Rattle.std.specs.Prelude.{◌≡◌, ◌+◌, ◌<◌, [], length, IfOk, OnOk, OnErr};
 ghost use Rattle.std.specs.Arc.{arc_value};
-ghost use Rattle.db_front.specs.Passes.{AreIdle};
+ghost use Rattle.db_front.specs.Passes.{all_fresh, AreAll, AreIdle};
 
 use crate::{Pass, Passes, Ready, Shared, Shown, Version, make_shared};
 use std::alloc::{AllocError, Global};
@@ -39,6 +39,10 @@ fn opened(
     callers: u32,
 ) -> Result<(Shared<Roll>, Passes<Roll>), AllocError>
     requires { (0 < callers) × (callers < 65) }
+    ensures callers { IfOk result (λ t. t.0.callers ≡ callers) }
+    ensures all { IfOk result (λ t. AreAll t.0.callers t.1.passes) }
+    ensures fresh { IfOk result (λ t. (o : Roll) × (t.1.passes
+        ≡ all_fresh t.0.table o callers)) }
     ensures idle { IfOk result (λ t. AreIdle t.0.table t.1.passes) }
     ensures count { IfOk result (λ t. length t.1.passes ≡ callers) }
     ensures room { IfOk result (λ t. t.1.room ≡ callers) }
@@ -77,7 +81,7 @@ fn publish<R: Wait>(
     entry: Entry,
 ) -> Result<Front, AllocError>
     requires { (pass.old.table ≡ shared.now.table) × (pass.old.stage ≡ 0) }
-    ensures table { pass.new.table ≡ pass.old.table }
+    ensures pass { (pass.new.table ≡ pass.old.table) × (pass.new.number ≡ pass.old.number) }
     ensures published { OnOk result (pass.new.stage ≡ 2) }
     ensures idle { OnErr result (pass.new.stage ≡ 0) }
 {
@@ -115,7 +119,8 @@ fn commit<R: Wait>(
     entry: Entry,
 ) -> Result<(), AllocError>
     requires { (pass.old.table ≡ shared.now.table) × (pass.old.stage ≡ 0) }
-    ensures { (pass.new.table ≡ pass.old.table) × (pass.new.stage ≡ 0) }
+    ensures { (pass.new.table ≡ pass.old.table) × (pass.new.stage ≡ 0)
+        × (pass.new.number ≡ pass.old.number) }
 {
     let log = publish(rt, alloc, shared, pass, entry)?;
     shared.finish(rt, pass, log);
@@ -128,8 +133,11 @@ fn pair(
     token: Option<Arc<u64>>,
 ) -> Result<(Shared<Roll>, Passes<Roll>, Pass<Roll>, Pass<Roll>), AllocError>
     ensures rest { IfOk result (λ t. (t.1.passes ≡ []) × (t.1.room ≡ 2)) }
-    ensures one { IfOk result (λ t. (t.2.table ≡ t.0.table) × (t.2.stage ≡ 0)) }
-    ensures two { IfOk result (λ t. (t.3.table ≡ t.0.table) × (t.3.stage ≡ 0)) }
+    ensures callers { IfOk result (λ t. t.0.callers ≡ 2) }
+    ensures one { IfOk result (λ t. (t.2.table ≡ t.0.table) × (t.2.stage ≡ 0)
+        × (t.2.number ≡ 1)) }
+    ensures two { IfOk result (λ t. (t.3.table ≡ t.0.table) × (t.3.stage ≡ 0)
+        × (t.3.number ≡ 2)) }
 {
     let (shared, mut passes) = opened(alloc, token, 2)?;
     match (passes.take(), passes.take()) {
@@ -147,8 +155,9 @@ fn end<R: Wait>(
     two: Pass<Roll>,
 ) -> Shown<Roll>
     requires rest { (passes.passes ≡ []) × (passes.room ≡ 2) }
-    requires one { (one.table ≡ shared.table) × (one.stage ≡ 0) }
-    requires two { (two.table ≡ shared.table) × (two.stage ≡ 0) }
+    requires callers { shared.callers ≡ 2 }
+    requires one { (one.table ≡ shared.table) × (one.stage ≡ 0) × (one.number ≡ 1) }
+    requires two { (two.table ≡ shared.table) × (two.stage ≡ 0) × (two.number ≡ 2) }
 {
     passes.give(one);
     passes.give(two);
@@ -164,7 +173,8 @@ fn fifty<R: Wait>(
     caller: u64,
 ) -> Result<(), AllocError>
     requires { (pass.old.table ≡ shared.now.table) × (pass.old.stage ≡ 0) }
-    ensures { (pass.new.table ≡ pass.old.table) × (pass.new.stage ≡ 0) }
+    ensures { (pass.new.table ≡ pass.old.table) × (pass.new.stage ≡ 0)
+        × (pass.new.number ≡ pass.old.number) }
 {
     for own in 1..51 {
         commit(rt, alloc, shared, pass, Entry { caller, own })?;
@@ -182,18 +192,22 @@ fn hundred<R: Threads + Wait + Sync>(
 ) -> Result<(), AllocError>
     requires one { (one.old.table ≡ shared.now.table) × (one.old.stage ≡ 0) }
     requires two { (two.old.table ≡ shared.now.table) × (two.old.stage ≡ 0) }
-    ensures one { (one.new.table ≡ one.old.table) × (one.new.stage ≡ 0) }
-    ensures two { (two.new.table ≡ two.old.table) × (two.new.stage ≡ 0) }
+    ensures one { (one.new.table ≡ one.old.table) × (one.new.stage ≡ 0)
+        × (one.new.number ≡ one.old.number) }
+    ensures two { (two.new.table ≡ two.old.table) × (two.new.stage ≡ 0)
+        × (two.new.number ≡ two.old.number) }
 {
     let (first, second) = join_mut(
         rt,
         &mut || -> Result<(), AllocError>
             requires { (one.now.table ≡ shared.now.table) × (one.now.stage ≡ 0) }
-            ensures { (one.exit.now.table ≡ one.entry.now.table) × (one.exit.now.stage ≡ 0) }
+            ensures { (one.exit.now.table ≡ one.entry.now.table) × (one.exit.now.stage ≡ 0)
+                × (one.exit.now.number ≡ one.entry.now.number) }
         { fifty(rt, alloc, shared, one, 1) },
         &mut || -> Result<(), AllocError>
             requires { (two.now.table ≡ shared.now.table) × (two.now.stage ≡ 0) }
-            ensures { (two.exit.now.table ≡ two.entry.now.table) × (two.exit.now.stage ≡ 0) }
+            ensures { (two.exit.now.table ≡ two.entry.now.table) × (two.exit.now.stage ≡ 0)
+                × (two.exit.now.number ≡ two.entry.now.number) }
         { fifty(rt, alloc, shared, two, 2) },
     );
     first.and(second)
@@ -235,8 +249,10 @@ fn try_twice<R: Wait>(
 ) -> Result<bool, AllocError>
     requires one { (one.old.table ≡ shared.now.table) × (one.old.stage ≡ 0) }
     requires two { (two.old.table ≡ shared.now.table) × (two.old.stage ≡ 0) }
-    ensures one { (one.new.table ≡ one.old.table) × (one.new.stage ≡ 0) }
-    ensures two { (two.new.table ≡ two.old.table) × (two.new.stage ≡ 0) }
+    ensures one { (one.new.table ≡ one.old.table) × (one.new.stage ≡ 0)
+        × (one.new.number ≡ one.old.number) }
+    ensures two { (two.new.table ≡ two.old.table) × (two.new.stage ≡ 0)
+        × (two.new.number ≡ two.old.number) }
 {
     drop(shared.begin(rt, one)?);
     let taken = is_taken(rt, shared, two);
@@ -251,7 +267,8 @@ fn is_taken<R: Wait>(
     pass: &mut Pass<Roll>,
 ) -> Result<bool, AllocError>
     requires { (pass.old.table ≡ shared.now.table) × (pass.old.stage ≡ 0) }
-    ensures { (pass.new.table ≡ pass.old.table) × (pass.new.stage ≡ 0) }
+    ensures { (pass.new.table ≡ pass.old.table) × (pass.new.stage ≡ 0)
+        × (pass.new.number ≡ pass.old.number) }
 {
     match shared.try_begin(rt, pass)? {
         None => Ok(true),
@@ -281,8 +298,10 @@ fn look_between<R: Wait>(
 ) -> Result<[(u64, u64); 3], AllocError>
     requires one { (one.old.table ≡ shared.now.table) × (one.old.stage ≡ 0) }
     requires two { (two.old.table ≡ shared.now.table) × (two.old.stage ≡ 0) }
-    ensures one { (one.new.table ≡ one.old.table) × (one.new.stage ≡ 0) }
-    ensures two { (two.new.table ≡ two.old.table) × (two.new.stage ≡ 0) }
+    ensures one { (one.new.table ≡ one.old.table) × (one.new.stage ≡ 0)
+        × (one.new.number ≡ one.old.number) }
+    ensures two { (two.new.table ≡ two.old.table) × (two.new.stage ≡ 0)
+        × (two.new.number ≡ two.old.number) }
 {
     let log = publish(rt, alloc, shared, one, Entry { caller: 1, own: 1 })?;
     let between = shared.look(rt, two);
@@ -318,8 +337,10 @@ fn owners<R: Wait>(
 ) -> Result<(usize, usize), AllocError>
     requires one { (one.old.table ≡ shared.now.table) × (one.old.stage ≡ 0) }
     requires two { (two.old.table ≡ shared.now.table) × (two.old.stage ≡ 0) }
-    ensures one { (one.new.table ≡ one.old.table) × (one.new.stage ≡ 0) }
-    ensures two { (two.new.table ≡ two.old.table) × (two.new.stage ≡ 0) }
+    ensures one { (one.new.table ≡ one.old.table) × (one.new.stage ≡ 0)
+        × (one.new.number ≡ one.old.number) }
+    ensures two { (two.new.table ≡ two.old.table) × (two.new.stage ≡ 0)
+        × (two.new.number ≡ two.old.number) }
 {
     let shown = shared.look(rt, two)?;
     commit(rt, alloc, shared, one, Entry { caller: 1, own: 1 })?;
@@ -346,8 +367,10 @@ fn commit_first<R: Wait>(
     passes: &mut Passes<Roll>,
     caller: u64,
 ) -> Result<(), AllocError>
+    requires all { AreAll shared.now.callers passes.old.passes }
     requires idle { AreIdle shared.now.table passes.old.passes }
     requires room { (length passes.old.passes ≡ 64) × (passes.old.room ≡ 64) }
+    ensures all { AreAll shared.now.callers passes.new.passes }
     ensures idle { AreIdle shared.now.table passes.new.passes }
     ensures room { (length passes.new.passes ≡ 64) × (passes.new.room ≡ 64) }
 {
@@ -367,8 +390,10 @@ fn by_each<R: Wait>(
     shared: &Shared<Roll>,
     passes: &mut Passes<Roll>,
 ) -> Result<(), AllocError>
+    requires all { AreAll shared.now.callers passes.old.passes }
     requires idle { AreIdle shared.now.table passes.old.passes }
     requires room { (length passes.old.passes ≡ 64) × (passes.old.room ≡ 64) }
+    ensures all { AreAll shared.now.callers passes.new.passes }
     ensures idle { AreIdle shared.now.table passes.new.passes }
     ensures room { (length passes.new.passes ≡ 64) × (passes.new.room ≡ 64) }
 {

@@ -1,5 +1,5 @@
 //! Turns: taken, given back, and what is seen while one is held.
-ghost use Rattle.std.specs.Prelude.{IfOk, OnOk, OnErr, ◌≢◌, ◌≡◌, ℕ, ◌+◌, ◌<◌, [], ◌∷◌, ◌++◌, length, None};
+ghost use Rattle.std.specs.Prelude.{IfOk, OnOk, OnErr, ◌≢◌, ◌≡◌, ℕ, ◌+◌, ◌<◌, ◌≤◌, [], ◌∷◌, ◌++◌, length, None};
 ghost use Rattle.db_front.specs.Commits.{HasFirings};
 ghost use Rattle.db_front.specs.inner.Seats.{IsSized, IsFree, IsSame, Entered, Began, Sees, SeesBegun};
 
@@ -172,7 +172,7 @@ pub(crate) fn try_turn<V: Version>(board: &Board<V>, place: &mut Place<V>, numbe
     ensures seat { IsSame place.old place.new }
     ensures tries { place.new.me.0.tries ≡ place.old.me.0.tries ++ result ∷ [] }
     ensures won { result ≡ 0 → Began place.old place.new }
-    ensures lost { result ≢ 0 → (result ≢ number)
+    ensures lost { result ≢ 0 → (result ≢ number) × (result ≤ place.old.me.0.callers)
         × (place.new.me ≡ (record place.old.me.0 { tries = place.new.me.0.tries }, [])) }
 {
     board.compare_exchange::<Try>(place, WRITER, 0, number)

@@ -1,12 +1,12 @@
 -- How a call that begins a transaction is answered, of what its caller has seen and of what it is answered then.
-use Rattle.std.proofs.Common.{◌≡◌, ◌∙◌, ◌<◌, ◌^◌, List, [], ◌∷◌, length, map, Option, Some, IfSome, Result, Ok, Err, IfOk, inl, inr, sym, ap, subst}
+use Rattle.std.proofs.Common.{◌≡◌, ◌∙◌, ◌<◌, ◌^◌, ◌++◌, ℕ, append-nil, List, [], ◌∷◌, length, map, Option, Some, IfSome, Result, Ok, Err, IfOk, inl, inr, sym, ap, subst}
 use Rattle.std.specs.declared.alloc.AllocError.{AllocError}
 use Rattle.mdb_schema.specs.Schema.{DbSchema}
 use Rattle.mdb_schema.specs.State.{State}
 use Rattle.table_index.specs.Table.{TableChange, TableRows}
 use Rattle.mem_txn.specs.Changes.{Changes, begun}
 use Rattle.mem_txn.specs.Database.{Caller, HasRead, HasSeen}
-use Rattle.mem_txn.specs.Transactions.{AnswersBegin, HasWon, IsRefused, changes_of}
+use Rattle.mem_txn.specs.Transactions.{AnswersBegin, HasWon, HasWonAtLast, IsRefused, changes_of}
 use Rattle.mem_txn.specs.declared.outcome.BeginRefused.{BeginRefused}
 use Rattle.mem_txn.specs.declared.write_txn.WriteTxn.{WriteTxn}
 use Rattle.mem_txn.specs.inner.Commits.{AnswersTurn, RefusesTurn}
@@ -22,12 +22,17 @@ tables_stand ts schema s (Err e) schemas rows is = tt
 pub some_has : {A : Type 0} (o : Option A) (a : A) (P : A → Type 0) → o ≡ Some a → IfSome o P → P a
 some_has {A} o a P is holds = subst (λ (x : Option A). IfSome x P) is holds
 
-module _ (p q : Caller) (seen : HasSeen p q) (read : HasRead p q (length q.seen)) where
-  refuses : (r : BeginRefused) → RefusesTurn q r → HasSeen p r.pass × IsRefused p r.pass r.cause
-  refuses r (same, inl memory) = (subst (HasSeen p) (sym same) seen, subst (IsRefused p r.pass) (sym memory) tt)
+-- the one try is the last
+pub won_at_last : (p q : Caller) → HasWon p q → HasWonAtLast p q
+won_at_last p q won = ([], won ∙ ap (λ (ts : List ℕ). ts ++ 0 ∷ []) (sym (append-nil p.tries)))
+
+module _ (p q : Caller) (seen : HasSeen p q) (read : HasRead p q (length q.seen)) (turned : HasWonAtLast p q) where
+  refuses : (r : BeginRefused) → RefusesTurn q r → HasSeen p r.pass × IsRefused p r.pass r.cause × HasWonAtLast p r.pass
+  refuses r (same, inl memory) = (subst (HasSeen p) (sym same) seen, subst (IsRefused p r.pass) (sym memory) tt, subst (HasWonAtLast p) (sym same) turned)
   refuses r (same, inr spent) = (
     subst (HasSeen p) (sym same) seen,
     subst (IsRefused p r.pass) (sym spent.0) (subst (λ (z : Caller). HasRead p z (length z.seen)) (sym same) read, ap (λ (z : Caller). length z.seen) same ∙ spent.1),
+    subst (HasWonAtLast p) (sym same) turned,
   )
 
   begins : {D : Type 0} (t : WriteTxn D) → AnswersTurn q (Ok t) → AnswersBegin p (Ok t)
@@ -38,6 +43,7 @@ module _ (p q : Caller) (seen : HasSeen p q) (read : HasRead p q (length q.seen)
         subst (λ (z : Caller). length z.seen < 2 ^ 63) same answers.0,
         answers.1 ∙ ap begun same,
         answers.2,
+        subst (HasWonAtLast p) same turned,
       )
 
   pub begin_answers : {D : Type 0} (r : Result (WriteTxn D) BeginRefused) → AnswersTurn q r → AnswersBegin p r

@@ -1,3 +1,4 @@
+pub mod AllBack
 pub mod BegunAnswers
 pub mod BegunTables
 pub mod Gathered

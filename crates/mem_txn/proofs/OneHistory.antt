@@ -1,16 +1,15 @@
 -- What a list of values tells as a history, and what the calls of the front make of a pass as its caller.
-use Rattle.std.proofs.Common.{◌≡◌, ◌∙◌, ◌+◌, ◌^◌, ◌<◌, ◌≤◌, ◌++◌, ℕ, zero, suc, [], ◌∷◌, List, Bool, true, false, map, length, sym, ap, refl, subst, arith, add-one, ne_eqb, filter}
+use Rattle.std.proofs.Common.{◌≡◌, ◌∙◌, ◌+◌, ◌^◌, ◌<◌, ◌≤◌, ◌++◌, ℕ, zero, suc, [], ◌∷◌, List, Bool, true, false, inl, inr, ⊎_elim, map, length, sym, ap, refl, subst, arith, add-one, ne_eqb, filter}
 use Rattle.std.specs.Prelude.{if◌then◌else◌, ◌==◌}
 use mathlib.Core.List.{IsPrefix}
 use Rattle.std.proofs.lemmas.List.{map-append, length-map, length-append, append_assoc, append-nil}
-use Rattle.atomic_table.specs.Seated.{TableId}
 use Rattle.db_front.specs.Commits as front
-use Rattle.db_front.specs.Passes.{Known, AreIdle, IsNumber, fresh, all_fresh}
+use Rattle.db_front.specs.Passes.{FrontId, Known, AreIdle, IsNumber, fresh, all_fresh}
 use Rattle.db_front.specs.Passes as front_passes
 use Rattle.mdb_schema.specs.History.{Commit, History, after_writes, state_at}
 use Rattle.mdb_schema.specs.Schema.{DbSchema}
 use Rattle.mdb_schema.specs.State.{State}
-use Rattle.mem_txn.specs.Database.{AreIn, AreNamed, AreOf, Caller, Database, HasRead, HasSeen, IsOf, IsWhole, View, commits_by, new_pass, new_passes, view_after}
+use Rattle.mem_txn.specs.Database.{AreAll, AreIn, AreMade, AreNamed, AreOf, Caller, Database, HasMade, HasPass, HasRead, HasSeen, IsOf, IsWhole, View, commits_by, new_pass, new_passes, view_after}
 use Rattle.mem_txn.specs.inner.Commits.{IsNext}
 use Rattle.mem_txn.specs.inner.Versions.{AreTokens, IsBegun, IsToken, StandsFor, Version, Versions, caller_of, entry_of, history_in, opening, schema_in}
 use Rattle.mem_txn.proofs.StatesAfter.{state_seen-more}
@@ -75,10 +74,17 @@ committed_token k k' k'' v token made left =
 
 -- ---- a pass that has seen more
 
+pub number_room : (old new : Known Version) (n : ℕ) → IsNumber old new n → length new.seen ≤ 2 ^ 63 + 1
+number_room old new n is = let count = is.0 in let few = is.2 in omega (arith, count, few)
+
 module _ (stage : ℕ) (old new : Known Version) (token : IsToken stage old) (seen : IsPrefix old.seen new.seen) where
-  pub has_seen : new.number ≡ old.number → new.table ≡ old.table → new.mine ≡ old.mine → IsPrefix old.counts new.counts → IsPrefix old.tries new.tries → HasSeen (caller_of old) (caller_of new)
-  has_seen number table mine counts tries = record {
+  few_seen : length new.seen ≤ 2 ^ 63 + 1 → length (history_in new.seen) ≤ 2 ^ 63
+  few_seen room = let count = history_length new.seen (begun_longer old.seen new.seen token.begun seen) in omega (arith, count, room)
+
+  pub has_seen : length new.seen ≤ 2 ^ 63 + 1 → new.number ≡ old.number → new.table ≡ old.table → new.mine ≡ old.mine → IsPrefix old.counts new.counts → IsPrefix old.tries new.tries → HasSeen (caller_of old) (caller_of new)
+  has_seen room number table mine counts tries = record {
     seen = history_longer old.seen new.seen token.begun seen;
+    few = few_seen room;
     counts = counts;
     tries = tries;
     others = λ i. let r : Caller = record { number = number i; database = table i; schema = schema_longer old.seen new.seen token.begun seen i; seen = history_in new.seen; own = map entry_of (mine i); counts = new.counts; tries = new.tries } in r;
@@ -96,14 +102,14 @@ module _ (stage : ℕ) (old new : Known Version) (token : IsToken stage old) (se
   }
 
 -- the two sorts of steps that see more
-pub looked : (old new : Known Version) → IsToken 0 old → new ≡ record old { seen = new.seen; counts = new.counts } → IsPrefix old.seen new.seen → IsPrefix old.counts new.counts → HasSeen (caller_of old) (caller_of new)
-looked old new token is seen counts =
-    has_seen 0 old new token seen (ap (λ (k : Known Version). k.number) is) (ap (λ (k : Known Version). k.table) is) (ap (λ (k : Known Version). k.mine) is) counts ([], append-nil old.tries ∙ sym (ap (λ (k : Known Version). k.tries) is))
+pub looked : (old new : Known Version) → IsToken 0 old → new ≡ record old { seen = new.seen; counts = new.counts } → IsPrefix old.seen new.seen → length new.seen ≤ 2 ^ 63 + 1 → IsPrefix old.counts new.counts → HasSeen (caller_of old) (caller_of new)
+looked old new token is seen room counts =
+    has_seen 0 old new token seen room (ap (λ (k : Known Version). k.number) is) (ap (λ (k : Known Version). k.table) is) (ap (λ (k : Known Version). k.mine) is) counts ([], append-nil old.tries ∙ sym (ap (λ (k : Known Version). k.tries) is))
 
-pub turned : (old new : Known Version) → IsToken 0 old → new ≡ record old { seen = new.seen; counts = new.counts; tries = new.tries; stage = new.stage } → IsPrefix old.seen new.seen → IsPrefix old.counts new.counts → IsPrefix old.tries new.tries
+pub turned : (old new : Known Version) → IsToken 0 old → new ≡ record old { seen = new.seen; counts = new.counts; tries = new.tries; stage = new.stage } → IsPrefix old.seen new.seen → length new.seen ≤ 2 ^ 63 + 1 → IsPrefix old.counts new.counts → IsPrefix old.tries new.tries
     → HasSeen (caller_of old) (caller_of new)
-turned old new token is seen counts tries =
-    has_seen 0 old new token seen (ap (λ (k : Known Version). k.number) is) (ap (λ (k : Known Version). k.table) is) (ap (λ (k : Known Version). k.mine) is) counts tries
+turned old new token is seen room counts tries =
+    has_seen 0 old new token seen room (ap (λ (k : Known Version). k.number) is) (ap (λ (k : Known Version). k.table) is) (ap (λ (k : Known Version). k.mine) is) counts tries
 
 pub numbered : (old new : Known Version) (n : ℕ) → IsToken 0 old → IsPrefix old.seen new.seen → IsNumber old new n → HasRead (caller_of old) (caller_of new) (length (caller_of new).seen)
 numbered old new n token seen is = let read = has_read 0 old new token seen n is in subst (λ (k : ℕ). HasRead (caller_of old) (caller_of new) k) read.0 read
@@ -117,7 +123,7 @@ append_tokens : (ks : List (Known Version)) (k : Known Version) → AreTokens ks
 append_tokens [] k all token = (token, tt)
 append_tokens (j ∷ ks) k all token = (all.0, append_tokens ks k all.1 token)
 
-module _ (t : TableId) (schema : DbSchema) where
+module _ (t : FrontId) (schema : DbSchema) where
   pub fresh_tokens : (n : ℕ) → n ≤ 64 → AreTokens (all_fresh t (opening schema) n)
   fresh_tokens zero few = tt
   fresh_tokens (suc n) few = append_tokens (all_fresh t (opening schema) n) (fresh t (opening schema) (suc n)) (fresh_tokens n (omega (arith, few))) (record { at = refl; named = omega arith; few = few; begun = refl })
@@ -134,7 +140,7 @@ module _ (t : TableId) (schema : DbSchema) where
 pub given_tokens : (ks ks' : List (Known Version)) (k : Known Version) → AreTokens ks → IsToken 0 k → ks' ≡ ks ++ k ∷ [] → AreTokens ks'
 given_tokens ks ks' k all token is = subst AreTokens (sym is) (append_tokens ks k all token)
 
-pub idle_of : (db : Database) (t : TableId) (ks : List (Known Version)) → db.database ≡ t → AreTokens ks → AreOf db (map caller_of ks) → AreIdle t ks
+pub idle_of : (db : Database) (t : FrontId) (ks : List (Known Version)) → db.database ≡ t → AreTokens ks → AreOf db (map caller_of ks) → AreIdle t ks
 idle_of db t [] here tokens own = tt
 idle_of db t (k ∷ ks) here tokens own = (own.0.0 ∙ here, tokens.0.at, idle_of db t ks here tokens.1 own.1)
 
@@ -168,16 +174,32 @@ all_in h (k ∷ ks) begun tokens own = (
   all_in h ks begun tokens.1 own.2,
 )
 
+-- each caller that has a pass here has one there
+all_callers : (c : ℕ) (ks : List (Known Version)) → HasPass c (map caller_of ks) → front_passes.HasPass c ks
+all_callers c [] has = absurd has
+all_callers c (k ∷ ks) has = ⊎_elim (λ e. inl e) (λ r. inr (all_callers c ks r)) has
+
+pub all_tokens : (n : ℕ) (ks : List (Known Version)) → AreAll n (map caller_of ks) → front_passes.AreAll n ks
+all_tokens n ks all c pos few = all_callers c ks (all c pos few)
+
+has_made : (H : History) (ps : List Caller) (c : ℕ) → HasPass c ps → AreIn H ps → HasMade H ps c
+has_made H [] c has own = absurd has
+has_made H (p ∷ ps) c has own = ⊎_elim (λ e. inl (e, subst (λ k. commits_by k H ≡ p.own) e own.0)) (λ r. inr (has_made H ps c r own.2)) has
+
+each_made : (n : ℕ) (H : History) (ps : List Caller) → AreAll n ps → AreIn H ps → AreMade n H ps
+each_made n H ps all own c pos few = has_made H ps c (all c pos few) own
+
 schema_of_all : (db : Database) (h : Versions) (ks : List (Known Version)) → 0 < length ks → AreTokens ks → AreOf db (map caller_of ks) → front_passes.AreIn h ks → schema_in h ≡ db.schema
 schema_of_all db h [] some tokens own all = absurd (omega (arith, some))
 schema_of_all db h (k ∷ ks) some tokens own all = schema_longer k.seen h tokens.0.begun all.1 ∙ own.0.1
 
-pub closed : (db : Database) (h : Versions) (ks : List (Known Version)) (v : Version) (n : ℕ) → 0 < length ks → AreTokens ks → AreOf db (map caller_of ks) → front.IsHistory db.callers h → front_passes.AreIn h ks
+pub closed : (db : Database) (h : Versions) (ks : List (Known Version)) (v : Version) (n : ℕ) → 0 < length ks → AreAll db.callers (map caller_of ks) → AreTokens ks → AreOf db (map caller_of ks) → front.IsHistory db.callers h → front_passes.AreIn h ks
     → n + 1 ≡ length h → n ≤ 2 ^ 63 → StandsFor h v → (H : History) × IsWhole db (map caller_of ks) H × (v.view ≡ view_after db.schema H)
-closed db h ks v n some tokens own history all count few stands =
+closed db h ks v n some each tokens own history all count few stands =
     let length_is = history_length h stands.0 in
+    let ours = all_in h ks stands.0 tokens all in
     let named : AreNamed db.callers (history_in h) = subst (λ (g : Versions). AreNamed db.callers (history_in g)) (sym history.2) (named_in db.callers history.1 history.3) in (
       history_in h,
-      record { named = named; own = all_in h ks stands.0 tokens all; few = omega (arith, length_is, count, few) },
+      record { named = named; own = ours; made = each_made db.callers (history_in h) (map caller_of ks) each ours; few = omega (arith, length_is, count, few) },
       stands.1 ∙ ap (λ (s : DbSchema). view_after s (history_in h)) (schema_of_all db h ks some tokens own all),
     )

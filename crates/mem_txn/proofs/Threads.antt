@@ -1,5 +1,8 @@
 -- What a database shows and keeps may be handed to another thread and shared with it.
+use base.Fml.{Lft}
 use denote.Param.Send.{IsSend, IsSync, sendable}
+use denote.Ref.{MutRef, ShrRef}
+use mir.Syntax.{Lifetime}
 use Rattle.db_front.proofs.pass.Pass.TheSendSync as token
 use Rattle.db_front.proofs.passes.Passes.TheSendSync as tokens
 use Rattle.db_front.proofs.shared.Shared.TheSendSync as front
@@ -8,7 +11,8 @@ use Rattle.mem_txn.specs.contracts.db.Db
 use Rattle.mem_txn.specs.contracts.pass.Pass
 use Rattle.mem_txn.specs.contracts.passes.Passes
 use Rattle.mem_txn.specs.contracts.turn.Turn
-use Rattle.std.proofs.Crossing.{crosses}
+use Rattle.std.proofs.Crossing.{crosses, sync}
+use Rattle.std.specs.contracts.alloc.Global
 use Rattle.std.specs.contracts.option.Option
 use Rattle.mdb_datum.proofs.datum.Datum.TheLaws.TheKnot as datum
 use Rattle.mdb_encode.proofs.kind.Kind.TheLaws.TheKnot as kind
@@ -134,5 +138,13 @@ snapshot_send = search (sendable, view_send) depth 20
 pub snapshot_sync : IsSync Snapshot.the_row
 snapshot_sync = search (sendable, view_sync) depth 20
 
-pub held_send : IsSend (Option.the_field Pass.the_row).row
-held_send = search (sendable, pass_send) depth 20
+-- ---- what a thread of a caller borrows; a search through all of it at once gives up
+
+pub heap_lent : (ℓ : Lifetime) (κ : Lft) → IsSend (ShrRef ℓ κ Global.the_row)
+heap_lent ℓ κ = search (sendable, sync) depth 20
+
+pub db_lent : (ℓ : Lifetime) (κ : Lft) → IsSend (ShrRef ℓ κ Db.the_row)
+db_lent ℓ κ = search (sendable, db_sync) depth 20
+
+pub pass_lent : (ℓ : Lifetime) (κ : Lft) → IsSend (MutRef ℓ κ (Option.the_row Pass.the_row))
+pass_lent ℓ κ = search (sendable, pass_send) depth 20

@@ -1,14 +1,14 @@
 -- A database and its callers, as contracts see them.
-use Rattle.std.specs.Prelude.{◌≡◌, ◌==◌, ◌+◌, ◌++◌, ◌<◌, ◌≤◌, ◌^◌, ℕ, zero, suc, List, [], ◌∷◌, filter, length}
+use Rattle.std.specs.Prelude.{◌≡◌, ◌==◌, ◌⊎◌, ◌+◌, ◌++◌, ◌<◌, ◌≤◌, ◌^◌, ℕ, zero, suc, List, [], ◌∷◌, filter, length}
 use mathlib.Core.List.{IsPrefix}
-use Rattle.atomic_table.specs.Seated.{TableId}
+use Rattle.db_front.specs.Passes.{FrontId}
 use Rattle.mdb_schema.specs.History.{Commit, History, state_at}
 use Rattle.mdb_schema.specs.Schema.{DbSchema}
 use Rattle.mdb_schema.specs.State.{State}
 
 -- a database: which one it is, how many callers it has, and its schema
 pub record Database : Type 0 where
-  pub database : TableId
+  pub database : FrontId
   pub callers : ℕ
   pub schema : DbSchema
 
@@ -16,7 +16,7 @@ pub record Database : Type 0 where
 -- ones, the counts of commits that it has read, and what its tries for the writer's turn found.
 pub record Caller : Type 0 where
   pub number : ℕ
-  pub database : TableId
+  pub database : FrontId
   pub schema : DbSchema
   pub seen : History
   pub own : List Commit
@@ -34,6 +34,10 @@ state_seen p = state_at p.schema p.seen (length p.seen)
 -- the pass belongs to the database
 abbrev pub IsOf : Database → Caller → Type 0
 IsOf db p = (p.database ≡ db.database) × (p.schema ≡ db.schema)
+
+-- it is the pass of caller n
+abbrev pub IsCaller : Database → ℕ → Caller → Type 0
+IsCaller db n p = IsOf db p × (p.number ≡ n)
 
 abbrev pub AreOf : Database → List Caller → Type 0
 AreOf db [] = Unit {0}
@@ -85,6 +89,7 @@ new_callers db count = record { passes = new_passes db count; made = count }
 -- the pass has seen as much or more, and may have read counts and made tries; all else is as before
 pub record HasSeen (old new : Caller) : Type 0 where
   pub seen : IsPrefix old.seen new.seen
+  pub few : length new.seen ≤ 2 ^ 63
   pub counts : IsPrefix old.counts new.counts
   pub tries : IsPrefix old.tries new.tries
   pub others : new ≡ record old { seen = new.seen; counts = new.counts; tries = new.tries }
@@ -105,8 +110,27 @@ abbrev pub AreIn : History → List Caller → Type 0
 AreIn H [] = Unit {0}
 AreIn H (p ∷ ps) = (commits_by p.number H ≡ p.own) × IsPrefix p.seen H × AreIn H ps
 
+-- caller c has a pass in the list
+abbrev pub HasPass : ℕ → List Caller → Type 0
+HasPass c [] = ⊥
+HasPass c (p ∷ ps) = (p.number ≡ c) ⊎ HasPass c ps
+
+-- each of the callers 1 to n has a pass in the list
+abbrev pub AreAll : ℕ → List Caller → Type 0
+AreAll n ps = (c : ℕ) → 0 < c → c ≤ n → HasPass c ps
+
+-- caller c has a pass in the list, whose own commits are all those of c in the history
+abbrev pub HasMade : History → List Caller → ℕ → Type 0
+HasMade H [] c = ⊥
+HasMade H (p ∷ ps) c = ((p.number ≡ c) × (commits_by c H ≡ p.own)) ⊎ HasMade H ps c
+
+-- the commits in the history of each of the callers 1 to n are those that its pass made
+abbrev pub AreMade : ℕ → History → List Caller → Type 0
+AreMade n H ps = (c : ℕ) → 0 < c → c ≤ n → HasMade H ps c
+
 -- the whole history of a database, when these passes are back
 pub record IsWhole (db : Database) (ps : List Caller) (H : History) : Type 0 where
   pub named : AreNamed db.callers H
   pub own : AreIn H ps
+  pub made : AreMade db.callers H ps
   pub few : length H ≤ 2 ^ 63

@@ -1,5 +1,5 @@
 -- Write transactions with their deferred items, and what becomes of them.
-use Rattle.std.specs.Prelude.{◌≡◌, ◌≢◌, ◌⊎◌, ◌+◌, ◌^◌, ◌<◌, ◌++◌, ℕ, Bool, true, false, List, [], ◌∷◌, length, reverse}
+use Rattle.std.specs.Prelude.{◌≡◌, ◌≢◌, ◌⊎◌, ◌+◌, ◌^◌, ◌<◌, ◌≤◌, ◌++◌, ℕ, Bool, true, false, List, [], ◌∷◌, length, reverse}
 use Rattle.std.specs.Prelude.{Result, Ok, Err, MatchResult}
 use Rattle.mem_txn.specs.Changes.{Changes, after_commit, begun}
 use Rattle.mem_txn.specs.Database.{Caller, HasRead, HasSeen, View}
@@ -34,30 +34,34 @@ IsRefused old new begin_errors.Memory = Unit {0}
 IsRefused old new begin_errors.CommitsSpent =
     HasRead old new (length new.seen) × (length new.seen ≡ 2 ^ 63)
 
+-- tries for the writer's turn were made, the last of which found it free
+abbrev pub HasWonAtLast : Caller → Caller → Type 0
+HasWonAtLast old new = (ts : List ℕ) × (new.tries ≡ old.tries ++ ts ++ 0 ∷ [])
+
 -- a transaction without writes and items, on all commits, whose number was read in this call; or the
 -- caller is told why not, and has its pass back
 abbrev pub AnswersBegin : {D : Type 0} → Caller → Result (WriteTxn D) BeginRefused → Type 0
 AnswersBegin p (Ok t) =
     let q = (changes_of t).caller in HasSeen p q × HasRead p q (length q.seen)
-    × (length q.seen < 2 ^ 63) × (changes_of t ≡ begun q) × (items_of t ≡ [])
+    × (length q.seen < 2 ^ 63) × (changes_of t ≡ begun q) × (items_of t ≡ []) × HasWonAtLast p q
 AnswersBegin p (Err refused) =
-    HasSeen p refused.pass × IsRefused p refused.pass refused.cause
+    HasSeen p refused.pass × IsRefused p refused.pass refused.cause × HasWonAtLast p refused.pass
 
 -- the one try for the writer's turn found it free
 abbrev pub HasWon : Caller → Caller → Type 0
 HasWon old new = new.tries ≡ old.tries ++ 0 ∷ []
 
--- it found another caller's number, and nothing else was done
-abbrev pub HasLost : Caller → Caller → Type 0
-HasLost old new = (n : ℕ) × (n ≢ 0) × (n ≢ old.number)
+-- it found the number of another of so many callers, and nothing else was done
+abbrev pub HasLost : ℕ → Caller → Caller → Type 0
+HasLost callers old new = (n : ℕ) × (n ≢ 0) × (n ≢ old.number) × (n ≤ callers)
     × (new ≡ record old { tries = old.tries ++ n ∷ [] })
 
--- the same of a call that makes one try: exactly where that found another caller's number, the turn is
--- taken
-abbrev pub AnswersTry : {D : Type 0} → Caller → Result (Tried D) BeginRefused → Type 0
-AnswersTry p (Ok (tried.Begun t)) = AnswersBegin p (Ok t) × HasWon p (changes_of t).caller
-AnswersTry p (Ok (tried.Taken q)) = HasLost p q
-AnswersTry p (Err refused) =
+-- the same of a call that makes one try: exactly where that found the number of another of so many
+-- callers, the turn is taken
+abbrev pub AnswersTry : {D : Type 0} → ℕ → Caller → Result (Tried D) BeginRefused → Type 0
+AnswersTry callers p (Ok (tried.Begun t)) = AnswersBegin p (Ok t) × HasWon p (changes_of t).caller
+AnswersTry callers p (Ok (tried.Taken q)) = HasLost callers p q
+AnswersTry callers p (Err refused) =
     HasSeen p refused.pass × IsRefused p refused.pass refused.cause × HasWon p refused.pass
 
 -- the present state, or want of memory; a spoiled transaction answers so before all else
@@ -70,6 +74,7 @@ AnswersSnapshot false present result =
 pub record IsCommitted {D : Type 0} (t : WriteTxn D) (c : Committed D) : Type 0 where
   pub pass : c.pass ≡ after_commit (changes_of t)
   pub number : c.receipt.number ≡ length (changes_of t).caller.seen + 1
+  pub few : c.receipt.number ≤ 2 ^ 63
   pub items : deferred_items c.receipt.items ≡ reverse (items_of t)
 
 -- a commit is made, or refused and the caller is as it was: exactly a spoiled transaction is told so

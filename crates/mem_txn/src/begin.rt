@@ -37,7 +37,7 @@ impl Db {
     /// The same, but for one try: while another write transaction is open, the pass is given back.
     pub fn try_write<D: Drop, R: Wait>(&self, rt: &R, pass: Pass) -> Result<Tried<D>, BeginRefused>
         requires own { IsOf self.now pass }
-        ensures { AnswersTry pass result }
+        ensures { AnswersTry self.now.callers pass result }
     {
         let Pass { mut token } = pass;
         match self.shared.try_begin(rt, &mut token) {

@@ -1,7 +1,7 @@
 //! Databases.
 ghost use Rattle.std.specs.Prelude.{◌≡◌, ◌≤◌, ◌<◌, IfOk, length};
 ghost use Rattle.mdb_schema.specs.History.{History};
-ghost use Rattle.mem_txn.specs.Database.{AreOf, HasRead, HasSeen, IsOf, IsWhole, new_callers, view_after, view_seen};
+ghost use Rattle.mem_txn.specs.Database.{AreAll, AreOf, HasRead, HasSeen, IsOf, IsWhole, new_callers, view_after, view_seen};
 
 use crate::pass::Pass;
 use crate::passes::Passes;
@@ -78,11 +78,11 @@ impl Db {
         Ok(ReadTxn::of(value))
     }
 
-    /// The state after all commits, when the passes are back. It takes no memory. It waits for write
-    /// transactions whose passes aren't among these.
+    /// The state after all commits, when all passes are back. It takes no memory.
     pub fn close<R: Wait>(self, rt: &R, passes: Passes) -> ReadTxn
         requires some { 0 < length passes.passes }
         requires own { AreOf self passes.passes }
+        requires all { AreAll self.callers passes.passes }
         ensures { (H : History) × IsWhole self passes.passes H
             × (result ≡ view_after self.schema H) }
     {

@@ -1,12 +1,13 @@
 //! What no clause says: that each call succeeds while there is memory.
 ghost use Rattle.std.specs.Prelude.{◌≡◌, [], IfOk};
-ghost use Rattle.mem_txn.specs.Database.{IsOf};
+ghost use Rattle.mem_txn.specs.Database.{IsCaller};
 
 mod callers;
 mod deferred;
 mod drawn;
 mod mixed;
 mod reads;
+mod threads;
 mod without_memory;
 mod worked;
 
@@ -34,7 +35,8 @@ fn schema_of(alloc: Global) -> Result<Schema, Fail> {
 
 /// A database without rows, the list of its passes without the first one, and that.
 fn opened(alloc: Global) -> Result<(Db, Passes, Pass), Fail>
-    ensures own { IfOk result (λ made. IsOf made.0 made.2) }
+    ensures own { IfOk result (λ made. IsCaller made.0 1 made.2) }
+    ensures alone { IfOk result (λ made. made.0.callers ≡ 1) }
     ensures rest { IfOk result (λ made. made.1 ≡ record { passes = []; made = 1 }) }
 {
     let (db, mut passes) = Db::create(alloc, schema_of(alloc)?, 1)?;
@@ -46,7 +48,8 @@ fn opened(alloc: Global) -> Result<(Db, Passes, Pass), Fail>
 
 /// The last state of a database, whose only pass is back.
 fn closed<R: Wait>(rt: &R, db: Db, mut passes: Passes, pass: Pass) -> ReadTxn
-    requires own { IsOf db pass }
+    requires own { IsCaller db 1 pass }
+    requires alone { db.callers ≡ 1 }
     requires rest { passes ≡ record { passes = []; made = 1 } }
 {
     passes.give(pass);

@@ -9,7 +9,8 @@ use Rattle.std.proofs.lemmas.List.Sorted.{IsPermutation-refl}
 use Rattle.mdb_datum.specs.Bytes.{Bytes}
 use Rattle.mdb_schema.specs.History.{Commit, History}
 use Rattle.mdb_schema.specs.Schema.{DbSchema}
-use Rattle.mem_txn.specs.Database.{AreNamed, Caller, Callers, Database, IsWhole, commits_by, new_callers, new_pass}
+use Rattle.mem_txn.specs.Database.{AreAll, AreNamed, Caller, Callers, Database, IsWhole, commits_by, new_callers, new_pass}
+use Rattle.mem_txn.proofs.AllBack.{one_back}
 use Rattle.client_script.proofs.LongerHistory.{session_longer}
 use Rattle.client_script.specs.Legal.{Legal, printed, callers}
 use Rattle.client_script.specs.Reply.{Reply, heading, lines_text}
@@ -118,11 +119,18 @@ module _ (db : Database) (made rest : Callers) (p : Caller) (new : made ≡ new_
   number_one = sym (ap (λ (q : Caller). q.number) (fresh_pass db made rest p new taken))
 
   module _ (q : Caller) (given : Callers) (given_is : given ≡ record rest { passes = rest.passes ++ q ∷ [] }) where
+    same_number : IsLater s.caller q → q.number ≡ 1
+    same_number later = later.number ∙ sym (ap (λ (x : Progress). x.caller.number) (sym is)) ∙ sym number_one
+
     one_given : given.passes ≡ q ∷ []
     one_given = ap (λ (c : Callers). c.passes) given_is ∙ ap (λ (c : Callers). c.passes ++ q ∷ []) (none_left db made rest p new taken)
 
+    -- so all passes are back
+    pub all_back : (db : Database) → db.callers ≡ 1 → IsLater s.caller q → AreAll db.callers given.passes
+    all_back db one later = subst (AreAll db.callers) (sym one_given) (one_back db.callers q one (same_number later))
+
     pub all_legal : {A : Type 0} (items : A → Bytes) (r : Result A AllocError) (schema : DbSchema) (name text : Bytes) (H : History) → db.schema ≡ schema → db.callers ≡ 1 → IsLater s.caller q → IsWhole db given.passes H → IfOk r (λ out. HasAnswered s.caller q s.script text) → IfOk r (λ out. items out ≡ heading 1 name ++ text) → IfOk r (λ out. Legal schema (name ∷ []) (script ∷ []) (items out))
     all_legal items (Ok out) schema name text H same one later whole answered is_text =
-        legal db H q one (subst (λ (ps : List Caller). IsWhole db ps H) one_given whole) (later.number ∙ sym (ap (λ (x : Progress). x.caller.number) (sym is)) ∙ sym number_one) schema name script text (items out) same
+        legal db H q one (subst (λ (ps : List Caller). IsWhole db ps H) one_given whole) (same_number later) schema name script text (items out) same
         (subst (λ (c : Caller). HasAnswered c q script text) (fresh_pass db made rest p new taken) (subst (λ (x : Progress). HasAnswered x.caller q x.script text) is answered)) is_text
     all_legal items (Err e) schema name text H same one later whole answered is_text = tt

@@ -43,7 +43,7 @@ no_table = record {
 abbrev pub pass_in : Option Caller → Caller
 pass_in None = record {
   number = 0;
-  database = no_table;
+  database = (no_table, 0);
   schema = [];
   seen = [];
   own = [];

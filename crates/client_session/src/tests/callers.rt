@@ -1,6 +1,6 @@
 //! Sessions of two callers of one database, one after the other.
 ghost use Rattle.std.specs.Prelude.{◌≡◌, [], IfOk};
-ghost use Rattle.mem_txn.specs.Database.{IsOf};
+ghost use Rattle.mem_txn.specs.Database.{IsCaller, IsOf};
 
 use super::{Case, schema_of, script_of, tells};
 use crate::Session;
@@ -32,8 +32,9 @@ const AGAIN: Case = (
 
 /// A database of two callers, the list of its passes without them, and they.
 fn pair(alloc: Global) -> Result<(Db, Passes, Pass, Pass), Fail>
-    ensures one { IfOk result (λ made. IsOf made.0 made.2) }
-    ensures two { IfOk result (λ made. IsOf made.0 made.3) }
+    ensures one { IfOk result (λ made. IsCaller made.0 1 made.2) }
+    ensures two { IfOk result (λ made. IsCaller made.0 2 made.3) }
+    ensures both { IfOk result (λ made. made.0.callers ≡ 2) }
     ensures rest { IfOk result (λ made. made.1 ≡ record { passes = []; made = 2 }) }
 {
     let (db, mut passes) = Db::create(alloc, schema_of(alloc, SCHEMA)?, 2)?;
@@ -52,7 +53,7 @@ fn is_told<R: Wait>(
     case: &Case,
 ) -> (Pass, Result<bool, Fail>)
     requires own { IsOf db.now pass }
-    ensures own { IsOf db.now result.0 }
+    ensures own { IsCaller db.now pass.number result.0 }
 {
     match script_of(alloc, case.0) {
         Ok(script) => {
@@ -74,7 +75,7 @@ fn is_told_too<R: Wait>(
     so_far: Result<bool, Fail>,
 ) -> (Pass, Result<bool, Fail>)
     requires own { IsOf db.now pass }
-    ensures own { IsOf db.now result.0 }
+    ensures own { IsCaller db.now pass.number result.0 }
 {
     match so_far {
         Ok(true) => is_told(rt, alloc, db, pass, case),

@@ -1,6 +1,6 @@
 //! Sessions over keys, notes, rules and users.
 ghost use Rattle.client_script.specs.Session.{AreKnown};
-ghost use Rattle.mem_txn.specs.Database.{IsOf};
+ghost use Rattle.mem_txn.specs.Database.{IsCaller, IsOf};
 
 use super::{Case, close, is_answered, opened, tells};
 use crate::Session;
@@ -403,7 +403,7 @@ const ONE_COMMIT: &str = "1: write @0\n2: commit @1\n";
 fn tells_twice<R: Wait>(rt: &R, db: &Db, session: &mut Session, answers: &str) -> Result<bool, Fail>
     requires own { IsOf db.now session.old.caller }
     requires known { AreKnown session.old.script }
-    ensures { IsOf db.now session.new.caller }
+    ensures { IsCaller db.now session.old.caller.number session.new.caller }
 {
     let first = tells(rt, db, session, answers)?;
     let second = tells(rt, db, session, answers)?;

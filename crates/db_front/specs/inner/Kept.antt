@@ -18,8 +18,9 @@ abbrev pub no_log : Log
 no_log = record { book = record { number = 0; log_name = 0; cells_name = 0 }; fired = [] }
 
 -- a view that holds no turn
-abbrev pub blank : {V : Type 0} → ℕ → List (ℕ × V) → List (ℕ × V) → List (Hand V) → View V
-blank number seen mine more = record {
+abbrev pub blank : {V : Type 0} → ℕ → ℕ → List (ℕ × V) → List (ℕ × V) → List (Hand V) → View V
+blank callers number seen mine more = record {
+  callers = callers;
   number = number;
   seen = seen;
   mine = mine;
@@ -43,7 +44,7 @@ dealt seen k (suc n) = (k, [], seen) ∷ dealt seen (suc k) n
 -- the first seat, where it still carries the numbers from k on. The key is the opening value and
 -- the number of callers
 abbrev pub dealing : {V : Type 0} → V × ℕ → ℕ → View V
-dealing key k = blank key.1 (start key.0) [] (dealt (start key.0) k (key.1 - k))
+dealing key k = blank key.1 key.1 (start key.0) [] (dealt (start key.0) k (key.1 - k))
 
 abbrev pub first_view : {V : Type 0} → V × ℕ → View V
 first_view key = dealing key 1
@@ -99,6 +100,7 @@ module _ {V : Type 0} (stands : List (ℕ × V) → V → Type 0)
       × (n.stage ≡ 3 → HasFirings fired (length n.commits) (log_of n) log)
 
   pub record Fits (n : Now V) (id : ℕ) (v : View V) : Type 0 where
+    pub limit : 0 < v.number → v.callers ≡ n.callers
     pub own : 0 < v.number → Carries n.callers n.owner (log_of n) id (v.number, v.mine, v.seen)
     pub more : Hands n.callers n.owner (log_of n) id v.more
     pub apart : (0 < v.number → Lacks v.number v.more) × Apart v.more
@@ -136,12 +138,12 @@ module _ {V : Type 0} where
   abbrev pub fewer : View V → View V
   fewer v = record v { more = drop 1 v.more }
 
-  abbrev pub given : List (Hand V) → View V
-  given [] = blank 0 [] [] []
-  given (p ∷ ps) = blank p.0 p.2 p.1 []
+  abbrev pub given : ℕ → List (Hand V) → View V
+  given callers [] = blank 0 0 [] [] []
+  given callers (p ∷ ps) = blank callers p.0 p.2 p.1 []
 
   abbrev pub handed_over : View V → View V
-  handed_over v = given v.more
+  handed_over v = given v.callers v.more
 
   abbrev pub joined : View V → View V → View V
   joined v w = record v { more = v.more ++ (w.number, w.mine, w.seen) ∷ [] }

@@ -21,12 +21,12 @@ module _ {V : Type 0} where
       × (0 < m.0.stage → e + 1 ≡ length m.0.seen)
       × (e ≤ 2 ^ 63)
 
-  -- the writer's turn was taken, and the whole list seen; or another caller's number was found
+  -- the writer's turn was taken, and the whole list seen; or another number of a caller was found
   abbrev pub tried : At V → Sat V → ℕ → Sat V → Type 0
   tried st m e m' =
       (e ≡ 0 → (h : List (ℕ × V)) × IsPrefix m.0.seen h
       × (m' ≡ (record m.0 { seen = h; tries = m.0.tries ++ e ∷ []; stage = 1 }, m.1)))
-      × (e ≢ 0 → (e ≢ m.0.number) × (m' ≡ (record m.0 { tries = m.0.tries ++ e ∷ [] }, m.1)))
+      × (e ≢ 0 → (e ≢ m.0.number) × (e ≤ m.0.callers) × (m' ≡ (record m.0 { tries = m.0.tries ++ e ∷ [] }, m.1)))
 
   -- the writer's turn was given back
   abbrev pub left : At V → Sat V → ℕ → Sat V → Type 0

@@ -27,7 +27,7 @@ module _ {V : Type 0} where
   -- what callers see of a seat
   abbrev pub known_of : Spot V → ℕ → Known V
   known_of s number = record {
-    table = s.table_id;
+    table = (s.table_id, s.me.0.callers);
     number = number;
     seen = s.me.0.seen;
     mine = s.me.0.mine;
@@ -60,11 +60,11 @@ module _ {V : Type 0} where
       × stands h c.0
       × (t.me ≡ (record s.me.0 { seen = h; out = 1; log = c.1 }, (0, None) ∷ []))
 
-  -- the seat took the writer's turn
+  -- the seat took the writer's turn, by its last try
   abbrev pub Began : Spot V → Spot V → Type 0
   Began s t =
-      (h : List (ℕ × V)) × (ts : List ℕ) × IsPrefix s.me.0.seen h × IsPrefix s.me.0.tries ts
-      × (t.me ≡ (begun s.me.0 h ts, []))
+      (h : List (ℕ × V)) × (ts : List ℕ) × IsPrefix s.me.0.seen h
+      × (t.me ≡ (begun s.me.0 h (s.me.0.tries ++ ts ++ 0 ∷ []), []))
 
   -- the seat has looked at the list that it had seen whole
   abbrev pub SeesBegun : Spot V → Spot V → ℕ → Type 0

@@ -1,7 +1,8 @@
 -- How the logic stores what contracts see of a database, its callers and their transactions.
 use Rattle.std.specs.Prelude.{◌≡◌, ℕ, Bool, true, false, List, refl}
 use Rattle.std.specs.Coded.{Coded, code_by, coded×, coded_ℕ, coded_bool, coded_list}
-use Rattle.atomic_table.specs.Seated.{TableId, table_id_coded}
+use Rattle.atomic_table.specs.Seated.{table_id_coded}
+use Rattle.db_front.specs.Passes.{FrontId}
 use Rattle.mdb_datum.specs.Row.{Fields}
 use Rattle.mdb_datum.specs.inner.Stored.{fields_code}
 use Rattle.mdb_encode.specs.Bytes.{Bytes}
@@ -53,9 +54,12 @@ history_code = coded_list commit_code
 abbrev pub counts_code : Coded (List ℕ)
 counts_code = coded_list coded_ℕ
 
+abbrev pub front_code : Coded FrontId
+front_code = coded× table_id_coded coded_ℕ
+
 -- a caller's number and database, its commits, and its counts and tries
 abbrev pub CallerParts : Type 0
-CallerParts = (ℕ × (TableId × DbSchema)) × ((History × History) × (List ℕ × List ℕ))
+CallerParts = (ℕ × (FrontId × DbSchema)) × ((History × History) × (List ℕ × List ℕ))
 
 abbrev pub caller_parts : Caller → CallerParts
 caller_parts c =
@@ -74,7 +78,7 @@ caller_from p = record {
 
 abbrev pub caller_code : Coded Caller
 caller_code = code_by CallerParts
-    (coded× (coded× coded_ℕ (coded× table_id_coded schema_code))
+    (coded× (coded× coded_ℕ (coded× front_code schema_code))
     (coded× (coded× history_code history_code) (coded× counts_code counts_code)))
     caller_parts caller_from (λ _. refl)
 
@@ -83,8 +87,8 @@ callers_code = code_by (List Caller × ℕ) (coded× (coded_list caller_code) co
     (λ c. (c.passes, c.made)) (λ p. record { passes = p.0; made = p.1 }) (λ _. refl)
 
 abbrev pub database_code : Coded Database
-database_code = code_by (TableId × (ℕ × DbSchema))
-    (coded× table_id_coded (coded× coded_ℕ schema_code))
+database_code = code_by (FrontId × (ℕ × DbSchema))
+    (coded× front_code (coded× coded_ℕ schema_code))
     (λ d. (d.database, (d.callers, d.schema)))
     (λ p. record { database = p.0; callers = p.1.0; schema = p.1.1 }) (λ _. refl)
 

@@ -1,6 +1,6 @@
 //! Callers that share a database, one after the other and on threads.
 ghost use Rattle.std.specs.Prelude.{◌≡◌, [], IfOk, Some};
-ghost use Rattle.mem_txn.specs.Database.{Caller, IsOf};
+ghost use Rattle.mem_txn.specs.Database.{Caller, IsCaller, IsOf};
 ghost use Rattle.mem_txn.specs.Transactions.{changes_of};
 
 use super::schema_of;
@@ -15,9 +15,10 @@ use std::test::Fail;
 use std::thread::{Threads, join_mut};
 
 /// A database of two callers, the list of its passes without them, and they.
-fn pair(alloc: Global) -> Result<(Db, Passes, Pass, Pass), Fail>
-    ensures one { IfOk result (λ made. IsOf made.0 made.2) }
-    ensures two { IfOk result (λ made. IsOf made.0 made.3) }
+pub(super) fn pair(alloc: Global) -> Result<(Db, Passes, Pass, Pass), Fail>
+    ensures one { IfOk result (λ made. IsCaller made.0 1 made.2) }
+    ensures two { IfOk result (λ made. IsCaller made.0 2 made.3) }
+    ensures both { IfOk result (λ made. made.0.callers ≡ 2) }
     ensures rest { IfOk result (λ made. made.1 ≡ record { passes = []; made = 2 }) }
 {
     let (db, mut passes) = Db::create(alloc, schema_of(alloc)?, 2)?;
@@ -28,9 +29,10 @@ fn pair(alloc: Global) -> Result<(Db, Passes, Pass, Pass), Fail>
 }
 
 /// The last state, when both passes are back.
-fn closed<R: Wait>(rt: &R, db: Db, mut passes: Passes, one: Pass, two: Pass) -> ReadTxn
-    requires one { IsOf db one }
-    requires two { IsOf db two }
+pub(super) fn closed<R: Wait>(rt: &R, db: Db, mut passes: Passes, one: Pass, two: Pass) -> ReadTxn
+    requires one { IsCaller db 1 one }
+    requires two { IsCaller db 2 two }
+    requires both { db.callers ≡ 2 }
     requires rest { passes ≡ record { passes = []; made = 2 } }
 {
     passes.give(one);
@@ -95,7 +97,7 @@ fn one_txn<R: Wait>(
     commits: bool,
 ) -> (Pass, Result<(), AllocError>)
     requires own { IsOf db.now pass }
-    ensures { IsOf db.now result.0 }
+    ensures { IsCaller db.now pass.number result.0 }
 {
     let mut txn = match db.write(rt, pass) {
         Ok(txn) => txn,
@@ -122,7 +124,7 @@ fn some_txns<R: Wait>(
     commits: bool,
 ) -> (Pass, Result<(), AllocError>)
     requires own { IsOf db.now pass }
-    ensures { IsOf db.now result.0 }
+    ensures { IsCaller db.now pass.number result.0 }
 {
     let mut pass = pass;
     for own in 0..count {
@@ -135,22 +137,23 @@ fn some_txns<R: Wait>(
     (pass, Ok(()))
 }
 
-/// The same of a pass that a thread borrows.
-fn some_borrowed<R: Wait>(
+/// The same of a pass that a thread borrows. Caller 1 has the letter `a`, and caller 2 has `b`.
+pub(super) fn some_borrowed<R: Wait>(
     rt: &R,
     alloc: Global,
     db: &Db,
     held: &mut Option<Pass>,
-    letter: char,
+    caller: u32,
     count: u64,
     commits: bool,
 ) -> Result<(), AllocError>
-    requires own { (p : Caller) × (held.old ≡ Some p) × IsOf db.now p }
-    ensures { (p : Caller) × (held.new ≡ Some p) × IsOf db.now p }
+    requires own { (p : Caller) × (held.old ≡ Some p) × IsCaller db.now caller p }
+    ensures { (p : Caller) × (held.new ≡ Some p) × IsCaller db.now caller p }
 {
     let Some(pass) = held.take() else {
         unreachable!()
     };
+    let letter = if caller == 1 { 'a' } else { 'b' };
     let (pass, done) = some_txns(rt, alloc, db, pass, letter, count, commits);
     let gone = held.replace(pass);
     let None = gone else { unreachable!() };
@@ -176,7 +179,11 @@ fn in_order(alloc: Global, rows: &Rows) -> Result<Option<(u64, u64)>, Fail> {
 }
 
 /// The users of a state, by age.
-fn are_in_order(alloc: Global, read: &ReadTxn, counts: (u64, u64)) -> Result<bool, Fail> {
+pub(super) fn are_in_order(
+    alloc: Global,
+    read: &ReadTxn,
+    counts: (u64, u64),
+) -> Result<bool, Fail> {
     let query = super::query_of(alloc, Ask::Get, ("users", "age"), "[]")?;
     match read.ask(&query)? {
         Answer::Many(rows) => Ok(in_order(alloc, &rows)? == Some(counts)),
@@ -204,7 +211,7 @@ fn two_callers_make_fifty_commits_each(rt: HostRuntime) -> Result<(), Fail> {
 /// Whether a try of a caller finds another's transaction open.
 fn is_taken<R: Wait>(rt: &R, db: &Db, pass: Pass) -> (Pass, Result<bool, AllocError>)
     requires own { IsOf db.now pass }
-    ensures { IsOf db.now result.0 }
+    ensures { IsCaller db.now pass.number result.0 }
 {
     match db.try_write::<u8, R>(rt, pass) {
         Ok(Tried::Begun(txn)) => (txn.abort(db), Ok(false)),
@@ -230,8 +237,8 @@ fn try_twice<R: Wait>(
 ) -> (Pass, Pass, Result<bool, AllocError>)
     requires one { IsOf db.now one }
     requires two { IsOf db.now two }
-    ensures one { IsOf db.now result.0 }
-    ensures two { IsOf db.now result.1 }
+    ensures one { IsCaller db.now one.number result.0 }
+    ensures two { IsCaller db.now two.number result.1 }
 {
     match db.try_write::<u8, R>(rt, one) {
         Ok(Tried::Begun(txn)) => {
@@ -293,16 +300,16 @@ fn is_kept<R: Threads + Wait + Sync>(
     read: &ReadTxn,
     two: &mut Option<Pass>,
 ) -> Result<bool, AllocError>
-    requires { (p : Caller) × (two.old ≡ Some p) × IsOf db.now p }
-    ensures { (p : Caller) × (two.new ≡ Some p) × IsOf db.now p }
+    requires { (p : Caller) × (two.old ≡ Some p) × IsCaller db.now 2 p }
+    ensures { (p : Caller) × (two.new ≡ Some p) × IsCaller db.now 2 p }
 {
     let (kept, done) = join_mut(
         rt,
         &mut || -> Result<bool, AllocError> { stays_empty(alloc, read) },
         &mut || -> Result<(), AllocError>
-            requires { (p : Caller) × (two.now ≡ Some p) × IsOf db.now p }
-            ensures { (p : Caller) × (two.exit.now ≡ Some p) × IsOf db.entry.now p }
-        { some_borrowed(rt, alloc, db, two, 'b', 100, true) },
+            requires { (p : Caller) × (two.now ≡ Some p) × IsCaller db.now 2 p }
+            ensures { (p : Caller) × (two.exit.now ≡ Some p) × IsCaller db.entry.now 2 p }
+        { some_borrowed(rt, alloc, db, two, 2, 100, true) },
     );
     done?;
     Ok(kept? && stays_empty(alloc, read)?)

@@ -1,6 +1,6 @@
 //! Deferred items of a type that isn't copied.
 ghost use Rattle.std.specs.Prelude.{◌≡◌};
-ghost use Rattle.mem_txn.specs.Database.{IsOf};
+ghost use Rattle.mem_txn.specs.Database.{IsCaller};
 ghost use Rattle.mem_txn.specs.Transactions.{changes_of};
 
 use super::{closed, failed, opened};
@@ -33,8 +33,8 @@ fn commit_all<R: Wait>(
     db: &Db,
     pass: Pass,
 ) -> (Pass, Result<DeferredList<String>, Fail>)
-    requires own { IsOf db.now pass }
-    ensures { IsOf db.now result.0 }
+    requires own { IsCaller db.now 1 pass }
+    ensures { IsCaller db.now 1 result.0 }
 {
     let txn = match db.write(rt, pass) {
         Ok(txn) => txn,

@@ -1,6 +1,6 @@
 //! Thousands of transactions on a database and on plain lists, which answer the same.
 ghost use Rattle.std.specs.Prelude.{◌≡◌};
-ghost use Rattle.mem_txn.specs.Database.{IsOf};
+ghost use Rattle.mem_txn.specs.Database.{IsCaller};
 ghost use Rattle.mem_txn.specs.Transactions.{changes_of};
 
 use super::drawn::{Plain, QUESTIONS, Question, Random, is_alike, table_of, text_of, wipe_plain};
@@ -178,8 +178,8 @@ fn operate_often(
 
 /// Ends a transaction by its commit or its abort.
 pub fn end<R: Wait>(rt: &R, commits: bool, db: &Db, txn: WriteTxn<u8>) -> (Pass, Result<bool, Fail>)
-    requires own { IsOf db.now (changes_of txn).caller }
-    ensures { IsOf db.now result.0 }
+    requires own { IsCaller db.now 1 (changes_of txn).caller }
+    ensures { IsCaller db.now 1 result.0 }
 {
     if !commits {
         return (txn.abort(db), Ok(true));
@@ -199,8 +199,8 @@ fn run_begun<R: Wait>(
     txn: WriteTxn<u8>,
     plain: &mut Plain,
 ) -> (Pass, Result<bool, Fail>)
-    requires own { IsOf db.now (changes_of txn).caller }
-    ensures { IsOf db.now result.0 }
+    requires own { IsCaller db.now 1 (changes_of txn).caller }
+    ensures { IsCaller db.now 1 result.0 }
 {
     let mut txn = txn;
     let mut after = *plain;
@@ -225,8 +225,8 @@ fn run_both<R: Wait>(
     pass: Pass,
     plain: &mut Plain,
 ) -> (Pass, Result<bool, Fail>)
-    requires own { IsOf db.now pass }
-    ensures { IsOf db.now result.0 }
+    requires own { IsCaller db.now 1 pass }
+    ensures { IsCaller db.now 1 result.0 }
 {
     match db.write(rt, pass) {
         Ok(txn) => run_begun(rt, alloc, random, db, txn, plain),
@@ -242,8 +242,8 @@ pub fn reads_alike<R: Wait>(
     pass: &mut Pass,
     plain: &Plain,
 ) -> Result<bool, Fail>
-    requires own { IsOf db.now pass.old }
-    ensures { IsOf db.now pass.new }
+    requires own { IsCaller db.now 1 pass.old }
+    ensures { IsCaller db.now 1 pass.new }
 {
     let read = db.read(rt, pass)?;
     are_read(alloc, &read, plain)
@@ -258,8 +258,8 @@ fn run_read<R: Wait>(
     pass: Pass,
     plain: &mut Plain,
 ) -> (Pass, Result<bool, Fail>)
-    requires own { IsOf db.now pass }
-    ensures { IsOf db.now result.0 }
+    requires own { IsCaller db.now 1 pass }
+    ensures { IsCaller db.now 1 result.0 }
 {
     let (mut pass, told) = run_both(rt, alloc, random, db, pass, plain);
     let told = match told {
@@ -279,8 +279,8 @@ fn run_often<R: Wait>(
     plain: &mut Plain,
     count: u64,
 ) -> (Pass, Result<bool, Fail>)
-    requires own { IsOf db.now pass }
-    ensures { IsOf db.now result.0 }
+    requires own { IsCaller db.now 1 pass }
+    ensures { IsCaller db.now 1 result.0 }
 {
     let mut pass = pass;
     for _ in 0..count {
@@ -296,8 +296,8 @@ fn run_often<R: Wait>(
 
 /// A snapshot of a snapshot.
 fn kept_of<R: Wait>(rt: &R, db: &Db, pass: &mut Pass) -> Result<ReadTxn, Fail>
-    requires own { IsOf db.now pass.old }
-    ensures { IsOf db.now pass.new }
+    requires own { IsCaller db.now 1 pass.old }
+    ensures { IsCaller db.now 1 pass.new }
 {
     let read = db.read(rt, pass)?;
     Ok(read.snapshot()?.snapshot()?)
@@ -305,8 +305,8 @@ fn kept_of<R: Wait>(rt: &R, db: &Db, pass: &mut Pass) -> Result<ReadTxn, Fail>
 
 /// Runs transactions, and tells whether a snapshot stays as it is over the later ones.
 fn is_kept_long<R: Wait>(rt: &R, alloc: Global, db: &Db, pass: Pass) -> (Pass, Result<bool, Fail>)
-    requires own { IsOf db.now pass }
-    ensures { IsOf db.now result.0 }
+    requires own { IsCaller db.now 1 pass }
+    ensures { IsCaller db.now 1 result.0 }
 {
     let mut random = Random(0x9e37_79b9_7f4a_7c15);
     let mut plain: Plain = [None; 12];

@@ -1,7 +1,7 @@
 //! Each allocation may fail: a refused call gives the pass back, and the database answers as
 //! before.
 ghost use Rattle.std.specs.Prelude.{◌≡◌};
-ghost use Rattle.mem_txn.specs.Database.{IsOf};
+ghost use Rattle.mem_txn.specs.Database.{IsCaller};
 ghost use Rattle.mem_txn.specs.Transactions.{changes_of};
 
 use super::drawn::{Plain, Random, table_of, text_of};
@@ -59,8 +59,8 @@ fn try_commit<R: Wait>(
     spoiled: bool,
     plain: (&Plain, &Plain),
 ) -> (Pass, Outcome)
-    requires own { IsOf db.now (changes_of txn).caller }
-    ensures { IsOf db.now result.0 }
+    requires own { IsCaller db.now 1 (changes_of txn).caller }
+    ensures { IsCaller db.now 1 result.0 }
 {
     match txn.commit(rt, db) {
         Ok(Committed { pass, receipt: _ }) => (
@@ -88,8 +88,8 @@ fn try_begun<R: Wait>(
     txn: WriteTxn<u8>,
     plain: &Plain,
 ) -> (Pass, Result<Outcome, Fail>)
-    requires own { IsOf db.now (changes_of txn).caller }
-    ensures { IsOf db.now result.0 }
+    requires own { IsCaller db.now 1 (changes_of txn).caller }
+    ensures { IsCaller db.now 1 result.0 }
 {
     let mut txn = txn;
     let mut after = *plain;
@@ -113,8 +113,8 @@ fn try_both<R: Wait>(
     pass: Pass,
     plain: &Plain,
 ) -> (Pass, Result<Outcome, Fail>)
-    requires own { IsOf db.now pass }
-    ensures { IsOf db.now result.0 }
+    requires own { IsCaller db.now 1 pass }
+    ensures { IsCaller db.now 1 result.0 }
 {
     match db.write(rt, pass) {
         Ok(txn) => try_begun(rt, alloc, random, db, txn, plain),
@@ -137,8 +137,8 @@ fn try_read<R: Wait>(
     pass: Pass,
     plain: &mut Plain,
 ) -> (Pass, Result<bool, Fail>)
-    requires own { IsOf db.now pass }
-    ensures { IsOf db.now result.0 }
+    requires own { IsCaller db.now 1 pass }
+    ensures { IsCaller db.now 1 result.0 }
 {
     let (mut pass, tried) = try_both(rt, alloc, random, db, pass, plain);
     let told = match tried {
@@ -157,8 +157,8 @@ fn try_read<R: Wait>(
 
 /// Whether each of some transactions is answered right.
 fn are_tried<R: Wait>(rt: &R, alloc: Global, db: &Db, pass: Pass) -> (Pass, Result<bool, Fail>)
-    requires own { IsOf db.now pass }
-    ensures { IsOf db.now result.0 }
+    requires own { IsCaller db.now 1 pass }
+    ensures { IsCaller db.now 1 result.0 }
 {
     let mut random = Random(0x2545_f491_4f6c_dd1d);
     let mut plain: Plain = [None; 12];

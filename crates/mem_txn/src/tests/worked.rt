@@ -1,6 +1,6 @@
 //! Worked examples: transactions on a database, each write and question with its answer.
 ghost use Rattle.std.specs.Prelude.{◌≡◌};
-ghost use Rattle.mem_txn.specs.Database.{IsOf};
+ghost use Rattle.mem_txn.specs.Database.{IsCaller};
 ghost use Rattle.mem_txn.specs.Transactions.{changes_of};
 
 use super::mixed::end;
@@ -159,8 +159,8 @@ fn play_begun<R: Wait>(
     lines: &[Line],
     asked: &Asked,
 ) -> (Pass, Result<bool, Fail>)
-    requires own { IsOf db.now (changes_of txn).caller }
-    ensures { IsOf db.now result.0 }
+    requires own { IsCaller db.now 1 (changes_of txn).caller }
+    ensures { IsCaller db.now 1 result.0 }
 {
     let mut txn = txn;
     match are_right(alloc, &mut txn, lines, asked) {
@@ -178,8 +178,8 @@ fn play<R: Wait>(
     lines: &[Line],
     asked: &Asked,
 ) -> (Pass, Result<bool, Fail>)
-    requires own { IsOf db.now pass }
-    ensures { IsOf db.now result.0 }
+    requires own { IsCaller db.now 1 pass }
+    ensures { IsCaller db.now 1 result.0 }
 {
     match db.write(rt, pass) {
         Ok(txn) => play_begun(rt, alloc, db, txn, lines, asked),
@@ -195,8 +195,8 @@ fn play_two<R: Wait>(
     pass: Pass,
     script: &Script,
 ) -> (Pass, Result<bool, Fail>)
-    requires own { IsOf db.now pass }
-    ensures { IsOf db.now result.0 }
+    requires own { IsCaller db.now 1 pass }
+    ensures { IsCaller db.now 1 result.0 }
 {
     let (pass, told) = play(rt, alloc, db, pass, script.first, &NO_NOTES);
     match told {
@@ -214,8 +214,8 @@ fn is_read<R: Wait>(
     number: u64,
     questions: &[Asked],
 ) -> Result<bool, Fail>
-    requires own { IsOf db.now pass.old }
-    ensures { IsOf db.now pass.new }
+    requires own { IsCaller db.now 1 pass.old }
+    ensures { IsCaller db.now 1 pass.new }
 {
     let read = db.read(rt, pass)?;
     if read.number() != number {
@@ -241,8 +241,8 @@ fn is_played_on<R: Wait>(
     pass: Pass,
     script: &Script,
 ) -> (Pass, Result<bool, Fail>)
-    requires own { IsOf db.now pass }
-    ensures { IsOf db.now result.0 }
+    requires own { IsCaller db.now 1 pass }
+    ensures { IsCaller db.now 1 result.0 }
 {
     let (mut pass, told) = play_two(rt, alloc, db, pass, script);
     let told = match told {
@@ -409,8 +409,8 @@ fn is_wiped(alloc: Global, txn: &mut WriteTxn<u8>) -> Result<bool, Fail>
 }
 
 fn abort_wiped<R: Wait>(rt: &R, alloc: Global, db: &Db, pass: Pass) -> (Pass, Result<bool, Fail>)
-    requires own { IsOf db.now pass }
-    ensures { IsOf db.now result.0 }
+    requires own { IsCaller db.now 1 pass }
+    ensures { IsCaller db.now 1 result.0 }
 {
     match db.write(rt, pass) {
         Ok(txn) => {
@@ -424,8 +424,8 @@ fn abort_wiped<R: Wait>(rt: &R, alloc: Global, db: &Db, pass: Pass) -> (Pass, Re
 
 /// Whether a wipe takes rows out of its transaction, and leaves those that were committed.
 fn is_undone_on<R: Wait>(rt: &R, alloc: Global, db: &Db, pass: Pass) -> (Pass, Result<bool, Fail>)
-    requires own { IsOf db.now pass }
-    ensures { IsOf db.now result.0 }
+    requires own { IsCaller db.now 1 pass }
+    ensures { IsCaller db.now 1 result.0 }
 {
     let (pass, played) = play(rt, alloc, db, pass, &WIPED, &THREE);
     match played {
@@ -493,8 +493,8 @@ fn between(alloc: Global, txn: &mut WriteTxn<u8>) -> Result<Snapshot, Fail>
 
 /// The snapshot of a transaction that is aborted.
 fn outlived<R: Wait>(rt: &R, alloc: Global, db: &Db, pass: Pass) -> (Pass, Result<Snapshot, Fail>)
-    requires own { IsOf db.now pass }
-    ensures { IsOf db.now result.0 }
+    requires own { IsCaller db.now 1 pass }
+    ensures { IsCaller db.now 1 result.0 }
 {
     match db.write(rt, pass) {
         Ok(txn) => {
@@ -508,8 +508,8 @@ fn outlived<R: Wait>(rt: &R, alloc: Global, db: &Db, pass: Pass) -> (Pass, Resul
 
 /// Whether a snapshot stays, and the database has nothing of the transaction.
 fn is_outlived_on<R: Wait>(rt: &R, alloc: Global, db: &Db, pass: Pass) -> (Pass, Result<bool, Fail>)
-    requires own { IsOf db.now pass }
-    ensures { IsOf db.now result.0 }
+    requires own { IsCaller db.now 1 pass }
+    ensures { IsCaller db.now 1 result.0 }
 {
     let (mut pass, kept) = outlived(rt, alloc, db, pass);
     let kept = match kept {

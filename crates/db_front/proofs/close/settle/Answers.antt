@@ -1,7 +1,8 @@
-use Rattle.std.proofs.Common.{rules, ◌<◌, ap, sym, subst, arith}
+use Rattle.std.proofs.Common.{rules, ◌<◌, [], ◌∷◌, ◌++◌, ap, sym, subst, arith}
 use Rattle.std.proofs.lemmas.Grind.{common_steps}
 use mathlib.Core.Option.{none}
 use Rattle.atomic_table.specs.Table.{step}
+use Rattle.db_front.specs.Commits.{HasFirings}
 use Rattle.db_front.proofs.LoadSteps.{counts, notes}
 use Rattle.db_front.proofs.SeatSteps.{ended}
 use Rattle.db_front.proofs.close.settle.Goals as goal
@@ -18,6 +19,14 @@ returns g c =
     let e = c.enter.ensures.took in
     let free = c.requires.free.0 in
     let k = ended g.V.Version.stands g.V.Version.fired _ c.load-finished.new.seat.id (step 0 0 0 0 none) c.args.place.me c.take_turn.new.place.me c.enter.new.place.me c.load-count.new.seat.me c.load-finished.new.seat.me
-    t.0 e.0 t.1 c.enter.result.1 c.load-count.result c.load-finished.result _ _
-    (subst (λ n. 0 < n) (sym free.0) free.1) t.2 (ap (λ m. m.0) t.4) e.2 (ap (λ m. m.0) e.4) c.load-count.ensures.2 c.load-finished.ensures.2 c.close_with-closed.ensures.values.2 in
-    (e.0, k.0, k.3, k.1, k.2, k.4, subst (λ v. g.V.Version.stands e.0 v) (sym (ap (λ p. p.0) c.value.view_is)) e.3)
+    t.0 e.0 (c.args.place.me.0.tries ++ t.1 ++ 0 ∷ []) c.enter.result.1 c.load-count.result c.load-finished.result _ _
+    (subst (λ n. 0 < n) (sym free.0) free.1) t.2 (ap (λ m. m.0) t.3) e.2 (ap (λ m. m.0) e.4) c.load-count.ensures.2 c.load-finished.ensures.2 c.close_with-closed.ensures.values.2 in (
+      e.0,
+      k.0,
+      k.3,
+      k.1,
+      k.2,
+      k.4,
+      subst (λ v. g.V.Version.stands e.0 v) (sym (ap (λ p. p.0) c.value.view_is)) e.3,
+      subst (λ l. HasFirings g.V.Version.fired c.load-finished.result e.0 l) (sym (ap (λ p. p.1) c.value.view_is)) k.5,
+    )

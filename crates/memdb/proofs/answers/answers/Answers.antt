@@ -1,6 +1,10 @@
 -- The answers of the session are a legal output.
-use Rattle.memdb.proofs.OneSession.{all_legal, given_back}
+use Rattle.memdb.proofs.OneSession.{all_back, all_legal, given_back}
 use Rattle.memdb.proofs.answers.answers.Goals as goal
+
+pub close-requires-clause-all : goal.close-requires-clause-all
+close-requires-clause-all g c = all_back c.in_ok-db.db c.in_ok-db.passes c.take.new.self c.in-Some.pass c.in_ok-db.ensures.passes c.in-Some.ensures c.args.script c.new-session.result c.new-session.ensures
+    c.session_answers-out.new.session.caller c.give.new.self (given_back c.take.new.self c.give.new.self c.end.result c.session_answers-out.new.session.caller c.give.ensures c.end.ensures) c.in_ok-db.db c.in_ok-db.ensures.callers c.session_answers-out.ensures.caller
 
 pub returns : goal.returns
 returns g c = all_legal c.in_ok-db.db c.in_ok-db.passes c.take.new.self c.in-Some.pass c.in_ok-db.ensures.passes c.in-Some.ensures c.args.script c.new-session.result c.new-session.ensures

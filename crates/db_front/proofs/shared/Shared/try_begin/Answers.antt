@@ -4,8 +4,8 @@ use Rattle.db_front.proofs.shared.Shared.try_begin.Goals as goal
 
 pub returns-in_err-value-clause-counts : goal.returns-in_err-value-clause-counts
 returns-in_err-value-clause-counts g c = let t = c.try_turn-found.ensures.won (omega arith) in
-    prefix_by _ _ _ _ (ap (λ m. m.0.counts) t.4 ∙ ap (λ p. p.counts) c.pass.view_is) (ap (λ m. m.0.counts) c.see_begun-number.ensures.view.1)
+    prefix_by _ _ _ _ (ap (λ m. m.0.counts) t.3 ∙ ap (λ p. p.counts) c.pass.view_is) (ap (λ m. m.0.counts) c.see_begun-number.ensures.view.1)
 
 pub returns-clause-counts : goal.returns-clause-counts
 returns-clause-counts g c = let t = c.try_turn-found.ensures.won (omega arith) in
-    prefix_by _ _ _ _ (ap (λ m. m.0.counts) t.4 ∙ ap (λ p. p.counts) c.pass.view_is) (ap (λ m. m.0.counts) c.see_begun-number.ensures.view.1)
+    prefix_by _ _ _ _ (ap (λ m. m.0.counts) t.3 ∙ ap (λ p. p.counts) c.pass.view_is) (ap (λ m. m.0.counts) c.see_begun-number.ensures.view.1)

@@ -2,8 +2,8 @@ use Rattle.std.proofs.Common.{◌≡◌, ◌∷◌, [], length, sym, subst}
 use Rattle.mem_txn.specs.Database.{Caller, HasRead, HasSeen}
 use Rattle.mem_txn.specs.Transactions.{HasWon}
 use Rattle.mem_txn.specs.inner.Versions.{caller_of}
-use Rattle.mem_txn.proofs.BegunAnswers.{some_has, try_begins, try_refuses}
-use Rattle.mem_txn.proofs.OneHistory.{numbered, turned}
+use Rattle.mem_txn.proofs.BegunAnswers.{some_has, try_begins, try_refuses, won_at_last}
+use Rattle.mem_txn.proofs.OneHistory.{number_room, numbered, turned}
 use Rattle.mem_txn.proofs.db.Db.try_write.Goals as goal
 
 pub returns-in-Ok : goal.returns-in-Ok
@@ -14,10 +14,10 @@ returns-in-Ok g c =
     let here = c.in-Ok-Some in
     let won = (some_has here.field-0 here.shown _ here.field-0-is here.ensures.won).0 in
     let number = some_has here.field-0 here.shown _ here.field-0-is here.ensures.number in
-    let seen : HasSeen c.args.pass c.of.result = subst (λ (p : Caller). HasSeen p c.of.result) c.pass.view_is (subst (HasSeen (caller_of old)) (sym c.of.ensures) (turned old new c.pass.invariant e.pass e.seen e.counts (0 ∷ [], sym won))) in
+    let seen : HasSeen c.args.pass c.of.result = subst (λ (p : Caller). HasSeen p c.of.result) c.pass.view_is (subst (HasSeen (caller_of old)) (sym c.of.ensures) (turned old new c.pass.invariant e.pass e.seen (number_room old new here.shown.number number) e.counts (0 ∷ [], sym won))) in
     let read : HasRead c.args.pass c.of.result (length c.of.result.seen) = subst (λ (p : Caller). HasRead p c.of.result (length c.of.result.seen)) c.pass.view_is (subst (λ (q : Caller). HasRead (caller_of old) q (length q.seen)) (sym c.of.ensures) (numbered old new c.in-Ok-Some.shown.number c.pass.invariant e.seen number)) in
     let first : HasWon c.args.pass c.of.result = subst (λ (p : Caller). HasWon p c.of.result) c.pass.view_is (subst (HasWon (caller_of old)) (sym c.of.ensures) won) in
-    try_begins c.args.pass c.of.result seen read first c.in-Ok.txn c.in-Ok.ensures
+    try_begins c.args.pass c.of.result seen read (won_at_last c.args.pass c.of.result first) first c.in-Ok.txn c.in-Ok.ensures
 
 pub returns-in-Err-begun : goal.returns-in-Err-begun
 returns-in-Err-begun g c =
@@ -27,15 +27,15 @@ returns-in-Err-begun g c =
     let here = c.in-Ok-Some in
     let won = (some_has here.field-0 here.shown _ here.field-0-is here.ensures.won).0 in
     let number = some_has here.field-0 here.shown _ here.field-0-is here.ensures.number in
-    let seen : HasSeen c.args.pass c.of.result = subst (λ (p : Caller). HasSeen p c.of.result) c.pass.view_is (subst (HasSeen (caller_of old)) (sym c.of.ensures) (turned old new c.pass.invariant e.pass e.seen e.counts (0 ∷ [], sym won))) in
+    let seen : HasSeen c.args.pass c.of.result = subst (λ (p : Caller). HasSeen p c.of.result) c.pass.view_is (subst (HasSeen (caller_of old)) (sym c.of.ensures) (turned old new c.pass.invariant e.pass e.seen (number_room old new here.shown.number number) e.counts (0 ∷ [], sym won))) in
     let read : HasRead c.args.pass c.of.result (length c.of.result.seen) = subst (λ (p : Caller). HasRead p c.of.result (length c.of.result.seen)) c.pass.view_is (subst (λ (q : Caller). HasRead (caller_of old) q (length q.seen)) (sym c.of.ensures) (numbered old new c.in-Ok-Some.shown.number c.pass.invariant e.seen number)) in
     let first : HasWon c.args.pass c.of.result = subst (λ (p : Caller). HasWon p c.of.result) c.pass.view_is (subst (HasWon (caller_of old)) (sym c.of.ensures) won) in
-    try_refuses c.args.pass c.of.result seen read first c.in-Err-begun.refused c.in-Err-begun.ensures
+    try_refuses c.args.pass c.of.result seen read (won_at_last c.args.pass c.of.result first) first c.in-Err-begun.refused c.in-Err-begun.ensures
 
 pub returns-in-Err : goal.returns-in-Err
 returns-in-Err g c =
     let e = c.try_begin.ensures in
     let won = c.in-Err.ensures.memory.0 in
     let old = c.pass.inside.token in
-    let both : HasSeen c.args.pass (caller_of c.try_begin.new.pass) = subst (λ (p : Caller). HasSeen p (caller_of c.try_begin.new.pass)) c.pass.view_is (turned old c.try_begin.new.pass c.pass.invariant e.pass e.seen e.counts (0 ∷ [], sym won)) in
+    let both : HasSeen c.args.pass (caller_of c.try_begin.new.pass) = subst (λ (p : Caller). HasSeen p (caller_of c.try_begin.new.pass)) c.pass.view_is (turned old c.try_begin.new.pass c.pass.invariant e.pass e.seen c.in-Err.ensures.room e.counts (0 ∷ [], sym won)) in
     (both, tt, subst (λ (p : Caller). HasWon p (caller_of c.try_begin.new.pass)) c.pass.view_is won)

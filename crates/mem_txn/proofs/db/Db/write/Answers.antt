@@ -1,5 +1,6 @@
 use Rattle.std.proofs.Common.{◌≡◌, length, sym, subst}
 use Rattle.mem_txn.specs.Database.{Caller, HasRead, HasSeen}
+use Rattle.mem_txn.specs.Transactions.{HasWonAtLast}
 use Rattle.mem_txn.specs.inner.Versions.{caller_of}
 use Rattle.mem_txn.proofs.BegunAnswers.{begin_answers}
 use Rattle.mem_txn.proofs.OneHistory.{numbered, turned}
@@ -10,11 +11,12 @@ returns-in-Ok g c =
     let old = c.pass.inside.token in
     let new = c.begin.new.pass in
     let e = c.begin.ensures in
-    let seen : HasSeen c.args.pass c.of.result = subst (λ (p : Caller). HasSeen p c.of.result) c.pass.view_is (subst (HasSeen (caller_of old)) (sym c.of.ensures) (turned old new c.pass.invariant e.pass e.seen e.counts e.tries)) in
+    let seen : HasSeen c.args.pass c.of.result = subst (λ (p : Caller). HasSeen p c.of.result) c.pass.view_is (subst (HasSeen (caller_of old)) (sym c.of.ensures) (turned old new c.pass.invariant e.pass e.seen e.room e.counts e.tries)) in
     let read : HasRead c.args.pass c.of.result (length c.of.result.seen) = subst (λ (p : Caller). HasRead p c.of.result (length c.of.result.seen)) c.pass.view_is (subst (λ (q : Caller). HasRead (caller_of old) q (length q.seen)) (sym c.of.ensures) (numbered old new c.in-Ok.shown.number c.pass.invariant e.seen c.in-Ok.ensures.number)) in
-    begin_answers c.args.pass c.of.result seen read c.begun.result c.begun.ensures
+    let last : HasWonAtLast c.args.pass c.of.result = subst (λ (p : Caller). HasWonAtLast p c.of.result) c.pass.view_is (subst (HasWonAtLast (caller_of old)) (sym c.of.ensures) e.won) in
+    begin_answers c.args.pass c.of.result seen read last c.begun.result c.begun.ensures
 
 pub returns-in-Err : goal.returns-in-Err
 returns-in-Err g c =
     let e = c.begin.ensures in
-    (subst (λ (p : Caller). HasSeen p (caller_of c.begin.new.pass)) c.pass.view_is (turned c.pass.inside.token c.begin.new.pass c.pass.invariant e.pass e.seen e.counts e.tries), tt)
+    (subst (λ (p : Caller). HasSeen p (caller_of c.begin.new.pass)) c.pass.view_is (turned c.pass.inside.token c.begin.new.pass c.pass.invariant e.pass e.seen e.room e.counts e.tries), tt, subst (λ (p : Caller). HasWonAtLast p (caller_of c.begin.new.pass)) c.pass.view_is e.won)
