@@ -7,10 +7,11 @@ use Rattle.mdb_datum.specs.Bytes.{Bytes}
 use Rattle.mdb_schema.specs.History.{Commit, History}
 use Rattle.mdb_schema.specs.Schema.{DbSchema}
 use Rattle.client_script.specs.Alone.{alone, then_told, joined, commit_printed}
-use Rattle.client_script.specs.Client.{Writing, Transaction, closed, reading, writing, Client, at_start}
+use Rattle.client_script.specs.Client.{Writing, Transaction, writing, Client, at_start}
 use Rattle.client_script.specs.Legal.{Legal, printed, number_printed, callers}
-use Rattle.client_script.specs.Reply.{Reply, read_at, write_at, ended, committed, aborted, inserted, replaced, deleted, wiped, deferred, answered, kept_at, kept_within, refused, output_text}
+use Rattle.client_script.specs.Reply.{Reply, committed, output_text}
 use Rattle.client_script.specs.Session.{AreKnown, IsEntry, Runs}
+use Rattle.client_script.specs.Spent.{by_turn}
 use Rattle.client_script.specs.Turn.{turn, outcome, is_of_watches}
 use Rattle.client_script.specs.declared.line.Line.{Line}
 use Rattle.client_script.proofs.LongerHistory.{IsWithin, no_entry, next_within, turn_longer, start_within}
@@ -53,7 +54,7 @@ module _ (schema : DbSchema) (H : History) (v : Client) (l : Line) (ls : List Li
             not_older = search (arith, last);
             there = rw (grown, length-append H (cs ++ lives.more)) (search (arith));
             known = known;
-            says = ap (λ (G : History). outcome v (turn schema G (length H) v l.command)) grown ∙ ap (outcome v) (turn_longer schema H (cs ++ lives.more) (length H) v l.command within) ∙ says;
+            says = by_turn (ap (λ (G : History). outcome v (turn schema G (length H) v l.command)) grown ∙ ap (outcome v) (turn_longer schema H (cs ++ lives.more) (length H) v l.command within) ∙ says);
             entry = entry lives.more grown;
           },
           lives.runs,

@@ -1,5 +1,5 @@
 -- A legal history has at most 2^63 commits, and exactly then no `write` begins a transaction.
-use Rattle.std.proofs.Common.{arith, lit≤, lt-ltb, ltb-true, ltb-false, ◌≡◌, refl, ap, subst, sym, ◌∙◌, ℕ, zero, suc, ◌+◌, ◌<◌, ◌≤◌, ◌⊎◌, inl, inr, Bool, true, false, nat_lt, List, [], ◌∷◌, ◌++◌, length, Option, Ok, Err, Contains, is_some, not, codes}
+use Rattle.std.proofs.Common.{arith, lit≤, ltb-true, ltb-false, ◌≡◌, refl, ap, subst, sym, ℕ, zero, suc, ◌+◌, ◌<◌, ◌≤◌, ◌⊎◌, inl, inr, Bool, true, false, nat_lt, List, [], ◌∷◌, length, Option, Ok, Err, Contains, is_some, not, codes}
 use Rattle.std.proofs.lemmas.List.{length-map}
 use Rattle.std.proofs.lemmas.List.Sorted.{Contains-permutation}
 use Rattle.std.specs.Bool.{⊤}
@@ -18,6 +18,7 @@ use Rattle.client_script.specs.Client.{Sight, Writing, Transaction, closed, read
 use Rattle.client_script.specs.Legal.{Legal, printed, number_printed, all_printed, callers}
 use Rattle.client_script.specs.Reply.{Reply, write_at, deleted, wiped, answered, refused}
 use Rattle.client_script.specs.Session.{Answers, Runs, Sessions}
+use Rattle.client_script.proofs.SpentIds.{told_so, told_turn}
 use Rattle.client_script.specs.Turn.{Turn, turn, write_turn, wipe_turn, question_turn, outcome, stepped, asked, indexes_of, with_writes, with_transaction, insert_reply, commit_limit}
 use Rattle.client_script.specs.declared.command.Command.{Command}
 use Rattle.client_script.specs.declared.command.Command.TheVariants as command
@@ -98,7 +99,7 @@ module _ (schema : DbSchema) (H : History) where
 
   few_after : (client : ℕ) (v next : Client) (c : Command) (r : Reply) → FewBefore v.transaction → Answers schema H client v c r next → FewBefore next.transaction
   unfolding Few
-  few_after client v next c r few a = subst Few a.says (few_next schema H a.now v c few)
+  few_after client v next c r few a = told_so Few schema H a.now v c r next a.says (few_next schema H a.now v c few) (λ rule. few)
 
   each_number : (client : ℕ) (v end : Client) (ls : List Line) (rs : List Reply) (m : ℕ) → FewBefore v.transaction → Runs schema H client v ls rs end → Contains (printed rs) m → m ≤ commit_limit
   each_number client v end [] [] m few runs told = absurd (Contains-nil m told)
@@ -139,7 +140,7 @@ write_answered schema H client v next r a few none = of (nat_lt a.now commit_lim
     told b e =
         subst (λ (x : Bool). (outcome v (passed (codes "commits-spent") x >>= (λ u. Ok (write_at a.now, with_transaction a.now (writing (record { number = a.now; writes = []; texts = [] })) v)))).0 ≡ r) e
         (subst (λ (t : Transaction). (outcome v (none_open t >>= (λ u'. passed (codes "commits-spent") (nat_lt a.now commit_limit) >>= (λ u. Ok (write_at a.now, with_transaction a.now (writing (record { number = a.now; writes = []; texts = [] })) v))))).0 ≡ r) none
-        (ap (λ (p : Reply × Client). p.0) a.says))
+        (ap (λ (p : Reply × Client). p.0) (told_turn schema H a.now v command.Write r next refl a.says)))
 
     of : (b : Bool) → nat_lt a.now commit_limit ≡ b → ((a.now < commit_limit) × (r ≡ write_at a.now)) ⊎ ((a.now ≡ commit_limit) × (r ≡ refused (codes "commits-spent")))
     of true e = inl (ltb-true a.now commit_limit e, sym (told true e))

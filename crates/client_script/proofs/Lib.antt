@@ -3,10 +3,13 @@ pub mod BlankEnds
 pub mod DocParts
 pub mod ErrorWords
 pub mod FewCommits
+pub mod FewWrites
 pub mod LimitDigits
 pub mod LineReturns
 pub mod LineSplits
 pub mod LongerHistory
 pub mod OneClient
 pub mod OneHistory
+pub mod RowCounts
 pub mod ScriptAnswered
+pub mod SpentIds

@@ -1,5 +1,5 @@
 -- A session stays one when the history grows: what a client was told looks at no later commit.
-use Rattle.std.proofs.Common.{arith, ◌≡◌, refl, ap, subst, sym, ◌∙◌, ℕ, zero, suc, ◌+◌, ◌≤◌, List, [], ◌∷◌, ◌++◌, length, Option, Some, None, Ok, Err, slice_get, false}
+use Rattle.std.proofs.Common.{arith, ◌≡◌, refl, ap, subst, sym, ◌∙◌, ℕ, zero, suc, ◌+◌, ◌≤◌, ◌^◌, List, [], ◌∷◌, ◌++◌, length, Option, Some, None, Ok, Err, slice_get, false}
 use Rattle.std.specs.Bool.{⊤}
 use Rattle.std.specs.Str.{bytes_eq}
 use Rattle.std.specs.Prelude.{if◌then◌else◌, is_some, not, nat_lt, Bool, true, codes}
@@ -19,6 +19,8 @@ use Rattle.client_script.specs.Reply.{Reply, read_at, write_at, ended, committed
 use Rattle.client_script.specs.Turn.{Turn, insert_reply, turn, write_turn, wipe_turn, question_turn, outcome, stepped, asked, indexes_of, with_writes, commit_limit}
 use Rattle.client_script.specs.Legal.{number_printed}
 use Rattle.client_script.specs.Session.{IsCommit, IsEntry, Answers, Runs, Session}
+use Rattle.client_script.specs.Spent.{writes_in, IsSpent, IsTold, by_turn, without_ids}
+use Rattle.client_script.proofs.SpentIds.{told_so}
 use Rattle.client_script.specs.declared.command.Command.{Command}
 use Rattle.client_script.specs.declared.command.Command.TheVariants as command
 use Rattle.client_script.specs.declared.line.Line.{Line}
@@ -221,6 +223,27 @@ no_entry H client t (kept_at n) none = tt
 no_entry H client t (kept_within n) none = tt
 no_entry H client t (refused rule) none = tt
 
+-- what is told looks at no later commit either
+spent_longer : (schema : DbSchema) (H more : History) (now : ℕ) (v : Client) (c : Command) (r : Reply) (next : Client) → now ≤ length H → IsWithin (length H) v → IsSpent schema H now v c r next → IsSpent schema (H ++ more) now v c r next
+spent_longer schema H more now v c r next there within s =
+    let after_within : IsWithin (length H) s.after = subst (λ (t : Turn). IsWithin (length H) (outcome v t).1) s.allowed (next_within (length H) schema H now v c there within) in
+    let stands : s.opened.number ≤ length H = subst (StandsWithin (length H)) s.transaction after_within.transaction in
+    record {
+      write = s.write;
+      reply = s.reply;
+      same = s.same;
+      ruled = s.ruled;
+      after = s.after;
+      allowed = turn_longer schema H more now v c within ∙ s.allowed;
+      opened = s.opened;
+      transaction = s.transaction;
+      full = subst (λ (G : History). 2 ^ 36 ≤ writes_in G + length s.opened.writes) (sym (take-append-le s.opened.number H more stands)) s.full;
+    }
+
+pub told_longer : (schema : DbSchema) (H more : History) (now : ℕ) (v : Client) (c : Command) (r : Reply) (next : Client) → now ≤ length H → IsWithin (length H) v → IsTold schema H now v c r next → IsTold schema (H ++ more) now v c r next
+told_longer schema H more now v c r next there within (by_turn is) = by_turn (ap (outcome v) (turn_longer schema H more now v c within) ∙ is)
+told_longer schema H more now v c r next there within (without_ids s) = without_ids (spent_longer schema H more now v c r next there within s)
+
 longer_there : (H more : History) (n : ℕ) → n ≤ length H → n ≤ length (H ++ more)
 longer_there H more n there = rw (length-append H more) (search (arith))
 
@@ -230,13 +253,13 @@ answers_longer schema H more client v c r next within a = record {
   not_older = a.not_older;
   there = longer_there H more a.now a.there;
   known = a.known;
-  says = ap (outcome v) (turn_longer schema H more a.now v c within) ∙ a.says;
+  says = told_longer schema H more a.now v c r next a.there within a.says;
   entry = entry_longer H more client v.transaction r a.entry;
 }
 
 -- what the client knows after a line stands within the history too
 pub answered_within : (schema : DbSchema) (H : History) (client : ℕ) (v : Client) (c : Command) (r : Reply) (next : Client) → IsWithin (length H) v → Answers schema H client v c r next → IsWithin (length H) next
-answered_within schema H client v c r next within a = subst (λ (p : Reply × Client). IsWithin (length H) p.1) a.says (next_within (length H) schema H a.now v c a.there within)
+answered_within schema H client v c r next within a = told_so (λ p. IsWithin (length H) p.1) schema H a.now v c r next a.says (next_within (length H) schema H a.now v c a.there within) (λ rule. within)
 
 pub runs_longer : (schema : DbSchema) (H more : History) (client : ℕ) (v : Client) (ls : List Line) (rs : List Reply) (end : Client) → IsWithin (length H) v → Runs schema H client v ls rs end → Runs schema (H ++ more) client v ls rs end
 runs_longer schema H more client v [] [] end within runs = runs

@@ -1,5 +1,6 @@
--- A client that is alone in its database has one legal output.
-use Rattle.std.proofs.Common.{arith, lit≤, ◌≡◌, refl, ap, subst, sym, ◌∙◌, ℕ, suc, ◌+◌, ◌<◌, ◌≤◌, ◌⊎◌, inl, inr, List, [], ◌∷◌, ◌++◌, length, map, Option, Some, None, Ok, Err, slice_get, take, drop, false, Contains, IsPermutation}
+-- A client that is alone in its database has one legal output in which no line is told that there are
+-- too few ids.
+use Rattle.std.proofs.Common.{arith, lit≤, ◌≡◌, refl, ap, subst, sym, ◌∙◌, ℕ, suc, ◌+◌, ◌<◌, ◌≤◌, ◌⊎◌, inl, inr, List, [], ◌∷◌, ◌++◌, length, map, Option, Some, None, Ok, Err, slice_get, take, drop, Contains, IsPermutation}
 use Rattle.std.specs.Bool.{⊤}
 use Rattle.std.specs.List.{enumerate_from}
 use Rattle.std.specs.Prelude.{not, nat_lt, codes, is_some, reverse}
@@ -25,6 +26,8 @@ use Rattle.client_script.specs.Client.{Sight, Writing, Transaction, closed, read
 use Rattle.client_script.specs.Legal.{Legal, printed, number_printed, all_printed, callers}
 use Rattle.client_script.specs.Reply.{Reply, read_at, write_at, ended, committed, aborted, inserted, replaced, deleted, wiped, deferred, answered, kept_at, kept_within, refused, output_text}
 use Rattle.client_script.specs.Session.{IsEntry, Answers, Runs, Session, Sessions}
+use Rattle.client_script.specs.Spent.{IsTold, HaveIds, AllHaveIds}
+use Rattle.client_script.proofs.SpentIds.{told_so, told_with_ids}
 use Rattle.client_script.specs.Turn.{Turn, turn, write_turn, wipe_turn, question_turn, outcome, stepped, asked, indexes_of, with_writes, insert_reply, commit_limit, snapshot_reply}
 use Rattle.client_script.specs.declared.command.Command.{Command}
 use Rattle.client_script.specs.declared.command.Command.TheVariants as command
@@ -197,12 +200,15 @@ rises schema H now v (command.Size set) le from = rises_same v _ v.transaction v
 rises schema H now v (command.Wait set) le from = rises_same v _ v.transaction v.snapshots from refl
 rises schema H now v (command.WaitUntil set until) le from = rises_same v _ v.transaction v.snapshots from refl
 
+pub told_rises : (schema : DbSchema) (H : History) (now : ℕ) (v : Client) (c : Command) (r : Reply) (next : Client) → v.last ≤ now → StandsFrom v.last v.transaction → IsTold schema H now v c r next → Rises v.last (r, next)
+told_rises schema H now v c r next le from told = told_so (Rises v.last) schema H now v c r next told (rises schema H now v c le from) (λ rule. record { later = search (arith); stands = from; above = tt })
+
 pub all_rise : (schema : DbSchema) (H : History) (client : ℕ) (v : Client) (ls : List Line) (rs : List Reply) (end : Client) → Runs schema H client v ls rs end → StandsFrom v.last v.transaction → AllAbove v.last (printed rs)
 all_rise schema H client v [] [] end runs from = tt
 all_rise schema H client v [] (r ∷ rs) end runs from = absurd runs
 all_rise schema H client v (l ∷ ls) [] end runs from = absurd runs
 all_rise schema H client v (l ∷ ls) (r ∷ rs) end (next, a, runs) from =
-    let up : Rises v.last (r, next) = subst (Rises v.last) a.says (rises schema H a.now v l.command a.not_older from) in
+    let up : Rises v.last (r, next) = told_rises schema H a.now v l.command r next a.not_older from a.says in
     above_both v.last (number_printed r) (printed rs) up.above (above_from v.last next.last (printed rs) up.later (all_rise schema H client next ls rs end runs up.stands))
 
 -- ---- a line gives the same at any number, or tells the number
@@ -241,6 +247,20 @@ tells schema H k now v (command.WaitUntil set until) few few' = inl refl
 
 -- ---- one client
 
+-- each line was told its turn
+abbrev pub AreTurns : (schema : DbSchema) (H : History) (client : ℕ) (v : Client) (ls : List Line) (rs : List Reply) (end : Client) → Runs schema H client v ls rs end → Type 0
+AreTurns schema H client v [] [] end runs = ⊤
+AreTurns schema H client v [] (r ∷ rs) end runs = ⊤
+AreTurns schema H client v (l ∷ ls) [] end runs = ⊤
+AreTurns schema H client v (l ∷ ls) (r ∷ rs) end (next, a, runs) = (outcome v (turn schema H a.now v l.command) ≡ (r, next)) × AreTurns schema H client next ls rs end runs
+
+-- where none is told that there are too few ids
+with_ids : (schema : DbSchema) (H : History) (client : ℕ) (v : Client) (ls : List Line) (rs : List Reply) (end : Client) (runs : Runs schema H client v ls rs end) → HaveIds rs → AreTurns schema H client v ls rs end runs
+with_ids schema H client v [] [] end runs ids = tt
+with_ids schema H client v [] (r ∷ rs) end runs ids = tt
+with_ids schema H client v (l ∷ ls) [] end runs ids = tt
+with_ids schema H client v (l ∷ ls) (r ∷ rs) end (next, a, runs) ids = (told_with_ids schema H a.now v l.command r next ids.0 a.says, with_ids schema H client next ls rs end runs ids.1)
+
 from_on : (k : ℕ) (v : Client) → IsOn k v → StandsFrom v.last v.transaction
 from_on k v on = subst (λ (n : ℕ). StandsFrom n v.transaction) (sym on.last) (from v.transaction on.transaction)
   where
@@ -250,7 +270,7 @@ from_on k v on = subst (λ (n : ℕ). StandsFrom n v.transaction) (sym on.last) 
     from (writing t) stands = search (arith, stands)
 
 -- what is printed from here on has each number from k to the last of the history
-Prints : (k last : ℕ) → List ℕ → Type 0
+abbrev pub Prints : (k last : ℕ) → List ℕ → Type 0
 Prints k last ms = (m : ℕ) → k < m → m ≤ last → Contains ms m
 
 -- the line's turn looks at no commit after the first k
@@ -262,21 +282,21 @@ turn_here schema H k v c there within =
     ∙ ap (λ (G : History). turn schema G k v c) (take-append-drop k H)
 
 -- so it is the line's turn at number k that was told
-told_here : (schema : DbSchema) (H : History) (k : ℕ) (v next : Client) (l : Line) (ls : List Line) (r : Reply) (rs : List Reply) (end : Client) → (a : Answers schema H 1 v l.command r next) → Runs schema H 1 next ls rs end → IsOn k v → length H < commit_limit → Prints k (length H) (number_printed r ++ printed rs) → outcome v (turn schema H k v l.command) ≡ (r, next)
-unfolding Tells Prints
-told_here schema H k v next l ls r rs end a runs on few prints = elim (cases_lt k a.now) [
+pub told_here : (schema : DbSchema) (H : History) (k : ℕ) (v next : Client) (l : Line) (ls : List Line) (r : Reply) (rs : List Reply) (end : Client) → (a : Answers schema H 1 v l.command r next) → outcome v (turn schema H a.now v l.command) ≡ (r, next) → Runs schema H 1 next ls rs end → IsOn k v → length H < commit_limit → Prints k (length H) (number_printed r ++ printed rs) → outcome v (turn schema H k v l.command) ≡ (r, next)
+unfolding Tells
+told_here schema H k v next l ls r rs end a says runs on few prints = elim (cases_lt k a.now) [
   | inl lt ↦ elim (tells schema H k a.now v l.command (let there = a.there in omega arith) (let there = a.there in omega arith)) [
-    | inl e ↦ sym e ∙ a.says
-    | inr told ↦ absurd (too_late lt (ap (λ (p : Reply × Client). p.1.last) (sym a.says) ∙ told.0) (ap (λ (p : Reply × Client). number_printed p.0) (sym a.says) ∙ told.1))
+    | inl e ↦ sym e ∙ says
+    | inr told ↦ absurd (too_late lt (ap (λ (p : Reply × Client). p.1.last) (sym says) ∙ told.0) (ap (λ (p : Reply × Client). number_printed p.0) (sym says) ∙ told.1))
   ]
-  | inr le ↦ ap (λ (n : ℕ). outcome v (turn schema H n v l.command)) (here le) ∙ a.says
+  | inr le ↦ ap (λ (n : ℕ). outcome v (turn schema H n v l.command)) (here le) ∙ says
 ]
   where
     here : a.now ≤ k → k ≡ a.now
     here le = let low = a.not_older in let is = on.last in omega arith
 
     from_next : StandsFrom next.last next.transaction
-    from_next = (subst (Rises v.last) a.says (rises schema H a.now v l.command a.not_older (from_on k v on))).stands
+    from_next = (told_rises schema H a.now v l.command r next a.not_older (from_on k v on) a.says).stands
 
     too_late : k < a.now → next.last ≡ a.now → number_printed r ≡ [] → ⊥
     too_late lt last none =
@@ -298,7 +318,6 @@ within_up k v within = record { transaction = stands_within_up k v.transaction w
 
 -- at the end of the script all commits are told
 all_told : (H : History) (k : ℕ) → k ≤ length H → Prints k (length H) [] → take k H ≡ H
-unfolding Prints
 all_told H k there prints = elim (cases_lt k (length H)) [
   | inl lt ↦ absurd (Contains-nil (suc k) (prints (suc k) (search (arith)) lt))
   | inr le ↦ ap (λ (n : ℕ). take n H) (same le) ∙ take-length H
@@ -312,14 +331,14 @@ no_commit : (others : List Reply × History) (H : History) (r : Reply) (t : Tran
 no_commit others H r t none = ap (λ (cs : History). H ++ cs) none ∙ append-nil H
 
 -- a commit that is told is the next of the history
-next_commit : (H : History) (k : ℕ) (t : Writing) (r : Reply) (texts : List Bytes) → r ≡ committed (suc k) texts → t.number ≡ k → IsEntry H 1 (writing t) r → take k H ++ commit_printed r (writing t) ≡ take (suc k) H
+pub next_commit : (H : History) (k : ℕ) (t : Writing) (r : Reply) (texts : List Bytes) → r ≡ committed (suc k) texts → t.number ≡ k → IsEntry H 1 (writing t) r → take k H ++ commit_printed r (writing t) ≡ take (suc k) H
 next_commit H k t r texts is stands entry =
     let there = subst (λ (x : Reply). IsEntry H 1 (writing t) x) is entry in
     let at : slice_get H k ≡ Some (record { caller = 1; writes = t.writes }) = subst (λ (n : ℕ). slice_get H n ≡ Some (record { caller = 1; writes = t.writes })) stands there in
     ap (λ (x : Reply). take k H ++ commit_printed x (writing t)) is
     ∙ sym (take-suc H k (record { caller = 1; writes = t.writes }) (slice_get_within H k _ at) ∙ ap (λ (c : Commit). take k H ++ c ∷ []) (get_or_from_slice_get H k _ _ at))
 
-within_history : (H : History) (k : ℕ) (t : Writing) (r : Reply) (texts : List Bytes) → r ≡ committed (suc k) texts → t.number ≡ k → IsEntry H 1 (writing t) r → suc k ≤ length H
+pub within_history : (H : History) (k : ℕ) (t : Writing) (r : Reply) (texts : List Bytes) → r ≡ committed (suc k) texts → t.number ≡ k → IsEntry H 1 (writing t) r → suc k ≤ length H
 within_history H k t r texts is stands entry = slice_get_within H k _ (subst (λ (n : ℕ). slice_get H n ≡ Some (record { caller = 1; writes = t.writes })) stands (subst (λ (x : Reply). IsEntry H 1 (writing t) x) is entry))
 
 module _ (schema : DbSchema) (H : History) (few : length H < commit_limit) where
@@ -335,12 +354,10 @@ module _ (schema : DbSchema) (H : History) (few : length H < commit_limit) where
       ∙ ap (λ (F : History). joined r (alone schema ls F next)) grown
       ∙ ap (joined r) others
 
-  later : (k : ℕ) (r : Reply) (rs : List Reply) → number_printed r ≡ [] → Prints k (length H) (number_printed r ++ printed rs) → Prints k (length H) (printed rs)
-  unfolding Prints
+  pub later : (k : ℕ) (r : Reply) (rs : List Reply) → number_printed r ≡ [] → Prints k (length H) (number_printed r ++ printed rs) → Prints k (length H) (printed rs)
   later k r rs none prints m lt le = subst (λ (ms : List ℕ). Contains (ms ++ printed rs) m) none (prints m lt le)
 
-  later_commit : (k : ℕ) (r : Reply) (rs : List Reply) (texts : List Bytes) → r ≡ committed (suc k) texts → Prints k (length H) (number_printed r ++ printed rs) → Prints (suc k) (length H) (printed rs)
-  unfolding Prints
+  pub later_commit : (k : ℕ) (r : Reply) (rs : List Reply) (texts : List Bytes) → r ≡ committed (suc k) texts → Prints k (length H) (number_printed r ++ printed rs) → Prints (suc k) (length H) (printed rs)
   later_commit k r rs texts is prints m lt le = elim (Contains-cons_cases (suc k) (printed rs) m (subst (λ (x : Reply). Contains (number_printed x ++ printed rs) m) is (prints m (omega arith) le))) [
     | inl e ↦ absurd (not_itself e)
     | inr within ↦ within
@@ -361,14 +378,14 @@ module _ (schema : DbSchema) (H : History) (few : length H < commit_limit) where
       let stands : t.number ≡ k = subst (StandsOn k) is on.transaction in
       first_told k v next l ls r rs (take (suc k) H) there within told (ap (λ (x : Transaction). take k H ++ commit_printed r x) is ∙ next_commit H k t r texts told_commit stands entry) (others (suc k) on' (within_up k next within') (within_history H k t r texts told_commit stands entry) (later_commit k r rs texts told_commit prints))
 
-  only_alone : (ls : List Line) (rs : List Reply) (v end : Client) (k : ℕ) → Runs schema H 1 v ls rs end → IsOn k v → IsWithin k v → k ≤ length H → Prints k (length H) (printed rs) → Alone k v ls rs
+  only_alone : (ls : List Line) (rs : List Reply) (v end : Client) (k : ℕ) → (runs : Runs schema H 1 v ls rs end) → AreTurns schema H 1 v ls rs end runs → IsOn k v → IsWithin k v → k ≤ length H → Prints k (length H) (printed rs) → Alone k v ls rs
   unfolding Alone Others
-  only_alone [] [] v end k runs on within there prints = ap (λ (G : History). ([], G)) (all_told H k there prints)
-  only_alone [] (r ∷ rs) v end k runs on within there prints = absurd runs
-  only_alone (l ∷ ls) [] v end k runs on within there prints = absurd runs
-  only_alone (l ∷ ls) (r ∷ rs) v end k (next, a, runs) on within there prints =
-      let told : outcome v (turn schema H k v l.command) ≡ (r, next) = told_here schema H k v next l ls r rs end a runs on few prints in
-      one_line k v next l ls r rs on within there prints a.entry told (subst (λ (p : Reply × Client). IsWithin k p.1) told (next_within k schema H k v l.command (self_le k) within)) (λ k' on' within' there' prints'. only_alone ls rs next end k' runs on' within' there' prints') (subst (λ (p : Reply × Client). Keeps k v p) told (keeps k schema H v l.command on))
+  only_alone [] [] v end k runs turns on within there prints = ap (λ (G : History). ([], G)) (all_told H k there prints)
+  only_alone [] (r ∷ rs) v end k runs turns on within there prints = absurd runs
+  only_alone (l ∷ ls) [] v end k runs turns on within there prints = absurd runs
+  only_alone (l ∷ ls) (r ∷ rs) v end k (next, a, runs) turns on within there prints =
+      let told : outcome v (turn schema H k v l.command) ≡ (r, next) = told_here schema H k v next l ls r rs end a turns.0 runs on few prints in
+      one_line k v next l ls r rs on within there prints a.entry told (subst (λ (p : Reply × Client). IsWithin k p.1) told (next_within k schema H k v l.command (self_le k) within)) (λ k' on' within' there' prints'. only_alone ls rs next end k' runs turns.1 on' within' there' prints') (subst (λ (p : Reply × Client). Keeps k v p) told (keeps k schema H v l.command on))
 
 -- ---- the whole output
 
@@ -388,7 +405,7 @@ number_few (kept_at n) = lit≤ tt
 number_few (kept_within n) = lit≤ tt
 number_few (refused rule) = lit≤ tt
 
-printed_few : (schema : DbSchema) (H : History) (client : ℕ) (v : Client) (ls : List Line) (rs : List Reply) (end : Client) → Runs schema H client v ls rs end → length (printed rs) ≤ length ls
+pub printed_few : (schema : DbSchema) (H : History) (client : ℕ) (v : Client) (ls : List Line) (rs : List Reply) (end : Client) → Runs schema H client v ls rs end → length (printed rs) ≤ length ls
 printed_few schema H client v [] [] end runs = lit≤ tt
 printed_few schema H client v [] (r ∷ rs) end runs = absurd runs
 printed_few schema H client v (l ∷ ls) [] end runs = absurd runs
@@ -412,33 +429,33 @@ numbered n (x ∷ xs) m low high = elim (cases_lt n m) [
     same le = omega arith
 
 module _ (schema : DbSchema) (H : History) (script : List Line) (rs : List Reply) (numbers : IsPermutation (enumerate_from 1 (callers H)) (all_printed 1 (rs ∷ []))) where
-  told_each : Prints 0 (length H) (printed rs)
-  unfolding Prints
+  pub told_each : Prints 0 (length H) (printed rs)
   told_each m lt le =
       let at = numbered 1 (callers H) m lt (rw (length-map H (λ (c : Commit). c.caller)) (omega arith)) in
       let within : Contains (map (λ n. (n, 1)) (printed rs) ++ []) (m, at.0) = Contains-permutation _ _ (m, at.0) numbers at.1 in
       let from = Contains-from_map (λ n. (n, 1)) (printed rs) (m, at.0) (subst (λ (ps : List (ℕ × ℕ)). Contains ps (m, at.0)) (append-nil (map (λ n. (n, 1)) (printed rs))) within) in
       subst (Contains (printed rs)) (ap (λ (p : ℕ × ℕ). p.0) from.2) from.1
 
-  as_many : length H ≡ length (printed rs)
+  pub as_many : length H ≡ length (printed rs)
   as_many =
       sym (length-enumerate_from 1 (callers H) ∙ length-map H (λ (c : Commit). c.caller))
       ∙ sym (length_permutation _ _ numbers)
       ∙ ap length (append-nil (map (λ n. (n, 1)) (printed rs)))
       ∙ length-map (printed rs) (λ n. (n, 1))
 
-  pub one_session : length script < commit_limit → Session schema H 1 script rs → alone schema script [] at_start ≡ (rs, H)
-  unfolding Alone Prints
-  one_session few (end, runs) =
+  pub one_session : length script < commit_limit → (s : Session schema H 1 script rs) → AreTurns schema H 1 at_start script rs s.0 s.1 → alone schema script [] at_start ≡ (rs, H)
+  unfolding Alone
+  one_session few (end, runs) turns =
       let size = as_many in
       let lines = printed_few schema H 1 at_start script rs end runs in
-      only_alone schema H (omega arith) script rs at_start end 0 runs (record { last = refl; transaction = tt }) (start_within 0) (search (arith)) told_each
+      only_alone schema H (omega arith) script rs at_start end 0 runs turns (record { last = refl; transaction = tt }) (start_within 0) (search (arith)) told_each
 
--- for one client the legal outputs are one text, and their histories one history
-pub one_output : (schema : DbSchema) (name : Bytes) (script : List Line) (out : Bytes) → length script < commit_limit → Legal schema (name ∷ []) (script ∷ []) out → out ≡ output_text 1 (name ∷ []) (script ∷ []) ((alone schema script [] at_start).0 ∷ [])
-one_output schema name script out few legal = of legal.replies legal.written legal.numbers legal.sessions
+-- for one client the legal outputs in which no line is told that there are too few ids are one text,
+-- and their histories one history
+pub one_output : (schema : DbSchema) (name : Bytes) (script : List Line) (out : Bytes) → length script < commit_limit → (l : Legal schema (name ∷ []) (script ∷ []) out) → AllHaveIds l.replies → out ≡ output_text 1 (name ∷ []) (script ∷ []) ((alone schema script [] at_start).0 ∷ [])
+one_output schema name script out few legal ids = of legal.replies ids legal.written legal.numbers legal.sessions
   where
-    of : (rss : List (List Reply)) → out ≡ output_text 1 (name ∷ []) (script ∷ []) rss → IsPermutation (enumerate_from 1 (callers legal.history)) (all_printed 1 rss) → Sessions schema legal.history 1 (script ∷ []) rss → out ≡ output_text 1 (name ∷ []) (script ∷ []) ((alone schema script [] at_start).0 ∷ [])
-    of [] written numbers sessions = absurd sessions
-    of (rs ∷ []) written numbers sessions = written ∙ ap (λ (p : List Reply × History). output_text 1 (name ∷ []) (script ∷ []) (p.0 ∷ [])) (sym (one_session schema legal.history script rs numbers few sessions.0))
-    of (rs ∷ rs' ∷ rss) written numbers sessions = absurd sessions.1
+    of : (rss : List (List Reply)) → AllHaveIds rss → out ≡ output_text 1 (name ∷ []) (script ∷ []) rss → IsPermutation (enumerate_from 1 (callers legal.history)) (all_printed 1 rss) → Sessions schema legal.history 1 (script ∷ []) rss → out ≡ output_text 1 (name ∷ []) (script ∷ []) ((alone schema script [] at_start).0 ∷ [])
+    of [] have written numbers sessions = absurd sessions
+    of (rs ∷ []) have written numbers sessions = written ∙ ap (λ (p : List Reply × History). output_text 1 (name ∷ []) (script ∷ []) (p.0 ∷ [])) (sym (one_session schema legal.history script rs numbers few sessions.0 (with_ids schema legal.history 1 at_start script rs sessions.0.0 sessions.0.1 have.0)))
+    of (rs ∷ rs' ∷ rss) have written numbers sessions = absurd sessions.1

@@ -19,11 +19,13 @@ use Rattle.mdb_schema.specs.History.{Commit, History}
 use Rattle.mdb_schema.specs.Schema.{DbSchema}
 use Rattle.mdb_schema.specs.Tests.{◌>>=◌, needed, passed}
 use Rattle.client_script.proofs.LongerHistory.{IsWithin, next_within, turn_longer, start_within}
-use Rattle.client_script.proofs.OneClient.{insert_prints, snapshot_prints, writing_is, StandsFrom, all_rise, above_each, rises, Rises, numbered, self_le}
+use Rattle.client_script.proofs.OneClient.{insert_prints, snapshot_prints, writing_is, StandsFrom, all_rise, above_each, told_rises, Rises, numbered, self_le}
 use Rattle.client_script.specs.Client.{Sight, Writing, Transaction, reading, writing, Client, at_start, state_seen, snapshot_named, none_open, some_open, read_open, write_open, sight_of, Judged}
 use Rattle.client_script.specs.Legal.{Legal, printed, number_printed, all_printed, callers}
 use Rattle.client_script.specs.Reply.{Reply, read_at, write_at, ended, committed, aborted, inserted, replaced, deleted, wiped, deferred, answered, kept_at, kept_within, refused}
 use Rattle.client_script.specs.Session.{IsEntry, Answers, Runs, Sessions}
+use Rattle.client_script.specs.Spent.{IsTold, by_turn, without_ids}
+use Rattle.client_script.proofs.SpentIds.{told_so, refused_stays}
 use Rattle.client_script.specs.Turn.{Turn, turn, write_turn, wipe_turn, question_turn, outcome, stepped, asked, indexes_of, with_writes, insert_reply, commit_limit, with_transaction, after_commit}
 use Rattle.client_script.specs.declared.command.Command.{Command}
 use Rattle.client_script.specs.declared.command.Command.TheVariants as command
@@ -195,7 +197,7 @@ commits_of schema H now v (command.WaitUntil set until) = commits_none v (refuse
 -- so a line that was answered with the number of a commit ended that transaction
 pub commit_told : (schema : DbSchema) (H : History) (client : ℕ) (v next : Client) (c : Command) (r : Reply) (m : ℕ) → Answers schema H client v c r next → Contains (number_printed r) m → (t : Writing) × (v.transaction ≡ writing t) × (t.number + 1 ≡ m)
 unfolding Commits
-commit_told schema H client v next c r m a told = subst (λ (p : Reply × Client). Commits v p) a.says (commits_of schema H a.now v c) m told
+commit_told schema H client v next c r m a told = told_so (Commits v) schema H a.now v c r next a.says (commits_of schema H a.now v c) (λ rule. commits_none v (refused rule, v) refl) m told
 
 module _ (schema : DbSchema) (H H' : History) (client : ℕ) where
   first_k : (k : ℕ) → k ≤ length H → k ≤ length H' → take k H ≡ take k H' → (now : ℕ) (v : Client) (c : Command) → IsWithin k v → turn schema H now v c ≡ turn schema H' now v c
@@ -208,10 +210,19 @@ module _ (schema : DbSchema) (H H' : History) (client : ℕ) where
 
   next_same : (k : ℕ) → k ≤ length H → k ≤ length H' → take k H ≡ take k H' → (v : Client) (c : Command) (r : Reply) (next next' : Client) → IsWithin k v → Answers schema H client v c r next → Answers schema H' client v c r next' → next ≡ next'
   unfolding Agree
-  next_same k there there' same v c r next next' within a a' =
-      let here : outcome v (turn schema H' a.now v c) ≡ (r, next) = ap (outcome v) (sym (first_k k there there' same a.now v c within)) ∙ a.says in
-      let replies : (outcome v (turn schema H' a.now v c)).0 ≡ (outcome v (turn schema H' a'.now v c)).0 = ap (λ (p : Reply × Client). p.0) here ∙ sym (ap (λ (p : Reply × Client). p.0) a'.says) in
-      sym (ap (λ (p : Reply × Client). p.1) here) ∙ agree schema H' a.now a'.now v c replies ∙ ap (λ (p : Reply × Client). p.1) a'.says
+  next_same k there there' same v c r next next' within a a' = both a.says a'.says
+    where
+      turns : outcome v (turn schema H a.now v c) ≡ (r, next) → outcome v (turn schema H' a'.now v c) ≡ (r, next') → next ≡ next'
+      turns is is' =
+          let here : outcome v (turn schema H' a.now v c) ≡ (r, next) = ap (outcome v) (sym (first_k k there there' same a.now v c within)) ∙ is in
+          let replies : (outcome v (turn schema H' a.now v c)).0 ≡ (outcome v (turn schema H' a'.now v c)).0 = ap (λ (p : Reply × Client). p.0) here ∙ sym (ap (λ (p : Reply × Client). p.0) is') in
+          sym (ap (λ (p : Reply × Client). p.1) here) ∙ agree schema H' a.now a'.now v c replies ∙ ap (λ (p : Reply × Client). p.1) is'
+
+      both : IsTold schema H a.now v c r next → IsTold schema H' a'.now v c r next' → next ≡ next'
+      both (by_turn is) (by_turn is') = turns is is'
+      both (by_turn is) (without_ids s) = refused_stays schema H a.now v next c r (codes "ids-spent") is s.reply ∙ sym s.same
+      both (without_ids s) (by_turn is') = s.same ∙ sym (refused_stays schema H' a'.now v next' c r (codes "ids-spent") is' s.reply)
+      both (without_ids s) (without_ids s') = s.same ∙ sym s'.same
 
   one_entry : (k : ℕ) (v : Client) (c : Command) (r : Reply) (next next' : Client) → Answers schema H client v c r next → Answers schema H' client v c r next' → Contains (number_printed r) (suc k) → slice_get H k ≡ slice_get H' k
   one_entry k v c r next next' a a' here =
@@ -223,7 +234,7 @@ module _ (schema : DbSchema) (H H' : History) (client : ℕ) where
 
   within_next : (k : ℕ) (v : Client) (c : Command) (r : Reply) (next : Client) → IsWithin k v → Answers schema H client v c r next → next.last ≤ k → IsWithin k next
   unfolding Within
-  within_next k v c r next within a le = subst (λ (p : Reply × Client). Within k v p) a.says (next_within_told k schema H a.now v c within) le
+  within_next k v c r next within a le = told_so (Within k v) schema H a.now v c r next a.says (next_within_told k schema H a.now v c within) (λ rule le'. within) le
 
   same_entry : (k : ℕ) → k ≤ length H → k ≤ length H' → take k H ≡ take k H' → (ls : List Line) (rs : List Reply) (v end end' : Client) → IsWithin k v → StandsFrom v.last v.transaction → Runs schema H client v ls rs end → Runs schema H' client v ls rs end' → Contains (printed rs) (suc k) → slice_get H k ≡ slice_get H' k
   same_entry k there there' same [] [] v end end' within from runs runs' told = absurd (Contains-nil (suc k) told)
@@ -232,7 +243,7 @@ module _ (schema : DbSchema) (H H' : History) (client : ℕ) where
   same_entry k there there' same (l ∷ ls) (r ∷ rs) v end end' within from (next, a, runs) (next', a', runs') told = elim (either (number_printed r) (printed rs) (suc k) told) [
     | inl here ↦ one_entry k v l.command r next next' a a' here
     | inr later ↦
-        let up : Rises v.last (r, next) = subst (Rises v.last) a.says (rises schema H a.now v l.command a.not_older from) in
+        let up : Rises v.last (r, next) = told_rises schema H a.now v l.command r next a.not_older from a.says in
         let above = above_each next.last (printed rs) (suc k) (all_rise schema H client next ls rs end runs up.stands) later in
         let within' : IsWithin k next = within_next k v l.command r next within a (omega arith) in
         let is : next ≡ next' = next_same k there there' same v l.command r next next' within a a' in

@@ -11,5 +11,6 @@ pub mod RefusedWord
 pub mod Reply
 pub mod Script
 pub mod Session
+pub mod Spent
 pub mod Turn
 pub mod worked

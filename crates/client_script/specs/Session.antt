@@ -4,7 +4,8 @@ use Rattle.mdb_schema.specs.History.{History}
 use Rattle.mdb_schema.specs.Schema.{DbSchema}
 use Rattle.client_script.specs.Client.{Client, Transaction, closed, reading, writing, at_start}
 use Rattle.client_script.specs.Reply.{Reply, committed}
-use Rattle.client_script.specs.Turn.{turn, outcome, is_of_watches}
+use Rattle.client_script.specs.Spent.{IsTold}
+use Rattle.client_script.specs.Turn.{is_of_watches}
 use Rattle.client_script.specs.declared.command.Command.{Command}
 use Rattle.client_script.specs.declared.line.Line.{Line}
 
@@ -33,7 +34,7 @@ pub record Answers (schema : DbSchema) (H : History) (client : ℕ) (v : Client)
   pub not_older : v.last ≤ now
   pub there : now ≤ length H
   pub known : is_of_watches c ≡ false
-  pub says : outcome v (turn schema H now v c) ≡ (r, next)
+  pub says : IsTold schema H now v c r next
   pub entry : IsEntry H client v.transaction r
 
 -- each line has its reply, which answers it; from what the client knows at first to what it knows then

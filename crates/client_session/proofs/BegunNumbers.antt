@@ -1,6 +1,6 @@
 -- The numbers of the transactions that begin are among the counts that were read.
 use Rattle.std.proofs.Common.{◌≡◌, refl, ap, subst, sym, ◌∙◌, inl, inr, ℕ, List, [], ◌∷◌, ◌++◌, length, Some, None, Option, Ok, Err}
-use Rattle.std.specs.Prelude.{not, is_some, codes, reverse}
+use Rattle.std.specs.Prelude.{not, is_some, codes}
 use Rattle.std.specs.Bool.{⊤}
 use Rattle.std.proofs.lemmas.List.{append-nil, append_assoc}
 use Rattle.mdb_datum.specs.Bytes.{Bytes}
@@ -15,8 +15,10 @@ use Rattle.mdb_schema.specs.Wipe.{wipe, wipe_by_prefix}
 use Rattle.mdb_schema.specs.Write.{Write, put, remove, step}
 use Rattle.client_session.specs.Begun.{AreAmong, begun_numbers, number_begun}
 use Rattle.client_script.specs.Client.{Sight, Transaction, closed, reading, writing, Client, state_seen, snapshot_named, some_open, read_open, write_open, sight_of, Judged}
-use Rattle.client_script.specs.Reply.{Reply, ended, committed, aborted, deleted, wiped, deferred, answered}
-use Rattle.client_script.specs.Turn.{Turn, turn, write_turn, wipe_turn, question_turn, outcome, stepped, asked, indexes_of, with_writes, with_text, with_snapshot, without_transaction, after_commit, insert_reply, snapshot_reply}
+use Rattle.client_script.specs.Reply.{Reply, deleted, wiped, answered}
+use Rattle.client_script.specs.Turn.{Turn, turn, write_turn, wipe_turn, question_turn, outcome, stepped, asked, indexes_of, with_writes, with_snapshot, insert_reply, snapshot_reply}
+use Rattle.client_script.specs.Spent.{IsTold}
+use Rattle.client_script.proofs.SpentIds.{told_so}
 use Rattle.client_script.specs.declared.command.Command.{Command}
 use Rattle.client_script.specs.declared.command.Command.TheVariants as command
 use Rattle.client_session.specs.inner.DeskView.{IsRequest}
@@ -125,5 +127,5 @@ turn_none schema H now v (command.Size set) is = refl
 turn_none schema H now v (command.Wait set) is = refl
 turn_none schema H now v (command.WaitUntil set until) is = refl
 
-pub starts_none : (schema : DbSchema) (H : History) (now : ℕ) (v next : Client) (c : Command) (r : Reply) (ms : List ℕ) → StartsNone c → outcome v (turn schema H now v c) ≡ (r, next) → AreAmong (number_begun r) ms
-starts_none schema H now v next c r ms is says = among_none (number_begun r) ms (ap (λ (p : Reply × Client). number_begun p.0) (sym says) ∙ turn_none schema H now v c is)
+pub starts_none : (schema : DbSchema) (H : History) (now : ℕ) (v next : Client) (c : Command) (r : Reply) (ms : List ℕ) → StartsNone c → IsTold schema H now v c r next → AreAmong (number_begun r) ms
+starts_none schema H now v next c r ms is says = among_none (number_begun r) ms (told_so (λ p. number_begun p.0 ≡ []) schema H now v c r next says (turn_none schema H now v c is) (λ rule. refl))

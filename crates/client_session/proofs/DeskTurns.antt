@@ -5,21 +5,21 @@ use Rattle.std.specs.Str.{bytes_eq}
 use Rattle.std.specs.Bool.{⊤}
 use Rattle.std.proofs.lemmas.List.{append-nil, length-append, take-append-le}
 use Rattle.mdb_schema.specs.State.{empty_state}
-use Rattle.mem_txn.specs.Changes.{Changes, present_view}
+use Rattle.mem_txn.specs.Changes.{present_view}
 use Rattle.mem_txn.specs.Transactions.{AnswersSnapshot, changes_of, items_of}
 use Rattle.mem_txn.specs.declared.write_txn.WriteTxn.{WriteTxn}
-use Rattle.client_session.specs.declared.snapshots.Snapshots.{Snapshots}
 use Rattle.std.proofs.lemmas.Slice.Eq.{bytes_eq-Decides}
 use Rattle.mdb_datum.specs.Bytes.{Bytes}
 use Rattle.mdb_schema.specs.History.{Commit, History, after_commits, after_writes}
 use Rattle.mdb_schema.specs.Schema.{DbSchema}
 use Rattle.mem_txn.specs.Database.{Caller, View}
-use Rattle.client_script.proofs.LongerHistory.{no_entry, IsWithin, StandsWithin, AllWithin, turn_longer, answered_within}
+use Rattle.client_script.proofs.LongerHistory.{no_entry, IsWithin, StandsWithin, AllWithin, told_longer, answered_within}
 use Rattle.client_script.specs.Client.{Transaction, closed, reading, writing, Writing, Client, Sight, Snapshot, snapshot_named, state_seen, some_open}
 use Rattle.client_script.specs.Reply as said
 use Rattle.client_script.specs.Session.{IsEntry, Answers}
 use Rattle.client_script.specs.Legal.{number_printed}
 use Rattle.client_script.specs.RefusedWord.{question_word}
+use Rattle.client_script.specs.Spent.{IsTold, by_turn}
 use Rattle.client_script.specs.Turn.{turn, outcome, is_of_watches, snapshot_reply, with_snapshot}
 use Rattle.client_script.specs.declared.command.Command.TheVariants as command
 use Rattle.mdb_schema.specs.Answer as asked
@@ -30,7 +30,7 @@ use Rattle.mdb_schema.specs.declared.answer.Answer.{Answer}
 use Rattle.mdb_schema.specs.declared.ask_error.AskError.{AskError}
 use Rattle.client_session.proofs.BegunNumbers.{StartsNone, starts_none}
 use Rattle.client_session.proofs.OpenTurns.{looks_self}
-use Rattle.client_session.proofs.RequestTurns.{rule_of_question, name_of_question, writing_same, none_numbered}
+use Rattle.client_session.proofs.RequestTurns.{rule_of_question, name_of_question, none_numbered}
 use Rattle.client_session.specs.declared.rule.Rule.TheVariants as rules
 use Rattle.client_session.specs.inner.Refusal.{question_rule}
 use Rattle.client_session.specs.inner.RuleName.{rule_name}
@@ -168,7 +168,7 @@ module _ (c : Command) (d d' : Desk) (r : said.Reply) (known : is_of_watches c �
         not_older = follows.last;
         there = longer;
         known = known;
-        says = ap (λ (H : History). outcome v (turn p.schema H (length p.seen) v c)) seen_grown ∙ ap (outcome v) (turn_longer p.schema p.seen more (length p.seen) v c follows.within) ∙ t.says;
+        says = subst (λ (H : History). IsTold p.schema H (length p.seen) v c r t.next) (sym seen_grown) (told_longer p.schema p.seen more (length p.seen) v c r t.next (search (arith)) follows.within t.says);
         entry = subst (λ (H : History). IsEntry H p.number v.transaction r) (sym seen_grown) (subst (λ (x : Transaction). IsEntry (p.seen ++ more) p.number x r) (sym follows.transaction) (entry_of d.«open» r to.numbered));
       } in
       record {
@@ -239,7 +239,7 @@ kept_desk c d r known stands none makes says = record {
       not_older = follows.last;
       there = search (arith);
       known = known;
-      says = says v follows;
+      says = by_turn (says v follows);
       entry = no_entry (caller_of d.«open»).seen (caller_of d.«open»).number v.transaction r none;
     };
     follows = follows;
@@ -332,7 +332,7 @@ keep_replies d d' name s view r opened caller same stands free kept sees reply =
         not_older = follows.last;
         there = rw caller (search (arith));
         known = refl;
-        says = ap (λ (q : Caller). outcome v (turn (caller_of d.«open»).schema q.seen (length (caller_of d.«open»).seen) v (command.Snapshot name))) caller ∙ told ∙ ap (λ (x : said.Reply). (x, with_snapshot name s v)) (sym reply);
+        says = by_turn (ap (λ (q : Caller). outcome v (turn (caller_of d.«open»).schema q.seen (length (caller_of d.«open»).seen) v (command.Snapshot name))) caller ∙ told ∙ ap (λ (x : said.Reply). (x, with_snapshot name s v)) (sym reply));
         entry = no_entry (caller_of d'.«open»).seen (caller_of d.«open»).number v.transaction r (ap number_printed reply ∙ kept_prints (transaction_of d.«open») s);
       } in
       record {

@@ -13,6 +13,7 @@ use Rattle.mem_txn.specs.declared.txn_error.BeginError.TheVariants as begin_erro
 use Rattle.mem_txn.specs.declared.write_txn.WriteTxn.{WriteTxn}
 use Rattle.client_script.specs.Client.{Client, Transaction, closed, reading, writing}
 use Rattle.client_script.specs.Reply.{Reply, read_at, write_at, ended, committed, aborted, refused}
+use Rattle.client_script.specs.Spent.{by_turn}
 use Rattle.client_script.specs.Turn.{commit_limit, outcome, turn}
 use Rattle.client_script.specs.declared.command.Command.{Command}
 use Rattle.client_script.specs.declared.command.Command.TheVariants as command
@@ -33,7 +34,7 @@ read_turns : (pass : Caller) → TurnsTo command.Read (opens.Nothing pass) (open
 read_turns pass = record {
   turns = λ v is le. record {
     next = record { last = length pass.seen; transaction = reading (length pass.seen); snapshots = v.snapshots };
-    says = rw is refl;
+    says = by_turn (rw is refl);
     transaction = refl;
     snapshots = refl;
     last = search (arith);
@@ -85,7 +86,7 @@ end_turns : (pass : Caller) (txn : View) → TurnsTo command.End (opens.Reading 
 end_turns pass txn = record {
   turns = λ v is le. record {
     next = record { last = v.last; transaction = closed; snapshots = v.snapshots };
-    says = rw is refl;
+    says = by_turn (rw is refl);
     transaction = refl;
     snapshots = refl;
     last = le;
@@ -107,7 +108,7 @@ unfolding new_writing
 write_turns old txn few changes items = record {
   turns = λ v is le. record {
     next = record { last = length old.seen; transaction = new_writing (length old.seen); snapshots = v.snapshots };
-    says = rw (is, lt-ltb (length old.seen) commit_limit few) refl;
+    says = by_turn (rw (is, lt-ltb (length old.seen) commit_limit few) refl);
     transaction = sym (ap (λ (c : Changes). writing (record { number = length c.caller.seen; writes = c.writes; texts = items_of txn })) changes ∙ ap (λ (texts : List Bytes). writing (record { number = length old.seen; writes = []; texts = texts })) items);
     snapshots = refl;
     last = subst (λ (c : Changes). length old.seen ≤ length c.caller.seen) (sym changes) (search (arith));
@@ -134,7 +135,7 @@ spent_turns : (pass : Caller) → length pass.seen ≡ 2 ^ 63 → TurnsTo comman
 spent_turns pass spent = record {
   turns = λ v is le. record {
     next = v;
-    says = rw (is, ap (λ (n : ℕ). nat_lt n commit_limit) spent) refl;
+    says = by_turn (rw (is, ap (λ (n : ℕ). nat_lt n commit_limit) spent) refl);
     transaction = is;
     snapshots = refl;
     last = le;
@@ -158,7 +159,7 @@ abort_turns : (pass : Caller) (txn : WriteTxn Bytes) → pass ≡ (changes_of tx
 abort_turns pass txn same = record {
   turns = λ v is le. record {
     next = record { last = v.last; transaction = closed; snapshots = v.snapshots };
-    says = rw is refl;
+    says = by_turn (rw is refl);
     transaction = refl;
     snapshots = refl;
     last = subst (λ (p : Caller). v.last ≤ length p.seen) (sym same) le;
@@ -175,7 +176,7 @@ commit_turns : (txn : WriteTxn Bytes) (c : Committed Bytes) → IsCommitted txn 
 commit_turns txn c is_committed = record {
   turns = λ v is le. record {
     next = record { last = length (changes_of txn).caller.seen + 1; transaction = closed; snapshots = v.snapshots };
-    says = rw (is, is_committed.number, is_committed.items) refl;
+    says = by_turn (rw (is, is_committed.number, is_committed.items) refl);
     transaction = refl;
     snapshots = refl;
     last = rw (is_committed.pass, length-append (changes_of txn).caller.seen _) (search (arith));
@@ -219,7 +220,7 @@ open_turns : (c : Command) (o : Open) → Stands o → caller_of o ≡ record (c
     → ((v : Client) → v.transaction ≡ transaction_of o → outcome v (turn (caller_of o).schema (caller_of o).seen (length (caller_of o).seen) v c) ≡ (refused (codes "transaction-open"), v))
     → LooksAndTurns c o o (refused (codes "transaction-open"))
 open_turns c o stands grows numbered says = refused_once c o (codes "transaction-open") stands (record {
-  turns = λ v is le. record { next = v; says = says v is; transaction = is; snapshots = refl; last = le };
+  turns = λ v is le. record { next = v; says = by_turn (says v is); transaction = is; snapshots = refl; last = le };
   stands = stands;
   grows = grows;
   numbered = numbered;

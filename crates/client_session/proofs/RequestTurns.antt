@@ -1,7 +1,8 @@
 -- The turns of requests that leave the open transaction open.
-use Rattle.std.proofs.Common.{◌≡◌, inl, inr, refl, ap, subst, sym, ◌∙◌, ℕ, ◌+◌, ◌≤◌, true, false, Bool, List, [], ◌∷◌, ◌++◌, length, Option, Some, None, Result, Ok, Err, IfOk, IsErr, MatchOption, map, if◌then◌else◌}
+use Rattle.std.proofs.Common.{◌≡◌, inl, inr, refl, ap, subst, sym, ◌∙◌, ℕ, ◌+◌, ◌≤◌, ◌^◌, add_assoc, take, true, false, Bool, List, [], ◌∷◌, ◌++◌, length, Option, Some, None, Result, Ok, Err, IfOk, IsErr, MatchOption, map, if◌then◌else◌}
 use Rattle.std.specs.declared.alloc.AllocError.{AllocError}
-use Rattle.std.proofs.lemmas.List.{append-nil}
+use Rattle.std.proofs.lemmas.List.{append-nil, length-append}
+use Rattle.std.proofs.Math.Seq.{take-length}
 use Rattle.mdb_datum.specs.Bytes.{Bytes}
 use Rattle.mdb_datum.specs.Row.{Fields}
 use Rattle.mdb_schema.specs.Answer as asked
@@ -15,6 +16,7 @@ use Rattle.mdb_schema.specs.State.{State, Table, table_at}
 use Rattle.mdb_schema.specs.Write as written
 use Rattle.mdb_schema.specs.Write.{Write, put, remove, step, Stepped}
 use Rattle.mdb_schema.specs.declared.answer.Answer.{Answer}
+use Rattle.mdb_schema.specs.declared.write_error.WriteError.TheVariants as write_errors
 use Rattle.mem_txn.specs.Changes.{Changes, AnswersTxnWrite, AnswersStep, AnswersTxnAsk, AnswersTxnWipe, AnswersRemovals, gives_replaced, gives_row, present, table_seen, name_in}
 use Rattle.mem_txn.specs.Changes as changed
 use Rattle.mem_txn.specs.Database.{Caller, View}
@@ -34,6 +36,7 @@ use Rattle.client_script.proofs.OneClient.{insert_prints}
 use Rattle.client_script.specs.Legal.{callers, number_printed}
 use Rattle.std.specs.List.{enumerate_from}
 use Rattle.client_script.specs.Reply as said
+use Rattle.client_script.specs.Spent.{IsFull, by_turn, ids_spent, is_write as writes_rows, without_ids, writes_in}
 use Rattle.client_script.specs.Turn.{turn, outcome, write_turn, wipe_turn, insert_reply, indexes_of}
 use Rattle.client_script.specs.declared.command.Command.{Command}
 use Rattle.client_script.specs.declared.command.Command.TheVariants as command
@@ -71,7 +74,7 @@ unfolding IsWrite next_changes
 accepted c w table reply is_write txn txn' after steps changes items sound makes prints = record {
   turns = λ v is le. record {
     next = next_changes v (changed.with_writes (changes_of txn) (w ∷ [])) (items_of txn);
-    says = ap (outcome v) (is_write (changes_of txn).caller.schema (changes_of txn).caller.seen (length (changes_of txn).caller.seen) v) ∙ rw (is, steps) refl;
+    says = by_turn (ap (outcome v) (is_write (changes_of txn).caller.schema (changes_of txn).caller.seen (length (changes_of txn).caller.seen) v) ∙ rw (is, steps) refl);
     transaction = ap (λ (t : Changes). (next_changes v t (items_of txn)).transaction) (sym changes) ∙ ap (λ (texts : List Bytes). (next_changes v (changes_of txn') texts).transaction) (sym items);
     snapshots = refl;
     last = subst (λ (t : Changes). v.last ≤ length t.caller.seen) (sym changes) le;
@@ -149,7 +152,44 @@ unfolding next_changes
 same_turns c txn txn' rule breaks changes items sound = record {
   turns = λ v is le. record {
     next = v;
-    says = ap (outcome v) (breaks v is);
+    says = by_turn (ap (outcome v) (breaks v is));
+    transaction = is ∙ ap (λ (t : Changes). (next_changes v t (items_of txn)).transaction) (sym changes) ∙ ap (λ (texts : List Bytes). (next_changes v (changes_of txn') texts).transaction) (sym items);
+    snapshots = refl;
+    last = subst (λ (t : Changes). v.last ≤ length t.caller.seen) (sym changes) le;
+  };
+  stands = ap (λ (t : Changes). t.spoiled) changes ∙ sound;
+  grows = ap (λ (t : Changes). t.caller) changes ∙ no_more (changes_of txn).caller;
+  numbered = refl;
+}
+
+writes_same : (H : History) → writes_in H ≡ changed.writes_in H
+writes_same [] = refl
+writes_same (c ∷ H) = ap (λ (n : ℕ). length c.writes + n) (writes_same H)
+
+-- a transaction that is full with so many rows more
+full_same : (t : Changes) (ws : List Write) (texts : List Bytes) → changed.IsFull (length ws) t → IsFull t.caller.seen (record { number = length t.caller.seen; writes = t.writes ++ ws; texts = texts })
+full_same t ws texts full =
+    let seen : writes_in (take (length t.caller.seen) t.caller.seen) ≡ changed.writes_in t.caller.seen = ap writes_in (take-length t.caller.seen) ∙ writes_same t.caller.seen in
+    let both : length (t.writes ++ ws) ≡ length t.writes + length ws = length-append t.writes ws in
+    subst (λ (n : ℕ). 2 ^ 36 ≤ n) (add_assoc (changed.writes_in t.caller.seen) (length t.writes) (length ws) ∙ ap (λ (n : ℕ). n + (length t.writes + length ws)) (sym seen) ∙ ap (λ (n : ℕ). writes_in (take (length t.caller.seen) t.caller.seen) + n) (sym both)) full
+
+-- there are too few ids for a line's writes: nothing is changed, and it is told so
+spent_turns : (c : Command) → writes_rows c ≡ true → (txn txn' : WriteTxn Bytes) (ws : List Write) (reply : said.Reply) → ((v : Client) → v.transaction ≡ transaction_of (opens.Writing txn) → turn (changes_of txn).caller.schema (changes_of txn).caller.seen (length (changes_of txn).caller.seen) v c ≡ Ok (reply, next_changes v (changed.with_writes (changes_of txn) ws) (items_of txn))) → changed.IsFull (length ws) (changes_of txn) → changes_of txn' ≡ changes_of txn → items_of txn' ≡ items_of txn → (changes_of txn).spoiled ≡ false → TurnsTo c (opens.Writing txn) (opens.Writing txn') ids_spent
+unfolding next_changes
+spent_turns c writes txn txn' ws reply allowed full changes items sound = record {
+  turns = λ v is le. record {
+    next = v;
+    says = without_ids (record {
+      write = writes;
+      reply = refl;
+      same = refl;
+      ruled = reply;
+      after = next_changes v (changed.with_writes (changes_of txn) ws) (items_of txn);
+      allowed = allowed v is;
+      opened = record { number = length (changes_of txn).caller.seen; writes = (changes_of txn).writes ++ ws; texts = items_of txn };
+      transaction = refl;
+      full = full_same (changes_of txn) ws (items_of txn) full;
+    });
     transaction = is ∙ ap (λ (t : Changes). (next_changes v t (items_of txn)).transaction) (sym changes) ∙ ap (λ (texts : List Bytes). (next_changes v (changes_of txn') texts).transaction) (sym items);
     snapshots = refl;
     last = subst (λ (t : Changes). v.last ≤ length t.caller.seen) (sym changes) le;
@@ -203,7 +243,7 @@ write_refused_turn : (c : Command) (w : Write) (reply : Option Fields → said.R
 unfolding IsWrite
 write_refused_turn c w reply is_write txn txn' why refuses changes items sound = same_turns c txn txn' _ (λ v is. is_write (changes_of txn).caller.schema (changes_of txn).caller.seen (length (changes_of txn).caller.seen) v ∙ rw (is, refuses) refl) changes items sound
 
-module _ {A : Type 0} (gives : Option Fields → A → Type 0) (c : Command) (w : Write) (reply : Option Fields → said.Reply) (is_write : IsWrite c w (table_of w) reply) (txn txn' : WriteTxn Bytes) (items : items_of txn' ≡ items_of txn) (sound : (changes_of txn).spoiled ≡ false) where
+module _ {A : Type 0} (gives : Option Fields → A → Type 0) (c : Command) (w : Write) (reply : Option Fields → said.Reply) (is_write : IsWrite c w (table_of w) reply) (writes : writes_rows c ≡ true) (txn txn' : WriteTxn Bytes) (items : items_of txn' ≡ items_of txn) (sound : (changes_of txn).spoiled ≡ false) where
   schema : DbSchema
   schema = (changes_of txn).caller.schema
 
@@ -220,9 +260,20 @@ module _ {A : Type 0} (gives : Option Fields → A → Type 0) (c : Command) (w 
       (subst (λ (b : Bytes). TurnsTo c (opens.Writing txn) (opens.Writing txn') (said.refused b)) (sym (rule_same schema (table_of w) at.place why other at.is))
       (write_refused_turn c w reply is_write txn txn' why refuses changes items sound)))
 
+  -- the write breaks no rule, and finds too few ids
+  spent_rule : (t : Table) → table_at schema (present (changes_of txn)) (table_of w) ≡ Some t → (after : State × Option Fields) → step schema (present (changes_of txn)) w ≡ Ok after → changed.IsFull 1 (changes_of txn) → changes_of txn' ≡ changes_of txn → To (write_refused.Refused write_errors.IdsSpent)
+  unfolding To schema IsWrite next_changes
+  spent_rule t there after steps full changes =
+      let at = placed schema (present (changes_of txn)) (table_of w) t there in
+      subst (λ (p : Option ℕ). RefusedTo c (opens.Writing txn) (opens.Writing txn') schema (row_rule_but_memory p write_errors.IdsSpent)) (sym at.is)
+      (spent_turns c writes txn txn' (w ∷ []) (reply after.1) (λ v is. is_write (changes_of txn).caller.schema (changes_of txn).caller.seen (length (changes_of txn).caller.seen) v ∙ rw (is, steps) refl) full changes items sound)
+
   refused_step : (t : Table) → table_at schema (present (changes_of txn)) (table_of w) ≡ Some t → (e : TxnWriteError) (s : Stepped) → step schema (present (changes_of txn)) w ≡ s → AnswersStep gives w s (err_of e) (changes_of txn) (changes_of txn') → To e
   unfolding To err_of
-  refused_step t there e (Ok after) is answers = subst To (sym answers.0) tt
+  refused_step t there e (Ok after) is answers = elim answers [
+    | inl spent ↦ subst To (sym spent.error) (spent_rule t there after is spent.full spent.same)
+    | inr told ↦ subst To (sym told.0) tt
+  ]
   refused_step t there e (Err why) is answers = elim answers [
     | inl told ↦ subst To (sym told.0) (refused_rule t there why is told.1)
     | inr told ↦ subst To (sym told.0) tt
@@ -244,13 +295,13 @@ module _ {A : Type 0} (gives : Option Fields → A → Type 0) (c : Command) (w 
       named (remove name row) = refl
 
 -- the goal of a write that is refused
-pub refused_write : {A : Type 0} (gives : Option Fields → A → Type 0) (c : Command) (w : Write) (reply : Option Fields → said.Reply) → IsWrite c w (table_of w) reply → (self : Open) (txn txn' : WriteTxn Bytes) (schema : DbSchema) (e : TxnWriteError) (rule : Option rules.the_data) (result : Result replies.the_data AllocError) → self ≡ opens.Writing txn → schema ≡ (changes_of txn).caller.schema → (changes_of txn).spoiled ≡ false → AnswersTxnWrite gives w (changes_of txn).spoiled (Err e) (changes_of txn) (changes_of txn') → items_of txn' ≡ items_of txn → rule ≡ write_rule schema (table_of w) e → MatchOption rule (IsErr result) (λ r. result ≡ Ok (replies.Refused r)) → IfOk result (λ r. TurnsTo c self (opens.Writing txn') (reply_of schema r))
-refused_write gives c w reply is_write self txn txn' schema e rule result is same sound answers items rule_is told =
+pub refused_write : {A : Type 0} (gives : Option Fields → A → Type 0) (c : Command) (w : Write) (reply : Option Fields → said.Reply) → IsWrite c w (table_of w) reply → writes_rows c ≡ true → (self : Open) (txn txn' : WriteTxn Bytes) (schema : DbSchema) (e : TxnWriteError) (rule : Option rules.the_data) (result : Result replies.the_data AllocError) → self ≡ opens.Writing txn → schema ≡ (changes_of txn).caller.schema → (changes_of txn).spoiled ≡ false → AnswersTxnWrite gives w (changes_of txn).spoiled (Err e) (changes_of txn) (changes_of txn') → items_of txn' ≡ items_of txn → rule ≡ write_rule schema (table_of w) e → MatchOption rule (IsErr result) (λ r. result ≡ Ok (replies.Refused r)) → IfOk result (λ r. TurnsTo c self (opens.Writing txn') (reply_of schema r))
+refused_write gives c w reply is_write writes self txn txn' schema e rule result is same sound answers items rule_is told =
     subst (λ (s : Open). IfOk result (λ r. TurnsTo c s (opens.Writing txn') (reply_of schema r))) (sym is)
     (refusal_told c (opens.Writing txn) (opens.Writing txn') schema rule result told
     (subst (λ (r : Option rules.the_data). RefusedTo c (opens.Writing txn) (opens.Writing txn') schema r) (sym rule_is)
     (subst (λ (d : DbSchema). RefusedTo c (opens.Writing txn) (opens.Writing txn') d (write_rule d (table_of w) e)) (sym same)
-    (refuses gives c w reply is_write txn txn' items sound e answers))))
+    (refuses gives c w reply is_write writes txn txn' items sound e answers))))
 
 -- ---- wipes
 
@@ -268,7 +319,7 @@ unfolding IsWipe next_changes
 wiped_turns c wiping is_wipe txn txn' gone lists changes items sound = record {
   turns = λ v is le. record {
     next = next_changes v (changed.with_writes (changes_of txn) gone) (items_of txn);
-    says = ap (outcome v) (is_wipe (changes_of txn).caller.schema (changes_of txn).caller.seen (length (changes_of txn).caller.seen) v) ∙ rw (is, lists) refl;
+    says = by_turn (ap (outcome v) (is_wipe (changes_of txn).caller.schema (changes_of txn).caller.seen (length (changes_of txn).caller.seen) v) ∙ rw (is, lists) refl);
     transaction = ap (λ (t : Changes). (next_changes v t (items_of txn)).transaction) (sym changes) ∙ ap (λ (texts : List Bytes). (next_changes v (changes_of txn') texts).transaction) (sym items);
     snapshots = refl;
     last = subst (λ (t : Changes). v.last ≤ length t.caller.seen) (sym changes) le;
@@ -311,7 +362,7 @@ name_of_question (asked.bad_argument no_prefix_form) = refl
 question_refused : (c : Command) (old new : Open) (schema : DbSchema) (why : asked.AskRefusal) → TurnsTo c old new (said.refused (question_word why)) → RefusedTo c old new schema (question_rule (ask_error why))
 question_refused c old new schema why turns = subst (λ (r : Option rules.the_data). RefusedTo c old new schema r) (sym (rule_of_question why)) (subst (λ (b : Bytes). TurnsTo c old new (said.refused b)) (sym (name_of_question why)) turns)
 
-module _ (c : Command) (wiping : DbSchema → State → Asked (List Write)) (is_wipe : IsWipe c wiping) (name : Bytes) (unknown : (schema : DbSchema) (s : State) → table_at schema s name ≡ None → wiping schema s ≡ Err asked.unknown_table) (txn txn' : WriteTxn Bytes) (items : items_of txn' ≡ items_of txn) (sound : (changes_of txn).spoiled ≡ false) where
+module _ (c : Command) (wiping : DbSchema → State → Asked (List Write)) (is_wipe : IsWipe c wiping) (writes : writes_rows c ≡ true) (name : Bytes) (unknown : (schema : DbSchema) (s : State) → table_at schema s name ≡ None → wiping schema s ≡ Err asked.unknown_table) (txn txn' : WriteTxn Bytes) (items : items_of txn' ≡ items_of txn) (sound : (changes_of txn).spoiled ≡ false) where
   lists : Asked (List Write)
   lists = wiping (changes_of txn).caller.schema (present (changes_of txn))
 
@@ -331,9 +382,17 @@ module _ (c : Command) (wiping : DbSchema → State → Asked (List Write)) (is_
   ToWipe : TxnWipeError → Type 0
   ToWipe e = RefusedTo c (opens.Writing txn) (opens.Writing txn') (changes_of txn).caller.schema (wipe_rule e)
 
+  -- the wipe breaks no rule, and finds too few ids
+  spent_wipe : (gone : List Write) → lists ≡ Ok gone → changed.IsFull (length gone) (changes_of txn) → changes_of txn' ≡ changes_of txn → ToWipe (wipe_refused.Refused wipe_errors.IdsSpent)
+  unfolding ToWipe lists IsWipe next_changes
+  spent_wipe gone is_lists full changes = spent_turns c writes txn txn' gone (said.wiped (length gone)) (λ v is. is_wipe (changes_of txn).caller.schema (changes_of txn).caller.seen (length (changes_of txn).caller.seen) v ∙ rw (is, is_lists) refl) full changes items sound
+
   wipe_err : (e : TxnWipeError) (told : Asked (List Write)) → lists ≡ told → AnswersRemovals told (wipe_error_of e) (changes_of txn) (changes_of txn') → ToWipe e
   unfolding ToWipe lists wipe_error_of
-  wipe_err e (Ok gone) is answers = subst ToWipe (sym answers.0) tt
+  wipe_err e (Ok gone) is answers = elim answers [
+    | inl spent ↦ subst ToWipe (sym spent.error) (spent_wipe gone is spent.full spent.same)
+    | inr told ↦ subst ToWipe (sym told.0) tt
+  ]
   wipe_err e (Err why) is answers =
       let told : e ≡ wipe_refused.Refused (wipe_errors.Refused (ask_error why)) = (let x = answers.0 in cc) in
       subst ToWipe (sym told) (question_refused c (opens.Writing txn) (opens.Writing txn') (changes_of txn).caller.schema why (wipe_refused_turn c wiping is_wipe txn txn' why is answers.1 items sound))
@@ -349,15 +408,15 @@ module _ (c : Command) (wiping : DbSchema → State → Asked (List Write)) (is_
       of (Some t) there told = wipe_err e lists refl told
 
 -- the goals of wipes
-pub wiped_result : (c : Command) (wiping : DbSchema → State → Asked (List Write)) → IsWipe c wiping → (name : Bytes) → ((schema : DbSchema) (s : State) → table_at schema s name ≡ None → wiping schema s ≡ Err asked.unknown_table) → (self : Open) (txn txn' : WriteTxn Bytes) (n : ℕ) → self ≡ opens.Writing txn → (changes_of txn).spoiled ≡ false → AnswersTxnWipe (changes_of txn).spoiled name (wiping (changes_of txn).caller.schema (present (changes_of txn))) (Ok n) (changes_of txn) (changes_of txn') → items_of txn' ≡ items_of txn → TurnsTo c self (opens.Writing txn') (said.wiped n)
-wiped_result c wiping is_wipe name unknown self txn txn' n is sound answers items = subst (λ (s : Open). TurnsTo c s (opens.Writing txn') (said.wiped n)) (sym is) (wipes c wiping is_wipe name unknown txn txn' items sound n answers)
+pub wiped_result : (c : Command) (wiping : DbSchema → State → Asked (List Write)) → IsWipe c wiping → writes_rows c ≡ true → (name : Bytes) → ((schema : DbSchema) (s : State) → table_at schema s name ≡ None → wiping schema s ≡ Err asked.unknown_table) → (self : Open) (txn txn' : WriteTxn Bytes) (n : ℕ) → self ≡ opens.Writing txn → (changes_of txn).spoiled ≡ false → AnswersTxnWipe (changes_of txn).spoiled name (wiping (changes_of txn).caller.schema (present (changes_of txn))) (Ok n) (changes_of txn) (changes_of txn') → items_of txn' ≡ items_of txn → TurnsTo c self (opens.Writing txn') (said.wiped n)
+wiped_result c wiping is_wipe writes name unknown self txn txn' n is sound answers items = subst (λ (s : Open). TurnsTo c s (opens.Writing txn') (said.wiped n)) (sym is) (wipes c wiping is_wipe writes name unknown txn txn' items sound n answers)
 
-pub refused_wipe : (c : Command) (wiping : DbSchema → State → Asked (List Write)) → IsWipe c wiping → (name : Bytes) → ((schema : DbSchema) (s : State) → table_at schema s name ≡ None → wiping schema s ≡ Err asked.unknown_table) → (self : Open) (txn txn' : WriteTxn Bytes) (e : TxnWipeError) (rule : Option rules.the_data) (result : Result replies.the_data AllocError) → self ≡ opens.Writing txn → (changes_of txn).spoiled ≡ false → AnswersTxnWipe (changes_of txn).spoiled name (wiping (changes_of txn).caller.schema (present (changes_of txn))) (Err e) (changes_of txn) (changes_of txn') → items_of txn' ≡ items_of txn → rule ≡ wipe_rule e → MatchOption rule (IsErr result) (λ r. result ≡ Ok (replies.Refused r)) → IfOk result (λ r. TurnsTo c self (opens.Writing txn') (reply_of (caller_of self).schema r))
-refused_wipe c wiping is_wipe name unknown self txn txn' e rule result is sound answers items rule_is told =
+pub refused_wipe : (c : Command) (wiping : DbSchema → State → Asked (List Write)) → IsWipe c wiping → writes_rows c ≡ true → (name : Bytes) → ((schema : DbSchema) (s : State) → table_at schema s name ≡ None → wiping schema s ≡ Err asked.unknown_table) → (self : Open) (txn txn' : WriteTxn Bytes) (e : TxnWipeError) (rule : Option rules.the_data) (result : Result replies.the_data AllocError) → self ≡ opens.Writing txn → (changes_of txn).spoiled ≡ false → AnswersTxnWipe (changes_of txn).spoiled name (wiping (changes_of txn).caller.schema (present (changes_of txn))) (Err e) (changes_of txn) (changes_of txn') → items_of txn' ≡ items_of txn → rule ≡ wipe_rule e → MatchOption rule (IsErr result) (λ r. result ≡ Ok (replies.Refused r)) → IfOk result (λ r. TurnsTo c self (opens.Writing txn') (reply_of (caller_of self).schema r))
+refused_wipe c wiping is_wipe writes name unknown self txn txn' e rule result is sound answers items rule_is told =
     subst (λ (s : Open). IfOk result (λ r. TurnsTo c s (opens.Writing txn') (reply_of (caller_of s).schema r))) (sym is)
     (refusal_told c (opens.Writing txn) (opens.Writing txn') (changes_of txn).caller.schema rule result told
     (subst (λ (r : Option rules.the_data). RefusedTo c (opens.Writing txn) (opens.Writing txn') (changes_of txn).caller.schema r) (sym rule_is)
-    (wipe_refuses c wiping is_wipe name unknown txn txn' items sound e answers)))
+    (wipe_refuses c wiping is_wipe writes name unknown txn txn' items sound e answers)))
 
 pub wipe_unknown : (q : Query) (schema : DbSchema) (s : State) → table_at schema s q.table ≡ None → wipe schema s q ≡ Err asked.unknown_table
 wipe_unknown q schema s none = rw none refl
@@ -388,7 +447,7 @@ pub kept_turns : (c : Command) (old new : Open) (r : said.Reply) → caller_of n
 kept_turns c old new r caller same stands says makes prints = record {
   turns = λ v is le. record {
     next = v;
-    says = says v is;
+    says = by_turn (says v is);
     transaction = is ∙ sym same;
     snapshots = refl;
     last = subst (λ (p : Caller). v.last ≤ length p.seen) (sym caller) le;
@@ -446,7 +505,7 @@ write_caller {A} gives w false result old new answers = of (table_seen old (name
   where
     stepped_caller : (s : Stepped) (r : Result A TxnWriteError) → AnswersStep gives w s r old new → new.caller ≡ old.caller
     stepped_caller (Ok after) (Ok x) told = ap (λ (t : Changes). t.caller) told.1
-    stepped_caller (Ok after) (Err e) told = ap (λ (t : Changes). t.caller) told.1
+    stepped_caller (Ok after) (Err e) told = elim told [ inl spent ↦ ap (λ (t : Changes). t.caller) spent.same | inr spoiled ↦ ap (λ (t : Changes). t.caller) spoiled.1 ]
     stepped_caller (Err why) (Ok x) told = absurd told
     stepped_caller (Err why) (Err e) told = elim told [ inl same ↦ ap (λ (t : Changes). t.caller) same.1 | inr spoiled ↦ ap (λ (t : Changes). t.caller) spoiled.1 ]
 
@@ -460,7 +519,7 @@ wipe_caller false name told result old new answers = of (table_seen old name) an
   where
     removed_caller : (told : Asked (List Write)) (r : Result ℕ TxnWipeError) → AnswersRemovals told r old new → new.caller ≡ old.caller
     removed_caller (Ok ws) (Ok n) answers' = ap (λ (t : Changes). t.caller) answers'.1
-    removed_caller (Ok ws) (Err e) answers' = ap (λ (t : Changes). t.caller) answers'.1
+    removed_caller (Ok ws) (Err e) answers' = elim answers' [ inl spent ↦ ap (λ (t : Changes). t.caller) spent.same | inr spoiled ↦ ap (λ (t : Changes). t.caller) spoiled.1 ]
     removed_caller (Err why) r answers' = ap (λ (t : Changes). t.caller) answers'.1
 
     of : (table : Option Table) → MatchOption table ((result ≡ Err wipe_refused.UnknownTable) × (new ≡ old)) (λ t. AnswersRemovals told result old new) → new.caller ≡ old.caller
@@ -474,7 +533,7 @@ unfolding next_changes
 defer_turns self txn txn' text item is copied changes items sound = subst (λ (s : Open). TurnsTo (command.Defer text) s (opens.Writing txn') said.deferred) (sym is) (record {
   turns = λ v open_is le. record {
     next = next_changes v (changes_of txn) (items_of txn ++ text ∷ []);
-    says = rw open_is refl;
+    says = by_turn (rw open_is refl);
     transaction = ap (λ (t : Changes). (next_changes v t (items_of txn ++ text ∷ [])).transaction) (sym changes) ∙ ap (λ (texts : List Bytes). (next_changes v (changes_of txn') texts).transaction) (sym (items ∙ ap (λ (x : Bytes). items_of txn ++ x ∷ []) copied));
     snapshots = refl;
     last = subst (λ (t : Changes). v.last ≤ length t.caller.seen) (sym changes) le;
@@ -493,6 +552,11 @@ pub reading_answered : (self : Open) (pass : Caller) (txn : View) (q : Query) (a
 reading_answered self pass txn q a is stands answers =
     subst (λ (s : Open). TurnsTo (command.Question q) s (opens.Reading pass txn) (said.answered a)) (sym is)
     (answered_turns q (opens.Reading pass txn) (opens.Reading pass txn) (record { number = txn.number; writes = [] }) refl refl refl stands a (of_reading pass txn q (Ok a) stands.1 answers))
+
+pub reading_refused : (self : Open) (pass : Caller) (txn : View) (q : Query) (e : AskError) (rule : Option rules.the_data) (result : Result replies.the_data AllocError) → self ≡ opens.Reading pass txn → Stands (opens.Reading pass txn) → AnswersAsk (ask txn.schema txn.state q) (Err e) → rule ≡ question_rule e → MatchOption rule (IsErr result) (λ r. result ≡ Ok (replies.Refused r)) → IfOk result (λ r. TurnsTo (command.Question q) self (opens.Reading pass txn) (reply_of (caller_of self).schema r))
+reading_refused self pass txn q e rule result is stands answers rule_is told =
+    subst (λ (s : Open). IfOk result (λ r. TurnsTo (command.Question q) s (opens.Reading pass txn) (reply_of (caller_of s).schema r))) (sym is)
+    (refused_question q (opens.Reading pass txn) (opens.Reading pass txn) (record { number = txn.number; writes = [] }) refl refl refl stands e rule result (of_reading pass txn q (Err e) stands.1 answers) rule_is told)
 
 pub writing_same : (txn txn' : WriteTxn Bytes) → changes_of txn' ≡ changes_of txn → items_of txn' ≡ items_of txn → transaction_of (opens.Writing txn') ≡ transaction_of (opens.Writing txn)
 writing_same txn txn' changes items = ap (λ (t : Changes). writing (record { number = length t.caller.seen; writes = t.writes; texts = items_of txn' })) changes ∙ ap (λ (texts : List Bytes). writing (record { number = length (changes_of txn).caller.seen; writes = (changes_of txn).writes; texts = texts })) items

@@ -1,9 +1,11 @@
 //! What a session has between two lines, and a line's turn.
-ghost use Rattle.std.specs.Prelude.{◌≡◌, IfOk, false, is_some};
+ghost use Rattle.std.specs.Prelude.{◌≡◌, [], IfOk, false, is_some};
 ghost use Rattle.mem_txn.specs.Database.{IsOf};
 ghost use Rattle.client_session.specs.Answered.{IsLater};
 ghost use Rattle.client_script.specs.Turn.{is_of_watches};
 ghost use Rattle.client_script.specs.declared.command.Command.TheVariants as command;
+ghost use Rattle.mdb_datum.specs.Bytes.{Bytes};
+ghost use Rattle.client_session.specs.inner.Carried.{Carried};
 ghost use Rattle.client_session.specs.inner.DeskView.{IsRequest, LooksAndReplies, RepliesTo};
 ghost use Rattle.client_session.specs.inner.OpenView.{caller_of, IsOpen, Stands};
 ghost use Rattle.client_session.specs.inner.KeptView.{seen_in};
@@ -28,6 +30,16 @@ pub(crate) struct Desk {
 }
 
 impl Desk {
+    /// The desk at the start of a session: nothing is open, and no snapshot is kept. It takes no memory.
+    pub(crate) fn new(alloc: Global, pass: Pass) -> Desk
+        ensures { (text : Bytes) → Carried pass [] result text text }
+    {
+        Desk {
+            open: Open::Nothing(pass),
+            snapshots: Snapshots::new(alloc),
+        }
+    }
+
     /// Carries out a command, and gives the reply. After `AllocError` a write transaction may still be
     /// open.
     pub(crate) fn turn<R: Wait>(

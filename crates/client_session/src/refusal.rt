@@ -62,7 +62,8 @@ pub(crate) fn wipe_rule(error: TxnWipeError) -> Option<Rule>
     match error {
         TxnWipeError::Spoiled => None,
         TxnWipeError::UnknownTable => Some(Rule::UnknownTable),
-        TxnWipeError::Refused(WipeError::Memory | WipeError::IdsSpent) => None,
+        TxnWipeError::Refused(WipeError::Memory) => None,
+        TxnWipeError::Refused(WipeError::IdsSpent) => Some(Rule::IdsSpent),
         TxnWipeError::Refused(WipeError::Refused(error)) => question_rule(error),
     }
 }

@@ -207,6 +207,13 @@ fn write_list(rows: &Rows, out: &mut Vec<u8>) -> Result<(), AllocError>
         ++ (codes "rows " ++ (decimal (length rows.now) ++ row_lines rows.now))) }
 {
     write_at(b"rows ", rows.len() as u64, out)?;
+    write_each(rows, out)
+}
+
+/// Adds a line for each row.
+fn write_each(rows: &Rows, out: &mut Vec<u8>) -> Result<(), AllocError>
+    ensures { OnOk result (out.new.items ≡ out.old.items ++ row_lines rows.now) }
+{
     for at in 0..rows.len() {
         let Some(row) = rows.get(at) else {
             unreachable!();

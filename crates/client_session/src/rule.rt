@@ -1,6 +1,7 @@
 //! The rules that a line may break, and their names.
 ghost use Rattle.std.specs.Prelude.{◌≡◌, ◌++◌, OnOk, option_map, codes};
-ghost use Rattle.client_session.specs.inner.RuleName.{index_at, rule_name, question_name, write_name, write_place, index_part_at};
+ghost use Rattle.mdb_schema.specs.Schema.{DbSchema};
+ghost use Rattle.client_session.specs.inner.RuleName.{IsSessions, index_at, rule_name, question_name, write_name, write_place, index_part_at};
 
 use mdb_datum::Text;
 use mdb_schema::{AskError, Schema, WriteError};
@@ -13,6 +14,8 @@ pub(crate) enum Rule {
     TransactionOpen,
     /// There are as many commits as can be counted.
     CommitsSpent,
+    /// There are too few ids for the rows that a wipe takes out.
+    IdsSpent,
     /// No transaction is open.
     NoTransaction,
     /// The open transaction is a write transaction.
@@ -37,16 +40,28 @@ impl Rule {
         ensures { OnOk result (out.new.items ≡ out.old.items ++ rule_name schema.now self) }
     {
         match self {
-            Rule::TransactionOpen => out.extend_from_slice(b"transaction-open"),
-            Rule::CommitsSpent => out.extend_from_slice(b"commits-spent"),
-            Rule::NoTransaction => out.extend_from_slice(b"no-transaction"),
-            Rule::WriteOpen => out.extend_from_slice(b"write-open"),
-            Rule::ReadOnly => out.extend_from_slice(b"read-only"),
-            Rule::NameTaken => out.extend_from_slice(b"name-taken"),
-            Rule::UnknownName => out.extend_from_slice(b"unknown-name"),
-            Rule::UnknownTable => out.extend_from_slice(b"unknown-table"),
             Rule::Question(error) => out.extend_from_slice(question_name(error)),
             Rule::Row { table, error } => write_row_rule(schema, table, error, out),
+            rule => out.extend_from_slice(rule.word()),
+        }
+    }
+
+    /// The name of a rule that is no question's and no row's.
+    fn word(self) -> &'static [u8]
+        requires { IsSessions self }
+        ensures { (schema : DbSchema) → result.now ≡ rule_name schema self }
+    {
+        match self {
+            Rule::TransactionOpen => b"transaction-open",
+            Rule::CommitsSpent => b"commits-spent",
+            Rule::IdsSpent => b"ids-spent",
+            Rule::NoTransaction => b"no-transaction",
+            Rule::WriteOpen => b"write-open",
+            Rule::ReadOnly => b"read-only",
+            Rule::NameTaken => b"name-taken",
+            Rule::UnknownName => b"unknown-name",
+            Rule::UnknownTable => b"unknown-table",
+            _ => unreachable!(),
         }
     }
 }

@@ -1,17 +1,19 @@
 //! A script carried out line by line.
-ghost use Rattle.std.specs.Prelude.{◌≡◌, ◌++◌, OnErr, OnOk, false};
+ghost use Rattle.std.specs.Prelude.{◌≡◌, ◌++◌, MatchResult, OnErr, OnOk, false};
 ghost use Rattle.mem_txn.specs.Database.{IsOf};
 ghost use Rattle.client_session.specs.Answered.{IsLater};
+ghost use Rattle.client_script.specs.Reply.{line_text};
 ghost use Rattle.client_script.specs.Session.{AreKnown};
 ghost use Rattle.client_script.specs.Turn.{is_of_watches};
 ghost use Rattle.client_session.specs.inner.Carried.{AddsSome, AnswersLine, Carried, CarriesOut};
 ghost use Rattle.client_session.specs.inner.OpenView.{caller_of, Stands};
+ghost use Rattle.client_session.specs.inner.ReplyOf.{reply_of};
 
 use crate::desk::Desk;
-use crate::open::Open;
-use crate::snapshots::Snapshots;
+use crate::reply::Reply;
 use client_script::{Line, Script};
 use mdb_ports::Gate;
+use mdb_schema::Schema;
 use mem_txn::{Db, Pass};
 use std::alloc::{AllocError, Global};
 use std::sync::Wait;
@@ -54,10 +56,7 @@ fn answer_lines<R: Wait, G: Gate>(
     ensures caller { IsLater pass (caller_of result.0.open) }
 {
     let client = pass.number();
-    let mut desk = Desk {
-        open: Open::Nothing(pass),
-        snapshots: Snapshots::new(alloc),
-    };
+    let mut desk = Desk::new(alloc, pass);
     for at in 0..script.len() {
         let Some(line) = script.get(at) else {
             unreachable!();
@@ -91,12 +90,27 @@ fn answer_line<R: Wait, G: Gate>(
 {
     gate.before(client, line.number);
     let (desk, told) = desk.turn(rt, alloc, db, &line.command);
-    let kept = match told {
-        Ok(reply) => reply.add(alloc, line.number, db.schema(), text),
-        Err(error) => Err(error),
-    };
-    if kept.is_ok() {
+    let added = add_reply(alloc, db.schema(), line.number, told, text);
+    if added.is_ok() {
         gate.after(client, line.number);
     }
-    (desk, kept)
+    (desk, added)
+}
+
+/// Adds the reply to a line, where its turn gave one. After `AllocError` the text is as before.
+fn add_reply(
+    alloc: Global,
+    schema: &Schema,
+    line: u32,
+    told: Result<Reply, AllocError>,
+    text: &mut Vec<u8>,
+) -> Result<(), AllocError>
+    ensures added { OnOk result (MatchResult told (λ reply. text.new.items
+        ≡ text.old.items ++ line_text line (reply_of schema.now reply)) (λ error. ⊥)) }
+    ensures kept { OnErr result (text.new.items ≡ text.old.items) }
+{
+    match told {
+        Ok(reply) => reply.add(alloc, line, schema, text),
+        Err(error) => Err(error),
+    }
 }

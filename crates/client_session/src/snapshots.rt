@@ -1,5 +1,5 @@
 //! The named snapshots of a session.
-ghost use Rattle.std.specs.Prelude.{◌≡◌, None, OnOk, OnErr, Some, cond, is_some, option_map};
+ghost use Rattle.std.specs.Prelude.{◌≡◌, None, OnOk, OnErr, Some, cond, is_some, option_map, string_bytes};
 ghost use Rattle.std.specs.Str.{bytes_eq};
 ghost use Rattle.client_session.specs.inner.KeptView.{kept_view, seen_in};
 ghost use Rattle.mdb_datum.specs.Bytes.{Bytes};
@@ -45,6 +45,14 @@ impl Snapshots {
             ≡ cond (bytes_eq name.now q) (Some (kept_view kept)) (seen_in self.old q)) }
     {
         let name = String::from_str(alloc, name.as_str())?;
+        self.put(name, kept)
+    }
+
+    /// Keeps a snapshot under a name of its own.
+    fn put(&mut self, name: String, kept: Kept) -> Result<(), AllocError>
+        ensures { OnOk result ((q : Bytes) → seen_in self.new q
+            ≡ cond (bytes_eq (string_bytes name) q) (Some (kept_view kept)) (seen_in self.old q)) }
+    {
         self.kept.insert(name, kept)?;
         Ok(())
     }

@@ -1,21 +1,24 @@
 -- How a call that begins a transaction is answered, of what its caller has seen and of what it is answered then.
-use Rattle.std.proofs.Common.{◌≡◌, ◌∙◌, ◌<◌, ◌^◌, ◌++◌, ℕ, append-nil, List, [], ◌∷◌, length, map, Option, Some, IfSome, Result, Ok, Err, IfOk, inl, inr, sym, ap, subst}
+use Rattle.std.proofs.Common.{◌≡◌, ◌∙◌, ◌<◌, ◌^◌, ◌++◌, ℕ, append-nil, List, [], ◌∷◌, length, map, Option, Some, IfSome, Result, Ok, Err, IfOk, inl, inr, sym, ap, subst, arith}
 use Rattle.std.specs.declared.alloc.AllocError.{AllocError}
 use Rattle.mdb_schema.specs.Schema.{DbSchema}
 use Rattle.mdb_schema.specs.State.{State}
-use Rattle.table_index.specs.Table.{TableChange, TableRows}
-use Rattle.mem_txn.specs.Changes.{Changes, begun}
+use Rattle.table_index.specs.Table.{TableRows}
+use Rattle.radix_node.specs.Ids.{Counter}
+use Rattle.mem_txn.specs.Changes.{Changes, begun, writes_in}
 use Rattle.mem_txn.specs.Database.{Caller, HasRead, HasSeen}
 use Rattle.mem_txn.specs.Transactions.{AnswersBegin, HasWon, HasWonAtLast, IsRefused, changes_of}
 use Rattle.mem_txn.specs.declared.outcome.BeginRefused.{BeginRefused}
 use Rattle.mem_txn.specs.declared.write_txn.WriteTxn.{WriteTxn}
+use Rattle.mem_txn.specs.inner.ChangesView.{AreCounted}
 use Rattle.mem_txn.specs.inner.Commits.{AnswersTurn, RefusesTurn}
-use Rattle.mem_txn.specs.inner.VersionTables.{StandFor, schemas_of, state_of, unwritten}
+use Rattle.mem_txn.specs.inner.VersionTables.{StandFor, Tables, schemas_of, state_of, unwritten}
+use Rattle.mem_txn.specs.inner.Versions.{AreFew, Turned}
 use Rattle.mem_txn.proofs.BegunTables.{begun_stand}
 
 -- tables of a caller's state that nobody has written to
-pub tables_stand : (ts : List TableRows) (schema : DbSchema) (s : State) (r : Result (List TableChange) AllocError) → schemas_of ts ≡ schema → state_of ts ≡ s → IfOk r (λ us. us ≡ map unwritten ts) → IfOk r (λ us. StandFor us schema s)
-tables_stand ts schema s (Ok us) schemas rows is = begun_stand ts schema s us is schemas rows
+pub tables_stand : (ts : List TableRows) (schema : DbSchema) (s : State) (r : Result Tables AllocError) → schemas_of ts ≡ schema → state_of ts ≡ s → IfOk r (λ us. us.tables ≡ map unwritten ts) → IfOk r (λ us. StandFor us.tables schema s)
+tables_stand ts schema s (Ok us) schemas rows is = begun_stand ts schema s us.tables is schemas rows
 tables_stand ts schema s (Err e) schemas rows is = tt
 
 -- what holds of a value that is there
@@ -56,3 +59,11 @@ module _ (p q : Caller) (seen : HasSeen p q) (read : HasRead p q (length q.seen)
 
     pub try_refuses : (r : BeginRefused) → RefusesTurn q r → HasSeen p r.pass × IsRefused p r.pass r.cause × HasWon p r.pass
     try_refuses r answers = let both = refuses r answers in (both.0, both.1, subst (HasWon p) (sym answers.0) won)
+
+-- ---- the ids of a transaction that begins
+
+pub begins_counted : (turn : Turned) (ids : Counter) (r : Result Tables AllocError) → ids ≡ turn.ids → AreFew (writes_in turn.caller.seen) turn.ids → IfOk r (λ ts. ts.ids ≡ ids) → IfOk r (λ ts. AreCounted turn 0 ts.ids)
+begins_counted turn ids (Ok ts) same few is =
+    let next = ap (λ (i : Counter). i.next) (is ∙ same) in
+    record { book = ap (λ (i : Counter). i.book) (is ∙ same); few = omega (arith, few, next) }
+begins_counted turn ids (Err e) same few is = tt

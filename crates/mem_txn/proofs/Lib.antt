@@ -1,10 +1,14 @@
 pub mod AllBack
 pub mod BegunAnswers
 pub mod BegunTables
+pub mod EmptyTables
 pub mod Gathered
+pub mod IdsCounted
+pub mod NextVersions
 pub mod OneHistory
 pub mod StatesAfter
 pub mod StepsMade
+pub mod TableAnswers
 pub mod TablesFound
 pub mod Threads
 pub mod WipesAnswered

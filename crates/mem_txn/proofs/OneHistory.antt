@@ -1,6 +1,6 @@
 -- What a list of values tells as a history, and what the calls of the front make of a pass as its caller.
 use Rattle.std.proofs.Common.{◌≡◌, ◌∙◌, ◌+◌, ◌^◌, ◌<◌, ◌≤◌, ◌++◌, ℕ, zero, suc, [], ◌∷◌, List, Bool, true, false, inl, inr, ⊎_elim, map, length, sym, ap, refl, subst, arith, add-one, ne_eqb, filter}
-use Rattle.std.specs.Prelude.{if◌then◌else◌, ◌==◌}
+use Rattle.std.specs.Prelude.{All, if◌then◌else◌, ◌==◌}
 use mathlib.Core.List.{IsPrefix}
 use Rattle.std.proofs.lemmas.List.{map-append, length-map, length-append, append_assoc, append-nil}
 use Rattle.db_front.specs.Commits as front
@@ -11,7 +11,11 @@ use Rattle.mdb_schema.specs.Schema.{DbSchema}
 use Rattle.mdb_schema.specs.State.{State}
 use Rattle.mem_txn.specs.Database.{AreAll, AreIn, AreMade, AreNamed, AreOf, Caller, Database, HasMade, HasPass, HasRead, HasSeen, IsOf, IsWhole, View, commits_by, new_pass, new_passes, view_after}
 use Rattle.mem_txn.specs.inner.Commits.{IsNext}
-use Rattle.mem_txn.specs.inner.Versions.{AreTokens, IsBegun, IsToken, StandsFor, Version, Versions, caller_of, entry_of, history_in, opening, schema_in}
+use Rattle.mem_txn.specs.inner.VersionTables.{AreWithin}
+use Rattle.mem_txn.specs.inner.Versions.{AreFew, AreTokens, Forest, IsBegun, IsBookOf, IsLogOf, IsToken, StandsFor, Turned, Version, Versions, caller_of, entry_of, history_in, opening, schema_in}
+use Rattle.mem_txn.specs.Changes.{writes_in}
+use Rattle.radix_node.specs.Ids.{Book, Counter}
+use Rattle.watch_word.specs.Logs.{Log}
 use Rattle.mem_txn.proofs.StatesAfter.{state_seen-more}
 
 -- ---- longer lists
@@ -31,6 +35,24 @@ pub history_longer : (old new : Versions) → IsBegun old → IsPrefix old new �
 history_longer [] new begun p = absurd begun
 history_longer (e ∷ es) new begun p = subst (λ (h : Versions). IsPrefix (map entry_of es) (history_in h)) p.1 (map entry_of p.0, sym (map-append entry_of es p.0))
 
+book_longer : (old new : Versions) (b : Book) → IsBookOf old b → IsPrefix old new → IsBookOf new b
+book_longer [] new b is p = absurd is
+book_longer (e ∷ es) new b is p = subst (λ (h : Versions). IsBookOf h b) p.1 is
+
+-- ---- the log of the book
+
+-- a log of the book serves after each commit
+log_serves : (n : ℕ) (h : Versions) (log : Log) → IsLogOf h log → front.HasFirings IsLogOf n h log
+log_serves n [] log is k le = absurd is
+log_serves n (e ∷ es) log is k le = is
+
+pub log_is : (n : ℕ) (h : Versions) (log : Log) → IsBegun h → front.HasFirings IsLogOf n h log → IsLogOf h log
+log_is n [] log begun has = absurd begun
+log_is n (e ∷ es) log begun has = has 0 (omega arith)
+
+pub log_after : (n : ℕ) (h : Versions) (c : ℕ) (v : Version) (log : Log) → IsLogOf h log → front.HasFirings IsLogOf n (h ++ (c, v) ∷ []) log
+log_after n h c v log is = log_serves n (h ++ (c, v) ∷ []) log (book_longer h (h ++ (c, v) ∷ []) log.book is ((c, v) ∷ [], refl))
+
 pub history_length : (h : Versions) → IsBegun h → length (history_in h) + 1 ≡ length h
 history_length [] begun = absurd begun
 history_length (e ∷ es) begun = let n = length-map es entry_of in omega (arith, n)
@@ -41,8 +63,12 @@ next_in : (h : Versions) (n : ℕ) (v : Version) → IsBegun h → history_in (h
 next_in [] n v begun = absurd begun
 next_in (e ∷ es) n v begun = map-append entry_of es ((n, v) ∷ [])
 
-pub next_stands : (k : Known Version) (v : Version) → IsBegun k.seen → IsNext (caller_of k) v → StandsFor (k.seen ++ (k.number, v) ∷ []) v
-next_stands k v begun next =
+writes_in-more : (H : History) (c : Commit) → writes_in (H ++ c ∷ []) ≡ writes_in H + length c.writes
+writes_in-more [] c = omega arith
+writes_in-more (d ∷ H) c = let rest = writes_in-more H c in omega (arith, rest)
+
+pub next_stands : (k : Known Version) (ids : Counter) (v : Version) → IsBegun k.seen → IsBookOf k.seen ids.book → IsNext (record { caller = caller_of k; ids = ids }) v → StandsFor (k.seen ++ (k.number, v) ∷ []) v
+next_stands k ids v begun book next =
     let h = k.seen in
     let c : Commit = record { caller = k.number; writes = v.writes } in
     let more : IsPrefix h (h ++ (k.number, v) ∷ []) = ((k.number, v) ∷ [], refl) in
@@ -50,10 +76,15 @@ next_stands k v begun next =
     let list : history_in (h ++ (k.number, v) ∷ []) ≡ history_in h ++ c ∷ [] = next_in h k.number v begun in
     let count : length (history_in h) + 1 ≡ length (history_in h ++ c ∷ []) = sym (length-append (history_in h) (c ∷ [])) in
     let state : after_writes (schema_in h) (state_at (schema_in h) (history_in h) (length (history_in h))) v.writes ≡ state_at (schema_in h) (history_in h ++ c ∷ []) (length (history_in h ++ c ∷ [])) = sym (state_seen-more (schema_in h) (history_in h) c) in
-    let view : v.view ≡ view_after (schema_in h) (history_in h ++ c ∷ []) = next ∙ (λ i. let r : View = record { schema = schema_in h; number = count i; state = state i } in r) in (
-      begun_longer h (h ++ (k.number, v) ∷ []) begun more,
-      view ∙ (λ i. view_after (sym schema i) (sym list i)),
-    )
+    let view : v.view ≡ view_after (schema_in h) (history_in h ++ c ∷ []) = next.view ∙ (λ i. let r : View = record { schema = schema_in h; number = count i; state = state i } in r) in
+    let writes : writes_in (history_in h) + length v.writes ≡ writes_in (history_in (h ++ (k.number, v) ∷ [])) = sym (ap writes_in list ∙ writes_in-more (history_in h) c) in
+    record {
+      begun = begun_longer h (h ++ (k.number, v) ∷ []) begun more;
+      view = view ∙ (λ i. view_after (sym schema i) (sym list i));
+      book = book_longer h (h ++ (k.number, v) ∷ []) v.ids.book (subst (IsBookOf h) (sym next.book) book) more;
+      within = next.within;
+      few = subst (λ (n : ℕ). AreFew n v.ids) writes next.few;
+    }
 
 -- the caller after its commit, and the end of its turn
 pub committed : (k k' k'' : Known Version) (v : Version) → IsBegun k.seen → k' ≡ record k { seen = k.seen ++ (k.number, v) ∷ []; mine = k.mine ++ (k.number, v) ∷ []; stage = 2 } → k'' ≡ record k' { stage = 0 }
@@ -117,22 +148,30 @@ numbered old new n token seen is = let read = has_read 0 old new token seen n is
 pub left_token : (k k' : Known Version) → IsToken 1 k → k' ≡ record k { stage = 0 } → IsToken 0 k'
 left_token k k' token left = subst (IsToken 0) (sym left) (record { at = refl; named = token.named; few = token.few; begun = token.begun })
 
+-- ---- the value before the first commit
+
+pub opening_stands : (schema : DbSchema) (trees : Forest) (ids : Counter) → All (AreWithin ids) trees → ids.next ≤ 2 ^ 11 → StandsFor ((0, opening schema trees ids) ∷ []) (opening schema trees ids)
+opening_stands schema trees ids within few = record { begun = refl; view = refl; book = refl; within = within; few = omega (arith, few) }
+
 -- ---- the passes of a new database
 
 append_tokens : (ks : List (Known Version)) (k : Known Version) → AreTokens ks → IsToken 0 k → AreTokens (ks ++ k ∷ [])
 append_tokens [] k all token = (token, tt)
 append_tokens (j ∷ ks) k all token = (all.0, append_tokens ks k all.1 token)
 
-module _ (t : FrontId) (schema : DbSchema) where
-  pub fresh_tokens : (n : ℕ) → n ≤ 64 → AreTokens (all_fresh t (opening schema) n)
-  fresh_tokens zero few = tt
-  fresh_tokens (suc n) few = append_tokens (all_fresh t (opening schema) n) (fresh t (opening schema) (suc n)) (fresh_tokens n (omega (arith, few))) (record { at = refl; named = omega arith; few = few; begun = refl })
+module _ (t : FrontId) (schema : DbSchema) (trees : Forest) (ids : Counter) where
+  abbrev first : Version
+  first = opening schema trees ids
 
-  pub fresh_callers : (db : Database) → db.database ≡ t → db.schema ≡ schema → (n : ℕ) → map caller_of (all_fresh t (opening schema) n) ≡ new_passes db n
+  pub fresh_tokens : (n : ℕ) → n ≤ 64 → AreTokens (all_fresh t first n)
+  fresh_tokens zero few = tt
+  fresh_tokens (suc n) few = append_tokens (all_fresh t first n) (fresh t first (suc n)) (fresh_tokens n (omega (arith, few))) (record { at = refl; named = omega arith; few = few; begun = refl })
+
+  pub fresh_callers : (db : Database) → db.database ≡ t → db.schema ≡ schema → (n : ℕ) → map caller_of (all_fresh t first n) ≡ new_passes db n
   fresh_callers db here same zero = refl
   fresh_callers db here same (suc n) =
-      let last : caller_of (fresh t (opening schema) (suc n)) ≡ new_pass db (suc n) = λ i. let r : Caller = record { number = suc n; database = sym here i; schema = sym same i; seen = []; own = []; counts = []; tries = [] } in r in
-      map-append caller_of (all_fresh t (opening schema) n) (fresh t (opening schema) (suc n) ∷ [])
+      let last : caller_of (fresh t first (suc n)) ≡ new_pass db (suc n) = λ i. let r : Caller = record { number = suc n; database = sym here i; schema = sym same i; seen = []; own = []; counts = []; tries = [] } in r in
+      map-append caller_of (all_fresh t first n) (fresh t first (suc n) ∷ [])
       ∙ (λ i. fresh_callers db here same n i ++ last i ∷ [])
 
 -- ---- lists of passes
@@ -196,10 +235,10 @@ schema_of_all db h (k ∷ ks) some tokens own all = schema_longer k.seen h token
 pub closed : (db : Database) (h : Versions) (ks : List (Known Version)) (v : Version) (n : ℕ) → 0 < length ks → AreAll db.callers (map caller_of ks) → AreTokens ks → AreOf db (map caller_of ks) → front.IsHistory db.callers h → front_passes.AreIn h ks
     → n + 1 ≡ length h → n ≤ 2 ^ 63 → StandsFor h v → (H : History) × IsWhole db (map caller_of ks) H × (v.view ≡ view_after db.schema H)
 closed db h ks v n some each tokens own history all count few stands =
-    let length_is = history_length h stands.0 in
-    let ours = all_in h ks stands.0 tokens all in
+    let length_is = history_length h stands.begun in
+    let ours = all_in h ks stands.begun tokens all in
     let named : AreNamed db.callers (history_in h) = subst (λ (g : Versions). AreNamed db.callers (history_in g)) (sym history.2) (named_in db.callers history.1 history.3) in (
       history_in h,
       record { named = named; own = ours; made = each_made db.callers (history_in h) (map caller_of ks) each ours; few = omega (arith, length_is, count, few) },
-      stands.1 ∙ ap (λ (s : DbSchema). view_after s (history_in h)) (schema_of_all db h ks some tokens own all),
+      stands.view ∙ ap (λ (s : DbSchema). view_after s (history_in h)) (schema_of_all db h ks some tokens own all),
     )

@@ -1,33 +1,24 @@
 -- The table of a name among tables that stand for a state, and what a question of it is answered.
-use Rattle.std.proofs.Common.{◌≡◌, ◌∙◌, ◌<◌, ◌+◌, ℕ, zero, List, [], ◌∷◌, map, length, slice_get, Bool, true, false, Option, Some, None, option_map, option_and_then, Result, Err, refl, sym, ap, subst, add-one, arith}
+use Rattle.std.proofs.Common.{◌≡◌, ◌∙◌, ◌<◌, ◌+◌, ◌++◌, ℕ, zero, List, [], ◌∷◌, map, length, take, drop, get_or, slice_get, append-nil, Bool, true, false, Option, Some, None, option_map, option_and_then, Result, Err, refl, sym, ap, subst, add-one, arith}
 use Rattle.std.specs.Prelude.{if◌then◌else◌}
 use Rattle.std.specs.Str.{bytes_eq}
-use Rattle.std.proofs.lemmas.List.{length-map}
-use Rattle.std.proofs.lemmas.Option.{slice_get-map}
+use Rattle.std.proofs.Math.Seq.{drop-length}
+use Rattle.std.proofs.lemmas.List.{length-map, take_all}
+use Rattle.std.proofs.lemmas.Option.{slice_get-map, slice_get_read}
 use Rattle.mdb_datum.specs.Row.{Fields}
 use Rattle.mdb_encode.specs.Bytes.{Bytes}
 use Rattle.mdb_schema.specs.Answer.{Asked, ask, ask_rows, unknown_table}
 use Rattle.mdb_schema.specs.Query.{Query}
 use Rattle.mdb_schema.specs.Refusals.{AnswersAsk}
 use Rattle.mdb_schema.specs.Schema.{TableSchema, DbSchema, table_place}
-use Rattle.mdb_schema.specs.State.{State, Table, table_at, empty_state}
+use Rattle.mdb_schema.specs.State.{State, Table, table_at}
 use Rattle.mdb_schema.specs.Tests.{◌>>=◌, needed}
 use Rattle.mdb_schema.specs.declared.answer.Answer.{Answer}
 use Rattle.mdb_schema.specs.declared.ask_error.AskError.{AskError}
 use Rattle.mdb_schema.proofs.Membership.{same_key}
 use Rattle.mdb_schema.proofs.Tables.{IsTableAt, table_at-some}
 use Rattle.table_index.specs.Table.{TableRows, TableChange}
-use Rattle.mem_txn.specs.inner.VersionTables.{AnswersAskAt, StandFor, empty_table, schemas_of, standing, state_of}
-
--- ---- tables without rows
-
-pub schemas_of-empty : (ts : DbSchema) → schemas_of (map empty_table ts) ≡ ts
-schemas_of-empty [] = refl
-schemas_of-empty (t ∷ ts) = ap (λ (us : DbSchema). t ∷ us) (schemas_of-empty ts)
-
-pub state_of-empty : (ts : DbSchema) → state_of (map empty_table ts) ≡ empty_state ts
-state_of-empty [] = refl
-state_of-empty (t ∷ ts) = ap (λ (s : State). [] ∷ s) (state_of-empty ts)
+use Rattle.mem_txn.specs.inner.VersionTables.{AnswersAskAt, StandFor, Tables, schemas_of, standing, state_of}
 
 -- ---- the place of a name
 
@@ -135,3 +126,19 @@ module _ (tables : List TableChange) (schema : DbSchema) (s : State) (stand : St
       ap (λ (ts : DbSchema). slice_get ts place) (sym stand.schemas)
       ∙ slice_get-map (λ (r : TableRows). r.schema) (map standing tables) place
       ∙ ap (option_map (λ (r : TableRows). r.schema)) (standing_there t there)
+
+-- ---- the table at a place of a list of them
+
+pub place_within : (old new : Tables) (place : ℕ) → old ≡ new → place < length new.tables → place < length old.tables
+place_within old new place same within = subst (λ (t : Tables). place < length t.tables) (sym same) within
+
+pub place_there : (ts : List TableChange) (place : ℕ) (t : TableChange) → place < length ts → t ≡ get_or ts place t → slice_get ts place ≡ Some t
+place_there ts place t within is = slice_get_read ts (length ts) place t refl within is
+
+-- a vector whose list was lent as a whole, and is as it was
+pub lent_whole : {X : Type 0} (items present : List X) (n : ℕ) → present ≡ items → n ≡ length items → take n (present ++ drop (length present) items) ≡ items
+lent_whole {X} items present n same count =
+    ap (λ (ys : List X). take n (ys ++ drop (length ys) items)) same
+    ∙ ap (λ (ys : List X). take n (items ++ ys)) (drop-length items)
+    ∙ ap (take n) (append-nil items)
+    ∙ take_all n items (omega (arith, count))

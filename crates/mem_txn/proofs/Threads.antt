@@ -6,7 +6,10 @@ use mir.Syntax.{Lifetime}
 use Rattle.db_front.proofs.pass.Pass.TheSendSync as token
 use Rattle.db_front.proofs.passes.Passes.TheSendSync as tokens
 use Rattle.db_front.proofs.shared.Shared.TheSendSync as front
+use Rattle.watch_word.proofs.book.Book.TheSendSync as book
+use Rattle.watch_word.proofs.cell.WatchCell.TheSendSync as cell
 use Rattle.watch_word.proofs.front.Front.TheSendSync as log
+use Rattle.radix_node.specs.contracts.ids.Ids
 use Rattle.mem_txn.specs.contracts.db.Db
 use Rattle.mem_txn.specs.contracts.pass.Pass
 use Rattle.mem_txn.specs.contracts.passes.Passes
@@ -83,7 +86,7 @@ pub table_sync : IsSync Table.the_row
 table_sync = search (sendable, crosses, def_sync, tree_sync) depth 20
 
 pub table_change_send : IsSend TableTxn.the_row
-table_change_send = search (sendable, crosses, def_send, tree_send) depth 20
+table_change_send = search (sendable, crosses, def_send, tree_send, cell.the_send, cell.the_sync) depth 20
 
 pub accepted_send : IsSend Accepted.the_row
 accepted_send = search (sendable, crosses, def_send, row-send) depth 20
@@ -97,11 +100,17 @@ view_send = search (sendable, crosses, schema_send, schema_sync, table_send, tab
 pub view_sync : IsSync View.the_row
 view_sync = search (sendable, crosses, schema_send, schema_sync, table_send, table_sync) depth 20
 
+ids-send : IsSend Ids.the_row
+ids-send = search (sendable, crosses, book.the_send, book.the_sync) depth 20
+
+ids-sync : IsSync Ids.the_row
+ids-sync = search (sendable, crosses, book.the_send, book.the_sync) depth 20
+
 pub version_send : IsSend Version.the_row
-version_send = search (sendable, crosses, view_send, accepted_send) depth 20
+version_send = search (sendable, crosses, view_send, accepted_send, ids-send) depth 20
 
 pub version_sync : IsSync Version.the_row
-version_sync = search (sendable, crosses, view_sync, accepted_sync) depth 20
+version_sync = search (sendable, crosses, view_sync, accepted_sync, ids-sync) depth 20
 
 -- ---- what callers share, and their passes
 
@@ -124,7 +133,7 @@ txn_table-send : IsSend TxnTable.the_row
 txn_table-send = search (sendable, crosses, table_send, table_sync, table_change_send) depth 20
 
 pub changes_send : IsSend Changes.the_row
-changes_send = search (sendable, crosses, turn_send, txn_table-send, accepted_send) depth 20
+changes_send = search (sendable, crosses, turn_send, txn_table-send, accepted_send, ids-send) depth 20
 
 pub read_send : IsSend ReadTxn.the_row
 read_send = search (sendable, crosses, version_send, version_sync) depth 20

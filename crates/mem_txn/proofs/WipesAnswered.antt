@@ -1,5 +1,5 @@
 -- What a write transaction answers a wipe, of what its tables and its list of writes tell.
-use Rattle.std.proofs.Common.{◌≡◌, ◌∙◌, ◌++◌, ℕ, List, [], ◌∷◌, length, slice_set, Bool, true, false, Option, Some, None, Result, Ok, Err, refl, sym, ap, subst}
+use Rattle.std.proofs.Common.{◌≡◌, ◌∙◌, ◌≤◌, ◌+◌, ◌*◌, ◌^◌, ◌++◌, ℕ, List, [], ◌∷◌, length, slice_set, Bool, true, false, Option, Some, None, Result, Ok, Err, inl, inr, refl, sym, ap, subst}
 use Rattle.std.specs.Prelude.{MatchOption}
 use Rattle.std.proofs.lemmas.List.{length-map}
 use Rattle.mdb_datum.specs.Row.{Fields}
@@ -20,17 +20,21 @@ use Rattle.mdb_schema.proofs.Passed.{needed_on}
 use Rattle.mdb_schema.proofs.Removals.{AreRowsOnce, removals_accepted}
 use Rattle.mdb_schema.proofs.Tables.{IsTableAt, slice_set-same, table_at-some}
 use Rattle.mdb_schema.proofs.Wiped.{wiped_once}
-use Rattle.table_index.specs.Table.{TableChange}
+use Rattle.table_index.specs.Table.{AreSpent, TableChange}
 use Rattle.table_index.specs.declared.wipe_error.WipeError.{WipeError}
 use Rattle.table_index.specs.declared.wipe_error.WipeError.TheVariants.{Refused}
-use Rattle.mem_txn.specs.Changes.{AnswersRemovals, AnswersTxnWipe, Changes, present, table_seen}
-use Rattle.mem_txn.specs.Database.{state_seen}
+use Rattle.mem_txn.specs.Changes.{AnswersRemovals, AnswersTxnWipe, Changes, IsFull, present, table_seen, writes_in}
+use Rattle.mem_txn.specs.Database.{Caller, state_seen}
 use Rattle.mem_txn.specs.declared.txn_error.TxnWipeError.{TxnWipeError}
 use Rattle.mem_txn.specs.declared.txn_error.TxnWipeError.TheVariants as wipe_refused
 use Rattle.mem_txn.specs.declared.wipe.Wipe.{Wipe}
 use Rattle.mem_txn.specs.declared.wipe.Wipe.TheVariants.{Listed, ByPrefix}
-use Rattle.mem_txn.specs.inner.VersionTables.{StandFor}
-use Rattle.mem_txn.specs.inner.Wipes.{JoinsGone, JoinsGoneAt, is_memory, wipe_by, wiped_by}
+use Rattle.radix_node.specs.Ids.{Counter}
+use Rattle.mem_txn.specs.inner.ChangesView.{AreCounted}
+use Rattle.mem_txn.specs.inner.VersionTables.{StandFor, Tables}
+use Rattle.mem_txn.specs.inner.Versions.{Turned}
+use Rattle.mem_txn.specs.inner.Wipes.{GivesUp, JoinsGone, JoinsGoneAt, is_memory, wipe_by, wiped_by}
+use Rattle.mem_txn.proofs.IdsCounted.{counted_more, counted_same, ids_full}
 use Rattle.mem_txn.proofs.StepsMade.{is_sound, stand-set}
 use Rattle.mem_txn.proofs.TablesFound.{stand_table, table_at-none}
 
@@ -89,53 +93,69 @@ module _ (how : Wipe) (q : Query) (old : Changes) (sound : old.spoiled ≡ false
   rule_told : (why : AskRefusal) → is_memory (Refused (ask_error why)) ≡ old.spoiled
   rule_told why = sym sound
 
-  answer : (r : Asked (List Fields)) (result : Result ℕ WipeError) (before after : TableChange) (writes' : List Write) (new : Changes) → JoinsGone q.table r result before after old.writes writes'
-      → Leaves result writes' new → AnswersRemovals (removed q.table r) (txn_wiped result) old new
-  answer (Ok gone) (Ok n) before after writes' new joins leaves = (
-    joins.0 ∙ sym (length-map gone (remove q.table)),
-    leaves ∙ ap (λ (ws : List Write). let c : Changes = record old { writes = ws } in c) joins.2,
-  )
-  answer (Ok gone) (Err e) before after writes' new joins leaves = (
-    ap wipe_refused.Refused joins.0,
-    leaves
-        ∙ ap (λ (ws : List Write). let c : Changes = record old { writes = ws; spoiled = is_memory e } in c) joins.1
-        ∙ ap (λ (b : Bool). let c : Changes = record old { spoiled = b } in c) (ap is_memory joins.0),
-  )
-  answer (Err why) (Ok n) before after writes' new joins leaves = let no_way : Ok n ≡ Err (Refused (ask_error why)) = joins.0 in cc
-  answer (Err why) (Err e) before after writes' new joins leaves =
-      let is : e ≡ Refused (ask_error why) = let told : Err e ≡ Err (Refused (ask_error why)) = joins.0 in cc in (
-        ap (λ (x : WipeError). let r : Result ℕ TxnWipeError = Err (wipe_refused.Refused x) in r) is,
-        leaves
-            ∙ ap (λ (ws : List Write). let c : Changes = record old { writes = ws; spoiled = is_memory e } in c) joins.2
-            ∙ ap (λ (b : Bool). let c : Changes = record old { spoiled = b } in c) (ap is_memory is ∙ rule_told why),
-      )
+  -- the writes are as they were, and the transaction is spoiled or not
+  kept : (e : WipeError) (writes' : List Write) (new : Changes) (b : Bool) → Leaves (Err e) writes' new → writes' ≡ old.writes → is_memory e ≡ b → new ≡ record old { spoiled = b }
+  kept e writes' new b leaves same told =
+      leaves
+      ∙ ap (λ (ws : List Write). let c : Changes = record old { writes = ws; spoiled = is_memory e } in c) same
+      ∙ ap (λ (d : Bool). let c : Changes = record old { spoiled = d } in c) told
 
-  module _ (place : ℕ) (found : table_place q.table old.caller.schema ≡ Some place) (tables tables' : List TableChange) (stand : StandFor tables old.caller.schema (present old))
+  module _ (turn : Turned) (mine : turn.caller ≡ old.caller) (ids ids' : Counter) (counted : AreCounted turn (length old.writes) ids) where
+    full : (rows : ℕ) → AreSpent ids.next rows → IsFull rows old
+    full rows spent = subst (λ (p : Caller). 2 ^ 36 ≤ writes_in p.seen + length old.writes + rows) mine (ids_full ids.next (writes_in turn.caller.seen + length old.writes) rows counted.few spent)
+
+    gives_up : (gone : List Fields) (e : WipeError) (before after : TableChange) (writes' : List Write) (new : Changes) → GivesUp (length gone) e ids ids' before after → writes' ≡ old.writes → Leaves (Err e) writes' new
+        → AnswersRemovals (removed q.table (Ok gone)) (Err (wipe_refused.Refused e)) old new
+    gives_up gone e before after writes' new (inr memory) same leaves = inr (ap wipe_refused.Refused memory, kept e writes' new true leaves same (ap is_memory memory))
+    gives_up gone e before after writes' new (inl spent) same leaves =
+        let quiet : is_memory e ≡ old.spoiled = ap is_memory spent.0.error ∙ sym sound in
+        let count : length gone ≡ length (removals q.table gone) = sym (length-map gone (remove q.table)) in
+        inl (record {
+          error = ap wipe_refused.Refused spent.0.error;
+          full = subst (λ (n : ℕ). IsFull n old) count (full (length gone) spent.0.few);
+          same = kept e writes' new old.spoiled leaves same quiet;
+        })
+
+    answer : (r : Asked (List Fields)) (result : Result ℕ WipeError) (before after : TableChange) (writes' : List Write) (new : Changes) → JoinsGone q.table r result ids ids' before after old.writes writes'
+        → Leaves result writes' new → AnswersRemovals (removed q.table r) (txn_wiped result) old new
+    answer (Ok gone) (Ok n) before after writes' new joins leaves = (
+      joins.0 ∙ sym (length-map gone (remove q.table)),
+      leaves ∙ ap (λ (ws : List Write). let c : Changes = record old { writes = ws } in c) joins.3,
+    )
+    answer (Ok gone) (Err e) before after writes' new joins leaves = gives_up gone e before after writes' new joins.0 joins.1 leaves
+    answer (Err why) (Ok n) before after writes' new joins leaves = let no_way : Ok n ≡ Err (Refused (ask_error why)) = joins.0.0 in cc
+    answer (Err why) (Err e) before after writes' new joins leaves =
+        let is : e ≡ Refused (ask_error why) = let told : Err e ≡ Err (Refused (ask_error why)) = joins.0.0 in cc in (
+          ap (λ (x : WipeError). let r : Result ℕ TxnWipeError = Err (wipe_refused.Refused x) in r) is,
+          kept e writes' new old.spoiled leaves joins.1 (ap is_memory is ∙ rule_told why),
+        )
+
+  module _ (place : ℕ) (found : table_place q.table old.caller.schema ≡ Some place) (tables tables' : Tables) (stand : StandFor tables.tables old.caller.schema (present old))
       (result : Result ℕ WipeError) (writes' : List Write)
       (at : JoinsGoneAt (λ t. wiped_by how t.schema t.rows q) place q.table result tables tables' old.writes writes') where
     abbrev table : Table
     table = record { place = place; schema = at.before.schema; rows = at.before.rows }
 
     there : IsTableAt old.caller.schema (present old) q.table table
-    there = stand_table tables old.caller.schema (present old) stand place q.table found at.before at.there
+    there = stand_table tables.tables old.caller.schema (present old) stand place q.table found at.before at.there
 
     seen : table_seen old q.table ≡ Some table
     seen = table_at-some old.caller.schema (present old) q.table table there
 
-    pub wipe_answer : (new : Changes) → Leaves result writes' new → AnswersTxnWipe old.spoiled q.table told (txn_wiped result) old new
-    wipe_answer new leaves =
+    pub wipe_answer : (turn : Turned) → turn.caller ≡ old.caller → AreCounted turn (length old.writes) tables.ids → (new : Changes) → Leaves result writes' new → AnswersTxnWipe old.spoiled q.table told (txn_wiped result) old new
+    wipe_answer turn mine counted new leaves =
         unspoiled (txn_wiped result) new
         (subst (OfTable (txn_wiped result) new) (sym seen)
         (subst (λ (r : Asked (List Write)). AnswersRemovals r (txn_wiped result) old new) (sym (wipe_by-some how old.caller.schema (present old) q table seen))
-        (answer (wiped_by how at.before.schema at.before.rows q) result at.before at.after writes' new at.answers leaves)))
+        (answer turn mine tables.ids tables'.ids counted (wiped_by how at.before.schema at.before.rows q) result at.before at.after writes' new at.answers leaves)))
 
     -- ---- the state
 
     abbrev after : State
     after = after_writes old.caller.schema (state_seen old.caller) writes'
 
-    same_tables : at.after ≡ at.before → tables' ≡ tables
-    same_tables same = at.set ∙ ap (slice_set tables place) same ∙ slice_set-same tables place at.before at.there
+    same_tables : at.after ≡ at.before → tables'.tables ≡ tables.tables
+    same_tables same = at.set ∙ ap (slice_set tables.tables place) same ∙ slice_set-same tables.tables place at.before at.there
 
     -- the removals are accepted, one after the other
     after_removals : IsLawfulTable at.before.schema → (gone : List Fields) → wiped_by how at.before.schema at.before.rows q ≡ Ok gone → writes' ≡ old.writes ++ removals q.table gone
@@ -146,31 +166,55 @@ module _ (how : Wipe) (q : Query) (old : Changes) (sound : old.spoiled ≡ false
         ∙ after_writes-append old.caller.schema (state_seen old.caller) old.writes (removals q.table gone)
         ∙ (removals_accepted old.caller.schema q.table (present old) table gone lawful states there (wiped_by_once how at.before.schema at.before.rows q gone listed)).1
 
-    stands : IsLawfulTable at.before.schema → (r : Asked (List Fields)) → wiped_by how at.before.schema at.before.rows q ≡ r → (n : ℕ) → JoinsGone q.table r (Ok n) at.before at.after old.writes writes'
-        → StandFor tables' old.caller.schema after
-    stands lawful (Err why) listed n joins = let no_way : Ok n ≡ Err (Refused (ask_error why)) = joins.0 in absurd (cc)
+    stands : IsLawfulTable at.before.schema → (r : Asked (List Fields)) → wiped_by how at.before.schema at.before.rows q ≡ r → (n : ℕ) → JoinsGone q.table r (Ok n) tables.ids tables'.ids at.before at.after old.writes writes'
+        → StandFor tables'.tables old.caller.schema after
+    stands lawful (Err why) listed n joins = let no_way : Ok n ≡ Err (Refused (ask_error why)) = joins.0.0 in absurd (cc)
     stands lawful (Ok gone) listed n joins =
         let same : at.after.schema ≡ at.before.schema = ap (λ (t : TableChange). t.schema) joins.1 in
-        let quiet : at.after.spoiled ≡ false = ap (λ (t : TableChange). t.spoiled) joins.1 ∙ is_sound tables old.caller.schema (present old) stand place at.before at.after at.there in
+        let quiet : at.after.spoiled ≡ false = ap (λ (t : TableChange). t.spoiled) joins.1 ∙ is_sound tables.tables old.caller.schema (present old) stand place at.before at.after at.there in
         let rows : at.after.rows ≡ without_rows at.before.schema gone at.before.rows = ap (λ (t : TableChange). t.rows) joins.1 in
-        let left = ap (slice_set (present old) place) rows ∙ sym (after_removals lawful gone listed joins.2) in
+        let left = ap (slice_set (present old) place) rows ∙ sym (after_removals lawful gone listed joins.3) in
         subst (λ (ts : List TableChange). StandFor ts old.caller.schema after) (sym at.set)
-        (subst (λ (s : State). StandFor (slice_set tables place at.after) old.caller.schema s) left (stand-set tables old.caller.schema (present old) stand place at.before at.after at.there same quiet))
+        (subst (λ (s : State). StandFor (slice_set tables.tables place at.after) old.caller.schema s) left (stand-set tables.tables old.caller.schema (present old) stand place at.before at.after at.there same quiet))
 
-    stays : (r : Asked (List Fields)) (e : WipeError) → is_memory e ≡ false → JoinsGone q.table r (Err e) at.before at.after old.writes writes' → StandFor tables' old.caller.schema after
-    stays (Ok gone) e quiet joins = let loud : is_memory e ≡ true = ap is_memory joins.0 in absurd (cc)
-    stays (Err why) e quiet joins =
-        subst (λ (ts : List TableChange). StandFor ts old.caller.schema after) (sym (same_tables joins.1))
-        (subst (λ (ws : List Write). StandFor tables old.caller.schema (after_writes old.caller.schema (state_seen old.caller) ws)) (sym joins.2) stand)
+    -- the ids of a wipe are counted
+    counts : (turn : Turned) → AreCounted turn (length old.writes) tables.ids → (r : Asked (List Fields)) (n : ℕ) → JoinsGone q.table r (Ok n) tables.ids tables'.ids at.before at.after old.writes writes' → AreCounted turn (length writes') tables'.ids
+    counts turn counted (Err why) n joins = let no_way : Ok n ≡ Err (Refused (ask_error why)) = joins.0.0 in absurd (cc)
+    counts turn counted (Ok gone) n joins =
+        let count : length gone ≡ length (removals q.table gone) = sym (length-map gone (remove q.table)) in
+        counted_more turn tables.ids tables'.ids old.writes writes' counted (removals q.table gone) at.book
+        (subst (λ (k : ℕ). tables'.ids.next ≤ tables.ids.next + 2 ^ 26 * k) count joins.2) joins.3
+
+    -- nothing has changed, unless the transaction is spoiled
+    pub record Stays : Type 0 where
+      pub kept_tables : tables'.tables ≡ tables.tables
+      pub kept_ids : tables'.ids ≡ tables.ids
+      pub kept_writes : writes' ≡ old.writes
+
+    stays : (r : Asked (List Fields)) (e : WipeError) → is_memory e ≡ false → JoinsGone q.table r (Err e) tables.ids tables'.ids at.before at.after old.writes writes' → Stays
+    stays (Ok gone) e quiet (inr memory, same) = let loud : is_memory e ≡ true = ap is_memory memory in absurd (cc)
+    stays (Ok gone) e quiet (inl spent, same) = record { kept_tables = same_tables spent.0.same; kept_ids = spent.1; kept_writes = same }
+    stays (Err why) e quiet joins = record { kept_tables = same_tables joins.0.1; kept_ids = joins.0.2; kept_writes = joins.1 }
 
 module _ (how : Wipe) (q : Query) (old : Changes) (sound : old.spoiled ≡ false) (place : ℕ) (found : table_place q.table old.caller.schema ≡ Some place)
-    (tables tables' : List TableChange) (stand : StandFor tables old.caller.schema (present old)) (writes' : List Write) where
+    (tables tables' : Tables) (stand : StandFor tables.tables old.caller.schema (present old)) (writes' : List Write) where
   -- the tables stand for the state with the removals
   pub wipe_stand : (n : ℕ) (at : JoinsGoneAt (λ t. wiped_by how t.schema t.rows q) place q.table (Ok n) tables tables' old.writes writes') → IsLawfulTable at.before.schema
-      → StandFor tables' old.caller.schema (after_writes old.caller.schema (state_seen old.caller) writes')
+      → StandFor tables'.tables old.caller.schema (after_writes old.caller.schema (state_seen old.caller) writes')
   wipe_stand n at lawful = stands how q old sound place found tables tables' stand (Ok n) writes' at lawful (wiped_by how at.before.schema at.before.rows q) refl n at.answers
 
-  -- they still stand for the state, unless the transaction is spoiled
-  pub refused_stand : (e : WipeError) → JoinsGoneAt (λ t. wiped_by how t.schema t.rows q) place q.table (Err e) tables tables' old.writes writes' → is_memory e ≡ false
-      → StandFor tables' old.caller.schema (after_writes old.caller.schema (state_seen old.caller) writes')
-  refused_stand e at quiet = stays how q old sound place found tables tables' stand (Err e) writes' at (wiped_by how at.before.schema at.before.rows q) e quiet at.answers
+  pub wipe_counted : (turn : Turned) → AreCounted turn (length old.writes) tables.ids → (n : ℕ) → JoinsGoneAt (λ t. wiped_by how t.schema t.rows q) place q.table (Ok n) tables tables' old.writes writes' → AreCounted turn (length writes') tables'.ids
+  wipe_counted turn counted n at = counts how q old sound place found tables tables' stand (Ok n) writes' at turn counted (wiped_by how at.before.schema at.before.rows q) n at.answers
+
+  module _ (e : WipeError) (at : JoinsGoneAt (λ t. wiped_by how t.schema t.rows q) place q.table (Err e) tables tables' old.writes writes') (quiet : is_memory e ≡ false) where
+    -- they still stand for the state, unless the transaction is spoiled
+    pub refused_stand : StandFor tables'.tables old.caller.schema (after_writes old.caller.schema (state_seen old.caller) writes')
+    refused_stand =
+        let same = stays how q old sound place found tables tables' stand (Err e) writes' at (wiped_by how at.before.schema at.before.rows q) e quiet at.answers in
+        subst (λ (ts : List TableChange). StandFor ts old.caller.schema (after_writes old.caller.schema (state_seen old.caller) writes')) (sym same.kept_tables)
+        (subst (λ (ws : List Write). StandFor tables.tables old.caller.schema (after_writes old.caller.schema (state_seen old.caller) ws)) (sym same.kept_writes) stand)
+
+    pub refused_counted : (turn : Turned) → AreCounted turn (length old.writes) tables.ids → AreCounted turn (length writes') tables'.ids
+    refused_counted turn counted =
+        let same = stays how q old sound place found tables tables' stand (Err e) writes' at (wiped_by how at.before.schema at.before.rows q) e quiet at.answers in
+        counted_same turn tables.ids tables'.ids old.writes writes' counted same.kept_ids same.kept_writes

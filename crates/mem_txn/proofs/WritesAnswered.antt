@@ -1,5 +1,5 @@
 -- What a write transaction answers a write, of what its tables and its list of writes tell.
-use Rattle.std.proofs.Common.{◌≡◌, ◌∙◌, ◌<◌, ◌++◌, ℕ, zero, suc, List, [], ◌∷◌, length, slice_get, Bool, true, false, Option, Some, None, Result, Ok, Err, inl, inr, refl, sym, ap, subst, arith}
+use Rattle.std.proofs.Common.{◌≡◌, ◌∙◌, ◌<◌, ◌≤◌, ◌+◌, ◌^◌, ◌++◌, ℕ, zero, suc, List, [], ◌∷◌, length, slice_get, Bool, true, false, Option, Some, None, Result, Ok, Err, inl, inr, refl, sym, ap, subst, arith}
 use Rattle.std.specs.Prelude.{◌⊎◌, MatchOption}
 use Rattle.mdb_datum.specs.Row.{Fields}
 use Rattle.mdb_encode.specs.KeyRefusal.{wrong_kind, out_of_range, bad_uuid, too_many, too_long}
@@ -12,13 +12,17 @@ use Rattle.mdb_schema.specs.Write.{Write, WriteRefusal, Tested, Changed, Stepped
 use Rattle.mdb_schema.specs.declared.write_error.WriteError.{WriteError}
 use Rattle.mdb_schema.specs.declared.write_error.WriteError.TheVariants.{Memory}
 use Rattle.mdb_schema.proofs.Tables.{table_at-some}
-use Rattle.table_index.specs.Table.{TableChange}
-use Rattle.mem_txn.specs.Changes.{AnswersStep, AnswersTxnWrite, Changes, IsSpoiledBy, name_in, present, table_seen, with_writes}
-use Rattle.mem_txn.specs.Database.{state_seen}
+use Rattle.table_index.specs.Table.{AreSpent, TableChange}
+use Rattle.mem_txn.specs.Changes.{AnswersStep, AnswersTxnWrite, Changes, IsFull, IsSpoiledBy, name_in, present, table_seen, with_writes, writes_in}
+use Rattle.mem_txn.specs.Database.{Caller, state_seen}
 use Rattle.mem_txn.specs.declared.txn_error.TxnWriteError.{TxnWriteError}
 use Rattle.mem_txn.specs.declared.txn_error.TxnWriteError.TheVariants as write_refused
-use Rattle.mem_txn.specs.inner.VersionTables.{AnswersAt, StandFor, is_memory}
-use Rattle.mem_txn.proofs.StepsMade.{accepted, after_writes-more, refused, table_there}
+use Rattle.radix_node.specs.Ids.{Counter}
+use Rattle.mem_txn.specs.inner.ChangesView.{AreCounted}
+use Rattle.mem_txn.specs.inner.VersionTables.{AnswersAt, StandFor, Tables, is_memory}
+use Rattle.mem_txn.specs.inner.Versions.{AreFew, Turned}
+use Rattle.mem_txn.proofs.IdsCounted.{ids_full}
+use Rattle.mem_txn.proofs.StepsMade.{Failed, Spends, accepted, after_writes-more, refused, table_there}
 use Rattle.mem_txn.proofs.TablesFound.{table_at-none}
 
 pub there_is : {X : Type 0} (xs : List X) (at : ℕ) → at < length xs → (x : X) × (slice_get xs at ≡ Some x)
@@ -60,9 +64,9 @@ module _ {A : Type 0} (gives : Option Fields → A → Type 0) (w : Write) (chan
       (subst (λ (o : Option Table). MatchOption o ((result ≡ Err write_refused.UnknownTable) × (new ≡ old)) (λ t. AnswersStep gives w told result old new))
       (sym (table_at-none old.caller.schema (present old) (name_in w) none)) (refl, same))
 
-  module _ (place : ℕ) (found : table_place (name_in w) old.caller.schema ≡ Some place) (tables tables' : List TableChange) (stand : StandFor tables old.caller.schema (present old)) where
+  module _ (place : ℕ) (found : table_place (name_in w) old.caller.schema ≡ Some place) (tables tables' : Tables) (stand : StandFor tables.tables old.caller.schema (present old)) where
     -- of a table of the schema
-    of_table : (result : Result A TxnWriteError) (new : Changes) (t : TableChange) → slice_get tables place ≡ Some t → AnswersStep gives w told result old new → AnswersTxnWrite gives w old.spoiled result old new
+    of_table : (result : Result A TxnWriteError) (new : Changes) (t : TableChange) → slice_get tables.tables place ≡ Some t → AnswersStep gives w told result old new → AnswersTxnWrite gives w old.spoiled result old new
     of_table result new t there answers =
         let table : Table = record { place = place; schema = t.schema; rows = t.rows } in
         let seen : table_seen old (name_in w) ≡ Some table =
@@ -81,43 +85,72 @@ module _ {A : Type 0} (gives : Option Fields → A → Type 0) (w : Write) (chan
 
     -- the tables stand for the state with the write
     pub joins_stand : (x : A) → AnswersAt gives change_in place (Ok x) tables tables' → (writes : List Write) → writes ≡ old.writes ++ w ∷ []
-        → StandFor tables' old.caller.schema (after_writes old.caller.schema (state_seen old.caller) writes)
+        → StandFor tables'.tables old.caller.schema (after_writes old.caller.schema (state_seen old.caller) writes)
     joins_stand x at writes joined =
         let a = accepted gives change old.caller.schema (present old) (name_in w) place found tables tables' stand x at in
         let same = ap (after_writes old.caller.schema (state_seen old.caller)) joined ∙ after_writes-more old.caller.schema (state_seen old.caller) old.writes w ∙ ap (state_or (present old)) (is_step old.caller.schema (present old) ∙ a.step) in
-        subst (λ (s : State). StandFor tables' old.caller.schema s) (sym same) a.left
+        subst (λ (s : State). StandFor tables'.tables old.caller.schema s) (sym same) a.left
+
+    -- the ids that were drawn are of the same book, and few
+    pub joins_few : (x : A) → AnswersAt gives change_in place (Ok x) tables tables' → tables'.ids.next ≤ tables.ids.next + 2 ^ 26
+    joins_few x at = (accepted gives change old.caller.schema (present old) (name_in w) place found tables tables' stand x at).few
 
     -- ---- refused
 
     memory_step : (r : Stepped) (e : WriteError) (new : Changes) → e ≡ Memory → IsSpoiledBy old new → AnswersStep gives w r (Err (write_refused.Refused e)) old new
-    memory_step (Ok after) e new memory spoiled = (ap write_refused.Refused memory, spoiled)
+    memory_step (Ok after) e new memory spoiled = inr (ap write_refused.Refused memory, spoiled)
     memory_step (Err why) e new memory spoiled = inr (ap write_refused.Refused memory, spoiled)
 
     module _ (e : WriteError) (new : Changes) (is : new ≡ record old { spoiled = is_memory e }) where
-      memory_answer : e ≡ Memory → place < length tables → AnswersTxnWrite gives w old.spoiled (Err (write_refused.Refused e)) old new
+      memory_answer : e ≡ Memory → place < length tables.tables → AnswersTxnWrite gives w old.spoiled (Err (write_refused.Refused e)) old new
       memory_answer memory within =
-          let t = there_is tables place within in
+          let t = there_is tables.tables place within in
           of_table (Err (write_refused.Refused e)) new t.0 t.1
           (memory_step told e new memory (is ∙ ap (λ (b : Bool). let c : Changes = record old { spoiled = b } in c) (ap is_memory memory)))
 
-      -- the tables still stand for the state, unless the transaction is spoiled
-      pub refuses_stand : (e ≡ Memory) ⊎ AnswersAt gives change_in place (Err e) tables tables' → is_memory e ≡ false → StandFor tables' old.caller.schema (present old)
-      refuses_stand (inl memory) quiet = let yes : is_memory e ≡ true = ap is_memory memory in absurd (cc)
-      refuses_stand (inr at) quiet =
-          elim (refused gives change old.caller.schema (present old) (name_in w) place found tables tables' stand e at) [
-            | inl r ↦ subst (λ (ts : List TableChange). StandFor ts old.caller.schema (present old)) (sym r.1.unchanged) stand
-            | inr memory ↦ (let yes : is_memory e ≡ true = ap is_memory memory in absurd (cc))
-          ]
+      loud : {X : Type 0} → e ≡ Memory → is_memory e ≡ false → X
+      loud memory quiet = let yes : is_memory e ≡ true = ap is_memory memory in absurd (cc)
 
-      pub refuses_answer : place < length tables → (e ≡ Memory) ⊎ AnswersAt gives change_in place (Err e) tables tables' → AnswersTxnWrite gives w old.spoiled (Err (write_refused.Refused e)) old new
-      refuses_answer within (inl memory) = memory_answer memory within
-      refuses_answer within (inr at) =
-          elim (refused gives change old.caller.schema (present old) (name_in w) place found tables tables' stand e at) [
-            | inl r ↦ (
-                let quiet : is_memory e ≡ old.spoiled = ap is_memory r.1.error ∙ refusal_told r.0 ∙ sym sound in
-                let same : new ≡ old = is ∙ ap (λ (b : Bool). let c : Changes = record old { spoiled = b } in c) quiet in
-                of_table (Err (write_refused.Refused e)) new at.before at.there
-                (subst (λ (s : Stepped). AnswersStep gives w s (Err (write_refused.Refused e)) old new) (sym (is_step old.caller.schema (present old) ∙ r.1.stepped))
-                (inl (ap write_refused.Refused r.1.error, same))))
-            | inr memory ↦ memory_answer memory within
-          ]
+      abbrev Failure : Type 0
+      Failure = Failed gives change old.caller.schema (present old) (name_in w) place found tables tables' stand e
+
+      same_of : Failure → is_memory e ≡ false → (tables'.tables ≡ tables.tables) × (tables'.ids ≡ tables.ids)
+      same_of (inl r) quiet = (r.1.unchanged, r.1.ids)
+      same_of (inr (inl spent)) quiet = (spent.unchanged, spent.ids)
+      same_of (inr (inr memory)) quiet = loud memory quiet
+
+      -- nothing has changed, unless the transaction is spoiled
+      pub refuses_same : (e ≡ Memory) ⊎ AnswersAt gives change_in place (Err e) tables tables' → is_memory e ≡ false → (tables'.tables ≡ tables.tables) × (tables'.ids ≡ tables.ids)
+      refuses_same (inl memory) quiet = loud memory quiet
+      refuses_same (inr at) quiet = same_of (refused gives change old.caller.schema (present old) (name_in w) place found tables tables' stand e at) quiet
+
+      -- the tables still stand for the state
+      pub refuses_stand : (e ≡ Memory) ⊎ AnswersAt gives change_in place (Err e) tables tables' → is_memory e ≡ false → StandFor tables'.tables old.caller.schema (present old)
+      refuses_stand at quiet = subst (λ (ts : List TableChange). StandFor ts old.caller.schema (present old)) (sym (refuses_same at quiet).0) stand
+
+      -- there are too few ids
+      module _ (turn : Turned) (mine : turn.caller ≡ old.caller) (counted : AreCounted turn (length old.writes) tables.ids) where
+        full : AreSpent tables.ids.next 1 → IsFull 1 old
+        full spent = subst (λ (p : Caller). 2 ^ 36 ≤ writes_in p.seen + length old.writes + 1) mine (ids_full tables.ids.next (writes_in turn.caller.seen + length old.writes) 1 counted.few spent)
+
+        spent_answer : (t : TableChange) → slice_get tables.tables place ≡ Some t → Spends gives change old.caller.schema (present old) (name_in w) place found tables tables' stand e → AnswersTxnWrite gives w old.spoiled (Err (write_refused.Refused e)) old new
+        spent_answer t there spent =
+            let quiet : is_memory e ≡ old.spoiled = ap is_memory spent.error ∙ sym sound in
+            let same : new ≡ old = is ∙ ap (λ (b : Bool). let c : Changes = record old { spoiled = b } in c) quiet in
+            of_table (Err (write_refused.Refused e)) new t there
+            (subst (λ (s : Stepped). AnswersStep gives w s (Err (write_refused.Refused e)) old new) (sym (is_step old.caller.schema (present old) ∙ spent.step))
+            (inl (record { error = ap write_refused.Refused spent.error; full = full spent.few; same = same })))
+
+        answer_of : place < length tables.tables → (t : TableChange) → slice_get tables.tables place ≡ Some t → Failure → AnswersTxnWrite gives w old.spoiled (Err (write_refused.Refused e)) old new
+        answer_of within t there (inl r) =
+            let quiet : is_memory e ≡ old.spoiled = ap is_memory r.1.error ∙ refusal_told r.0 ∙ sym sound in
+            let same : new ≡ old = is ∙ ap (λ (b : Bool). let c : Changes = record old { spoiled = b } in c) quiet in
+            of_table (Err (write_refused.Refused e)) new t there
+            (subst (λ (s : Stepped). AnswersStep gives w s (Err (write_refused.Refused e)) old new) (sym (is_step old.caller.schema (present old) ∙ r.1.stepped))
+            (inl (ap write_refused.Refused r.1.error, same)))
+        answer_of within t there (inr (inl spent)) = spent_answer t there spent
+        answer_of within t there (inr (inr memory)) = memory_answer memory within
+
+        pub refuses_answer : place < length tables.tables → (e ≡ Memory) ⊎ AnswersAt gives change_in place (Err e) tables tables' → AnswersTxnWrite gives w old.spoiled (Err (write_refused.Refused e)) old new
+        refuses_answer within (inl memory) = memory_answer memory within
+        refuses_answer within (inr at) = answer_of within at.before at.there (refused gives change old.caller.schema (present old) (name_in w) place found tables tables' stand e at)

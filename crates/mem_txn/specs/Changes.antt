@@ -1,10 +1,10 @@
 -- A write transaction, as contracts see it, and what its calls are answered.
-use Rattle.std.specs.Prelude.{◌≡◌, ◌⊎◌, ◌++◌, ℕ, Bool, true, false, List, [], ◌∷◌, length}
+use Rattle.std.specs.Prelude.{◌≡◌, ◌≤◌, ◌⊎◌, ◌++◌, ◌+◌, ◌^◌, ℕ, Bool, true, false, List, [], ◌∷◌, length}
 use Rattle.std.specs.Prelude.{Option, is_some, Some, Result, Ok, Err, MatchOption, MatchResult}
 use Rattle.mdb_datum.specs.Row.{Fields}
 use Rattle.mdb_encode.specs.Bytes.{Bytes}
 use Rattle.mdb_schema.specs.Answer.{Asked}
-use Rattle.mdb_schema.specs.History.{Commit, after_writes}
+use Rattle.mdb_schema.specs.History.{Commit, History, after_writes}
 use Rattle.mdb_schema.specs.Refusals.{AnswersAsk, ask_error, write_error}
 use Rattle.mdb_schema.specs.State.{State, Table, table_at}
 use Rattle.mdb_schema.specs.Write.{Write, put, remove, Stepped, step}
@@ -77,13 +77,35 @@ AnswersTxnAsk false told result = AnswersQuestion told result
 abbrev pub IsSpoiledBy : Changes → Changes → Type 0
 IsSpoiledBy old new = new ≡ record old { spoiled = true }
 
+-- how many writes commits have
+abbrev pub writes_in : History → ℕ
+writes_in [] = 0
+writes_in (c ∷ H) = length c.writes + writes_in H
+
+-- the writes of the commits on which the transaction stands, its own, and so many rows more are
+-- together at least 2^36; with fewer there are ids for their cells
+abbrev pub IsFull : ℕ → Changes → Type 0
+IsFull rows t = 2 ^ 36 ≤ writes_in t.caller.seen + length t.writes + rows
+
+-- there are too few ids for the cells of so many rows, and nothing has changed
+pub record AreIdsSpent {E : Type 0} (rows : ℕ) (spent e : E) (old new : Changes) : Type 0 where
+  pub error : e ≡ spent
+  pub full : IsFull rows old
+  pub same : new ≡ old
+
+-- a write of one row that no rule refuses finds too few ids, or no memory
+abbrev pub IsGivenUp : TxnWriteError → Changes → Changes → Type 0
+IsGivenUp e old new =
+    AreIdsSpent 1 (write_refused.Refused write_errors.IdsSpent) e old new
+    ⊎ ((e ≡ write_refused.Refused write_errors.Memory) × IsSpoiledBy old new)
+
 -- a write to a table of the schema: what it gives of the row that was there, and that it joins the
 -- transaction's writes; or the first rule that it breaks, and that nothing has changed
 abbrev pub AnswersStep : {A : Type 0} → (Option Fields → A → Type 0) → Write → Stepped
     → Result A TxnWriteError → Changes → Changes → Type 0
 AnswersStep gives w (Ok after) result old new =
     MatchResult result (λ x. gives after.1 x × (new ≡ with_writes old (w ∷ [])))
-    (λ e. (e ≡ write_refused.Refused write_errors.Memory) × IsSpoiledBy old new)
+    (λ e. IsGivenUp e old new)
 AnswersStep gives w (Err why) result old new =
     MatchResult result (λ x. ⊥) (λ e.
     ((e ≡ write_refused.Refused (write_error why)) × (new ≡ old))
@@ -113,12 +135,18 @@ gives_row was row = was ≡ Some row
 
 -- ---- wipes
 
+-- a wipe of so many rows that no rule refuses finds too few ids, or no memory
+abbrev pub IsWipeGivenUp : ℕ → TxnWipeError → Changes → Changes → Type 0
+IsWipeGivenUp rows e old new =
+    AreIdsSpent rows (wipe_refused.Refused wipe_errors.IdsSpent) e old new
+    ⊎ ((e ≡ wipe_refused.Refused wipe_errors.Memory) × IsSpoiledBy old new)
+
 -- a wipe of a table of the schema: how many rows it takes out, and that these removals join the
 -- writes; a rule that the question breaks is always told
 abbrev pub AnswersRemovals : Asked (List Write) → Result ℕ TxnWipeError → Changes → Changes → Type 0
 AnswersRemovals (Ok ws) result old new =
     MatchResult result (λ n. (n ≡ length ws) × (new ≡ with_writes old ws))
-    (λ e. (e ≡ wipe_refused.Refused wipe_errors.Memory) × IsSpoiledBy old new)
+    (λ e. IsWipeGivenUp (length ws) e old new)
 AnswersRemovals (Err why) result old new =
     (result ≡ Err (wipe_refused.Refused (wipe_errors.Refused (ask_error why)))) × (new ≡ old)
 

@@ -1,6 +1,7 @@
 pub mod Accepted
 pub mod ChangesView
 pub mod Commits
+pub mod EmptyTables
 pub mod Stored
 pub mod VersionTables
 pub mod Versions

@@ -56,8 +56,8 @@ impl Db {
 
 /// The transaction of a caller that has the turn. A refusal gives the turn back.
 fn begun<D: Drop>(db: &Db, turn: Turn) -> Result<WriteTxn<D>, BeginRefused>
-    requires own { IsOf db.now turn }
-    ensures { AnswersTurn turn result }
+    requires own { IsOf db.now turn.caller }
+    ensures { AnswersTurn turn.caller result }
 {
     let number = turn.count();
     if number == COMMITS {

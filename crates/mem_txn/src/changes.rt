@@ -6,8 +6,9 @@ ghost use Rattle.mdb_schema.specs.Wipe.{wipe, wipe_by_prefix};
 ghost use Rattle.mdb_schema.specs.Write.{put, remove, put_row, remove_row};
 ghost use Rattle.mem_txn.specs.Changes.{AnswersTxnAsk, AnswersTxnWipe, AnswersTxnWrite, begun, gives_replaced, gives_row, present, view_at};
 ghost use Rattle.mem_txn.specs.Database.{IsOf, state_seen};
-ghost use Rattle.mem_txn.specs.inner.Commits.{next_version};
-ghost use Rattle.mem_txn.specs.inner.VersionTables.{IsSound, Joins, StandFor, is_memory, schemas_of, standing, state_of};
+ghost use Rattle.mem_txn.specs.inner.ChangesView.{AreCounted};
+ghost use Rattle.mem_txn.specs.inner.Commits.{IsNextOf};
+ghost use Rattle.mem_txn.specs.inner.VersionTables.{AreWithin, IsSound, Joins, StandFor, is_memory, schemas_of, standing, state_of};
 ghost use Rattle.mem_txn.specs.inner.Wipes.{wipe_by};
 
 use crate::accepted::{Accepted, Kind};
@@ -25,6 +26,7 @@ use mdb_schema::{Answer, AskError, Query, TableDef, WriteError};
 use std::alloc::{AllocError, Global};
 use std::marker::Model;
 use std::sync::Arc;
+use watch_word::Front;
 
 /// A caller's write transaction, seen as `Changes`: the caller, the writes that were accepted, and
 /// whether it is spoiled. It can't be dropped.
@@ -55,10 +57,11 @@ impl Changes {
     /// A transaction without writes, whose tables stand after the commits that its caller has seen.
     /// It takes no memory.
     pub(crate) fn begun(alloc: Global, pass: Turn, number: u64, tables: TxnTables) -> Changes
-        requires few { length pass.seen < 2 ^ 63 }
-        requires number { number ≡ length pass.seen }
-        requires tables { StandFor tables pass.schema (state_seen pass) }
-        ensures { result ≡ begun pass }
+        requires few { length pass.caller.seen < 2 ^ 63 }
+        requires number { number ≡ length pass.caller.seen }
+        requires tables { StandFor tables.tables pass.caller.schema (state_seen pass.caller) }
+        requires ids { AreCounted pass 0 tables.ids }
+        ensures { result ≡ begun pass.caller }
     {
         Changes {
             pass,
@@ -114,7 +117,8 @@ impl Changes {
             return Err(TxnWriteError::UnknownTable);
         };
         let def = def_at(&self.pass, place);
-        match put_in(place, def, row, &mut self.tables, &mut self.writes) {
+        let front = self.pass.front();
+        match put_in(place, def, row, front, &mut self.tables, &mut self.writes) {
             Ok(replaced) => Ok(replaced),
             Err(error) => {
                 self.spoiled = is_memory(&error);
@@ -135,7 +139,8 @@ impl Changes {
             return Err(TxnWriteError::UnknownTable);
         };
         let def = def_at(&self.pass, place);
-        match remove_in(place, def, row, &mut self.tables, &mut self.writes) {
+        let front = self.pass.front();
+        match remove_in(place, def, row, front, &mut self.tables, &mut self.writes) {
             Ok(old) => Ok(old),
             Err(error) => {
                 self.spoiled = is_memory(&error);
@@ -174,7 +179,16 @@ impl Changes {
             return Err(TxnWipeError::UnknownTable);
         };
         let def = def_at(&self.pass, place);
-        match wipe_in(place, def, wipe, query, &mut self.tables, &mut self.writes) {
+        let front = self.pass.front();
+        match wipe_in(
+            place,
+            def,
+            wipe,
+            query,
+            front,
+            &mut self.tables,
+            &mut self.writes,
+        ) {
             Ok(count) => Ok(count),
             Err(error) => {
                 self.spoiled = wipe::is_memory(&error);
@@ -188,7 +202,7 @@ impl Changes {
     pub(crate) fn stand(&mut self, number: u64) -> Result<View, AllocError>
         requires sound { self.old.spoiled ≡ false }
         requires few { number ≤ 2 ^ 63 }
-        ensures value { IfOk result (λ v. v ≡ view_at number self.old) }
+        ensures value { IfOk result (λ v. v.view ≡ view_at number self.old) }
         ensures unchanged { self.new ≡ self.old }
     {
         let schema = self.pass.share_schema()?;
@@ -201,8 +215,8 @@ impl Changes {
     pub(crate) fn freeze(self, db: &Db) -> Result<(Turn, Ready<Version>), Turn>
         requires sound { self.spoiled ≡ false }
         ensures { MatchResult result
-            (λ made. (made.0 ≡ self.caller) × (made.1 ≡ next_version self))
-            (λ turn. turn ≡ self.caller) }
+            (λ made. IsNextOf self made.0 made.1)
+            (λ turn. turn.caller ≡ self.caller) }
     {
         let Changes {
             pass,
@@ -245,22 +259,25 @@ fn next_version(
     writes: Vec<Accepted>,
     number: u64,
 ) -> Result<Ready<Version>, AllocError>
-    requires sound { All IsSound tables }
-    requires schemas { schemas_of (map standing tables) ≡ pass.now.schema }
+    requires sound { All IsSound tables.tables }
+    requires schemas { schemas_of (map standing tables.tables) ≡ pass.now.caller.schema }
     requires few { number ≤ 2 ^ 63 }
-    ensures { IfOk result (λ r. r ≡ record {
+    ensures value { IfOk result (λ r. r ≡ record {
       view = record {
-        schema = pass.now.schema;
+        schema = pass.now.caller.schema;
         number = number;
-        state = state_of (map standing tables);
+        state = state_of (map standing tables.tables);
       };
+      trees = r.trees;
       writes = writes.items;
+      ids = tables.ids;
     }) }
+    ensures within { IfOk result (λ r. All (AreWithin tables.ids) r.trees) }
 {
     let schema = pass.share_schema()?;
-    let tables = tables.freeze()?;
+    let (tables, ids) = tables.freeze()?;
     let view = View::of(schema, tables, number);
-    let version = Arc::new(db.alloc, Version::of(view, writes))?;
+    let version = Arc::new(db.alloc, Version::of(view, writes, ids))?;
     db.shared.ready(version)
 }
 
@@ -273,8 +290,8 @@ fn is_memory(error: &WriteError) -> bool
 
 /// What the schema says of the table at a place.
 fn def_at(pass: &Turn, place: usize) -> &TableDef
-    requires { place < length pass.now.schema }
-    ensures there { slice_get pass.now.schema place ≡ Some result.now }
+    requires { place < length pass.now.caller.schema }
+    ensures there { slice_get pass.now.caller.schema place ≡ Some result.now }
     ensures lawful { IsLawfulTable result.now }
 {
     match pass.schema().table(place) {
@@ -288,16 +305,18 @@ fn put_in(
     place: usize,
     def: &TableDef,
     row: &Row,
+    front: &Front,
     tables: &mut TxnTables,
     writes: &mut Vec<Accepted>,
 ) -> Result<bool, WriteError>
-    requires within { place < length tables.old }
-    requires sound { All IsSound tables.old }
+    requires within { place < length tables.old.tables }
+    requires sound { All IsSound tables.old.tables }
+    requires book { front.now.book ≡ tables.old.ids.book }
     ensures { Joins gives_replaced (λ t. put_row t.schema row.now t.rows) place
         (put def.now.name row.now) result tables.old tables.new writes.old.items writes.new.items }
 {
     let accepted = Accepted::of(Kind::Put, def, row)?;
-    match tables.put(place, row) {
+    match tables.put(place, front, row) {
         Ok(replaced) => {
             writes.push(accepted)?;
             Ok(replaced)
@@ -311,17 +330,19 @@ fn remove_in(
     place: usize,
     def: &TableDef,
     row: &Row,
+    front: &Front,
     tables: &mut TxnTables,
     writes: &mut Vec<Accepted>,
 ) -> Result<Row, WriteError>
-    requires within { place < length tables.old }
-    requires sound { All IsSound tables.old }
+    requires within { place < length tables.old.tables }
+    requires sound { All IsSound tables.old.tables }
+    requires book { front.now.book ≡ tables.old.ids.book }
     ensures { Joins gives_row (λ t. remove_row t.schema row.now t.rows) place
         (remove def.now.name row.now) result tables.old tables.new writes.old.items
         writes.new.items }
 {
     let accepted = Accepted::of(Kind::Remove, def, row)?;
-    match tables.remove(place, row) {
+    match tables.remove(place, front, row) {
         Ok(old) => {
             writes.push(accepted)?;
             Ok(old)

@@ -10,6 +10,7 @@ use crate::version::Version;
 use crate::view::View;
 use db_front::{Shared, Shown, make_shared};
 use mdb_schema::Schema;
+use radix_node::Ids;
 use std::alloc::{AllocError, Global};
 use std::marker::Model;
 use std::sync::{Arc, Wait};
@@ -45,10 +46,11 @@ impl Db {
         ensures callers { IfOk result (λ made. made.0.callers ≡ callers) }
         ensures passes { IfOk result (λ made. made.1 ≡ new_callers made.0 callers) }
     {
-        let view = View::empty(alloc, schema)?;
+        let (book, log) = open_book(alloc)?;
+        let mut ids = Ids::starting(book, 0);
+        let view = View::empty(alloc, schema, &log, &mut ids)?;
         let schema = view.share_schema()?;
-        let value = Arc::new(alloc, Version::opening(alloc, view))?;
-        let (_book, log) = open_book(alloc)?;
+        let value = Arc::new(alloc, Version::opening(alloc, view, ids))?;
         let (shared, list) = make_shared(alloc, value, log, callers)?;
         let db = Db {
             alloc,

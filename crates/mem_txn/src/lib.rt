@@ -7,6 +7,10 @@
 //! [`Snapshot`] of one stays as it is. A read begins in constant time, a write and a commit in the
 //! number of tables; a table is copied at the first write to it, by paths.
 //!
+//! Each value keeps the counter of the ids that its cells have, and a transaction draws from a copy of
+//! it. So an abort gives its ids back. A write is refused for want of ids only where there are at least
+//! 2^36 writes.
+//!
 //! All commits are one list, of which each pass has seen a beginning, as `db_front` has it. What the
 //! clauses say of a pass stands in `specs/Database.antt`, and of a transaction in
 //! `specs/Transactions.antt`. A call that takes a runtime may wait for another caller; `write` and

@@ -22,13 +22,13 @@ impl Model for Snapshot {
 
     ghost coded = { view_code };
 
-    ghost view = { λ s. s.view };
+    ghost view = { λ s. s.view.view };
 }
 
 impl Snapshot {
     /// A snapshot of this state.
     pub(crate) fn of(view: View) -> Snapshot
-        ensures { result ≡ view }
+        ensures { result ≡ view.view }
     {
         Snapshot { view }
     }

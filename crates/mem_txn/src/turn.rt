@@ -2,9 +2,11 @@
 ghost use Rattle.std.specs.Prelude.{◌≡◌, ◌≤◌, ◌<◌, ◌^◌, ◌++◌, ◌∷◌, [], IfOk, length};
 ghost use Rattle.std.specs.Arc.{arc_value};
 ghost use Rattle.mem_txn.specs.Database.{IsOf, state_seen};
+ghost use Rattle.db_front.specs.Commits.{HasFirings};
+ghost use Rattle.mem_txn.specs.inner.ChangesView.{AreCounted};
 ghost use Rattle.mem_txn.specs.inner.Commits.{IsNext};
 ghost use Rattle.mem_txn.specs.inner.VersionTables.{StandFor};
-ghost use Rattle.mem_txn.specs.inner.Versions.{IsToken, StandsFor, caller_of};
+ghost use Rattle.mem_txn.specs.inner.Versions.{IsLogOf, IsToken, StandsFor, caller_of};
 
 use crate::db::Db;
 use crate::pass::{Pass, Token};
@@ -17,8 +19,8 @@ use std::marker::Model;
 use std::sync::{Arc, Wait};
 use watch_word::Front;
 
-/// A caller that has the writer's turn, with the value after all commits; seen as a `Caller`. It
-/// can't be dropped.
+/// A caller that has the writer's turn, with the value after all commits; seen as the caller and the
+/// value's ids. It can't be dropped.
 pub(crate) struct Turn {
     token: Token,
     base: Arc<Version, Global>,
@@ -26,12 +28,12 @@ pub(crate) struct Turn {
 }
 
 impl Model for Turn {
-    ghost use Rattle.mem_txn.specs.Database.{Caller};
-    ghost use Rattle.mem_txn.specs.inner.Stored.{caller_code};
+    ghost use Rattle.mem_txn.specs.inner.Stored.{turned_code};
+    ghost use Rattle.mem_txn.specs.inner.Versions.{Turned};
 
-    ghost Value = { Caller };
+    ghost Value = { Turned };
 
-    ghost coded = { caller_code };
+    ghost coded = { turned_code };
 
     ghost use Rattle.mem_txn.specs.inner.Views.{turn_view, IsTurn};
 
@@ -45,7 +47,8 @@ impl Turn {
     pub(crate) fn of(token: Token, shown: Shown<Version>) -> Turn
         requires begun { IsToken 1 token }
         requires stands { StandsFor token.seen (arc_value shown.value) }
-        ensures { result ≡ caller_of token }
+        requires log { HasFirings IsLogOf shown.number token.seen shown.log }
+        ensures { result.caller ≡ caller_of token }
     {
         let Shown {
             value,
@@ -62,7 +65,7 @@ impl Turn {
 
     /// The number of all commits.
     pub(crate) fn count(&self) -> u64
-        ensures number { result ≡ length self.now.seen }
+        ensures number { result ≡ length self.now.caller.seen }
         ensures few { result ≤ 2 ^ 63 }
     {
         self.base.view().number()
@@ -70,29 +73,40 @@ impl Turn {
 
     /// The schema of its database.
     pub(crate) fn schema(&self) -> &Schema
-        ensures { result.now ≡ self.now.schema }
+        ensures { result.now ≡ self.now.caller.schema }
     {
         self.base.view().schema()
     }
 
     /// A second owner of the schema.
     pub(crate) fn share_schema(&self) -> Result<Arc<Schema, Global>, AllocError>
-        ensures { IfOk result (λ s. arc_value s ≡ self.now.schema) }
+        ensures { IfOk result (λ s. arc_value s ≡ self.now.caller.schema) }
     {
         self.base.view().share_schema()
     }
 
-    /// Tables that nobody has written to. It takes memory for the list of them.
-    pub(crate) fn tables(&self, alloc: Global) -> Result<TxnTables, AllocError>
-        ensures { IfOk result (λ ts. StandFor ts self.now.schema (state_seen self.now)) }
+    /// The log of firings, of its database's book.
+    pub(crate) fn front(&self) -> &Front
+        ensures { result.now.book ≡ self.now.ids.book }
     {
-        TxnTables::of(alloc, self.base.view().tables())
+        &self.log
+    }
+
+    /// Tables that nobody has written to, with the ids that come next. It takes memory for the list of
+    /// them. So what an aborted transaction drew is drawn again.
+    pub(crate) fn tables(&self, alloc: Global) -> Result<TxnTables, AllocError>
+        ensures tables { IfOk result
+            (λ ts. StandFor ts.tables self.now.caller.schema (state_seen self.now.caller)) }
+        ensures ids { IfOk result (λ ts. AreCounted self.now 0 ts.ids) }
+    {
+        let ids = self.base.share_ids()?;
+        TxnTables::of(alloc, self.base.view().tables(), ids)
     }
 
     /// Gives the turn back without a commit. It takes no memory.
     pub(crate) fn leave(self, db: &Db) -> Pass
-        requires own { IsOf db.now self }
-        ensures { result ≡ self }
+        requires own { IsOf db.now self.caller }
+        ensures { result ≡ self.caller }
     {
         let Turn {
             mut token,
@@ -108,12 +122,12 @@ impl Turn {
     /// Shows the next value, which is the commit, and gives the turn back. It takes no memory. What
     /// the value before it has alone is dropped once the turn is back.
     pub(crate) fn commit<R: Wait>(self, rt: &R, db: &Db, ready: Ready<Version>) -> Pass
-        requires own { IsOf db.now self }
-        requires few { length self.seen < 2 ^ 63 }
+        requires own { IsOf db.now self.caller }
+        requires few { length self.caller.seen < 2 ^ 63 }
         requires next { IsNext self ready }
-        ensures { result ≡ record self {
-          seen = self.seen ++ record { caller = self.number; writes = ready.writes } ∷ [];
-          own = self.own ++ record { caller = self.number; writes = ready.writes } ∷ [];
+        ensures { let p = self.caller in result ≡ record p {
+          seen = p.seen ++ record { caller = p.number; writes = ready.writes } ∷ [];
+          own = p.own ++ record { caller = p.number; writes = ready.writes } ∷ [];
         } }
     {
         let Turn {

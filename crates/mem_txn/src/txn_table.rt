@@ -1,20 +1,22 @@
 //! A table of a write transaction.
-ghost use Rattle.std.specs.Prelude.{◌≡◌, false, IfOk};
+ghost use Rattle.std.specs.Prelude.{◌≡◌, ◌≤◌, false, IfOk, OnErr};
 ghost use Rattle.std.specs.Arc.{arc_value};
 ghost use Rattle.mdb_schema.specs.Answer.{ask_rows};
 ghost use Rattle.mdb_schema.specs.Refusals.{AnswersAsk};
 ghost use Rattle.mdb_schema.specs.Write.{put_row, remove_row};
 ghost use Rattle.mem_txn.specs.Changes.{gives_replaced, gives_row};
-ghost use Rattle.mem_txn.specs.inner.VersionTables.{AnswersRows, standing, unwritten};
+ghost use Rattle.mem_txn.specs.inner.VersionTables.{AnswersRows, IsWithin, standing, unwritten};
 ghost use Rattle.mem_txn.specs.inner.Wipes.{AnswersGone, wiped_by};
 
 use crate::wipe::Wipe;
 use mdb_datum::Row;
 use mdb_schema::{Answer, AskError, Query, Rows, WriteError};
+use radix_node::Ids;
 use std::alloc::{AllocError, Global};
 use std::marker::Model;
 use std::sync::Arc;
 use table_index::{Table, TableTxn, WipeError};
+use watch_word::Front;
 
 /// A table of a write transaction, which is opened at the first write to it; seen as a
 /// `TableChange`.
@@ -47,7 +49,8 @@ impl TxnTable {
 
     /// The open table, which is taken out. After `AllocError` all is as before.
     fn opened(&mut self) -> Result<TableTxn, AllocError>
-        ensures { IfOk result (λ t. t ≡ self.old) }
+        ensures open { IfOk result (λ t. t ≡ self.old) }
+        ensures unchanged { OnErr result (self.new ≡ self.old) }
     {
         match self.open.take() {
             Some(txn) => Ok(txn),
@@ -56,26 +59,47 @@ impl TxnTable {
     }
 
     /// Puts a row, and tells whether one was replaced. After want of memory the rows mean nothing.
-    pub(crate) fn put(&mut self, row: &Row) -> Result<bool, WriteError>
+    pub(crate) fn put(
+        &mut self,
+        front: &Front,
+        ids: &mut Ids,
+        row: &Row,
+    ) -> Result<bool, WriteError>
         requires sound { self.old.spoiled ≡ false }
-        ensures { AnswersRows gives_replaced
-            (put_row self.old.schema row.now self.old.rows) result self.old self.new }
+        requires book { front.now.book ≡ ids.old.book }
+        requires within { IsWithin ids.old self.old }
+        ensures answers { AnswersRows gives_replaced
+            (put_row self.old.schema row.now self.old.rows) result ids.old ids.new self.old self.new }
+        ensures within { IsWithin ids.new self.new }
+        ensures book { ids.new.book ≡ ids.old.book }
+        ensures later { ids.old.next ≤ ids.new.next }
     {
         let mut txn = self.opened()?;
-        let told = txn.put(row);
+        let told = txn.put(front, ids, row);
         self.open = Some(txn);
         told
     }
 
     /// Takes out the row of another's `id` key, and gives it. After want of memory the rows mean
     /// nothing.
-    pub(crate) fn remove(&mut self, row: &Row) -> Result<Row, WriteError>
+    pub(crate) fn remove(
+        &mut self,
+        front: &Front,
+        ids: &mut Ids,
+        row: &Row,
+    ) -> Result<Row, WriteError>
         requires sound { self.old.spoiled ≡ false }
-        ensures { AnswersRows gives_row
-            (remove_row self.old.schema row.now self.old.rows) result self.old self.new }
+        requires book { front.now.book ≡ ids.old.book }
+        requires within { IsWithin ids.old self.old }
+        ensures answers { AnswersRows gives_row
+            (remove_row self.old.schema row.now self.old.rows) result ids.old ids.new self.old
+            self.new }
+        ensures within { IsWithin ids.new self.new }
+        ensures book { ids.new.book ≡ ids.old.book }
+        ensures later { ids.old.next ≤ ids.new.next }
     {
         let mut txn = self.opened()?;
-        let told = txn.remove(row);
+        let told = txn.remove(front, ids, row);
         self.open = Some(txn);
         told
     }
@@ -83,16 +107,28 @@ impl TxnTable {
     /// Takes out the rows of a wipe, and gives them. A table that isn't open is opened once no rule
     /// refuses the wipe, so that want of memory is never told in place of a rule. After it the rows
     /// mean nothing.
-    pub(crate) fn wipe(&mut self, wipe: Wipe, query: &Query) -> Result<Rows, WipeError>
+    pub(crate) fn wipe(
+        &mut self,
+        front: &Front,
+        ids: &mut Ids,
+        wipe: Wipe,
+        query: &Query,
+    ) -> Result<Rows, WipeError>
         requires sound { self.old.spoiled ≡ false }
-        ensures { AnswersGone
-            (wiped_by wipe self.old.schema self.old.rows query.now) result self.old self.new }
+        requires book { front.now.book ≡ ids.old.book }
+        requires within { IsWithin ids.old self.old }
+        ensures answers { AnswersGone
+            (wiped_by wipe self.old.schema self.old.rows query.now) result ids.old ids.new self.old
+            self.new }
+        ensures within { IsWithin ids.new self.new }
+        ensures book { ids.new.book ≡ ids.old.book }
+        ensures later { ids.old.next ≤ ids.new.next }
     {
         let mut txn = match self.open.take() {
             Some(txn) => txn,
             None => wipe.begin(&self.shared, query)?,
         };
-        let told = wipe.take(&mut txn, query);
+        let told = wipe.take(&mut txn, front, ids, query);
         self.open = Some(txn);
         told
     }
@@ -122,14 +158,18 @@ impl TxnTable {
         }
     }
 
-    /// The table that the writes end with. It takes memory only where the table is open.
+    /// The table that the writes end with. It takes memory only where the table is open. The notices of
+    /// the cells that are gone are dropped: no commit fires a cell yet.
     pub(crate) fn freeze(self, alloc: Global) -> Result<Arc<Table, Global>, AllocError>
         requires sound { self.spoiled ≡ false }
         ensures { IfOk result (λ t. arc_value t ≡ standing self) }
     {
         let TxnTable { shared, open } = self;
         match open {
-            Some(txn) => Ok(Arc::new(alloc, txn.freeze()?)?),
+            Some(txn) => {
+                let (table, _notices) = txn.freeze()?;
+                Ok(Arc::new(alloc, table)?)
+            }
             None => Ok(shared),
         }
     }

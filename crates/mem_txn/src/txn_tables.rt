@@ -3,91 +3,110 @@ ghost use Rattle.std.specs.Prelude.{◌≡◌, ◌<◌, ◌++◌, ◌∷◌, [],
 ghost use Rattle.std.specs.Arc.{arc_value};
 ghost use Rattle.mdb_schema.specs.Write.{put_row, remove_row};
 ghost use Rattle.mem_txn.specs.Changes.{gives_replaced, gives_row};
-ghost use Rattle.mem_txn.specs.inner.VersionTables.{AnswersAskAt, AnswersAt, IsSound, standing, unwritten};
+ghost use Rattle.mem_txn.specs.inner.VersionTables.{AnswersAskAt, AnswersAt, AreWithin, IsSound, standing, trees_of, unwritten};
 ghost use Rattle.mem_txn.specs.inner.Wipes.{AnswersGoneAt, wiped_by};
 
 use crate::txn_table::TxnTable;
 use crate::wipe::Wipe;
 use mdb_datum::Row;
 use mdb_schema::{Answer, AskError, Query, Rows, WriteError};
+use radix_node::Ids;
 use std::alloc::{AllocError, Global};
 use std::marker::Model;
 use std::sync::Arc;
 use table_index::{Table, WipeError};
+use watch_word::Front;
 
-/// The tables of a write transaction, each at its place in the schema; seen as a list.
+/// The tables of a write transaction, each at its place in the schema, and the ids of the cells that
+/// come next; seen as `Tables`.
 #[derive(Drop)]
 pub(crate) struct TxnTables {
     tables: Vec<TxnTable>,
+    ids: Ids,
 }
 
 impl Model for TxnTables {
-    ghost use Rattle.std.specs.Prelude.{List};
-    ghost use Rattle.table_index.specs.Table.{TableChange};
     ghost use Rattle.mem_txn.specs.inner.Stored.{tables_code};
+    ghost use Rattle.mem_txn.specs.inner.VersionTables.{Tables};
 
-    ghost Value = { List TableChange };
+    ghost Value = { Tables };
 
     ghost coded = { tables_code };
 
-    ghost view = { λ t. t.tables.items };
+    ghost use Rattle.mem_txn.specs.inner.Views.{tables_view, AreTables};
+
+    ghost view = { tables_view };
+
+    ghost invariant = { AreTables };
 }
 
 impl TxnTables {
     /// Tables that nobody has written to. It takes memory for the list of them.
-    pub(crate) fn of(alloc: Global, shared: &[Arc<Table, Global>]) -> Result<TxnTables, AllocError>
-        ensures { IfOk result (λ tables. tables ≡ map unwritten (map arc_value shared.now)) }
+    pub(crate) fn of(
+        alloc: Global,
+        shared: &[Arc<Table, Global>],
+        ids: Ids,
+    ) -> Result<TxnTables, AllocError>
+        requires within { All (AreWithin ids) (trees_of (map arc_value shared.now)) }
+        ensures tables { IfOk result (λ ts. ts.tables ≡ map unwritten (map arc_value shared.now)) }
+        ensures ids { IfOk result (λ ts. ts.ids ≡ ids) }
     {
-        let mut tables = Vec::with_capacity(alloc, shared.len())?;
-        for table in shared {
-            tables.push(TxnTable::of(Arc::try_clone(table)?))?;
-        }
-        Ok(TxnTables { tables })
+        let tables = unwritten(alloc, shared)?;
+        Ok(TxnTables { tables, ids })
     }
 
     /// Puts a row into the table at a place.
-    pub(crate) fn put(&mut self, place: usize, row: &Row) -> Result<bool, WriteError>
-        requires within { place < length self.old }
-        requires sound { All IsSound self.old }
+    pub(crate) fn put(&mut self, place: usize, front: &Front, row: &Row) -> Result<bool, WriteError>
+        requires within { place < length self.old.tables }
+        requires sound { All IsSound self.old.tables }
+        requires book { front.now.book ≡ self.old.ids.book }
         ensures { AnswersAt gives_replaced (λ t. put_row t.schema row.now t.rows) place result
             self.old self.new }
     {
         let table = &mut self.tables[place];
-        table.put(row)
+        table.put(front, &mut self.ids, row)
     }
 
     /// Takes the row of another's `id` key out of the table at a place, and gives it.
-    pub(crate) fn remove(&mut self, place: usize, row: &Row) -> Result<Row, WriteError>
-        requires within { place < length self.old }
-        requires sound { All IsSound self.old }
+    pub(crate) fn remove(
+        &mut self,
+        place: usize,
+        front: &Front,
+        row: &Row,
+    ) -> Result<Row, WriteError>
+        requires within { place < length self.old.tables }
+        requires sound { All IsSound self.old.tables }
+        requires book { front.now.book ≡ self.old.ids.book }
         ensures { AnswersAt gives_row (λ t. remove_row t.schema row.now t.rows) place result
             self.old self.new }
     {
         let table = &mut self.tables[place];
-        table.remove(row)
+        table.remove(front, &mut self.ids, row)
     }
 
     /// Takes the rows of a wipe out of the table at a place, and gives them.
     pub(crate) fn wipe(
         &mut self,
         place: usize,
+        front: &Front,
         wipe: Wipe,
         query: &Query,
     ) -> Result<Rows, WipeError>
-        requires within { place < length self.old }
-        requires sound { All IsSound self.old }
+        requires within { place < length self.old.tables }
+        requires sound { All IsSound self.old.tables }
+        requires book { front.now.book ≡ self.old.ids.book }
         ensures { AnswersGoneAt (λ t. wiped_by wipe t.schema t.rows query.now) place result
             self.old self.new }
     {
         let table = &mut self.tables[place];
-        table.wipe(wipe, query)
+        table.wipe(front, &mut self.ids, wipe, query)
     }
 
     /// What a question of the table at a place is answered.
     pub(crate) fn ask(&mut self, place: usize, query: &Query) -> Result<Answer, AskError>
-        requires within { place < length self.old }
-        requires sound { All IsSound self.old }
-        ensures answers { AnswersAskAt query.now place result self.old }
+        requires within { place < length self.old.tables }
+        requires sound { All IsSound self.old.tables }
+        ensures answers { AnswersAskAt query.now place result self.old.tables }
         ensures unchanged { self.new ≡ self.old }
     {
         let table = &mut self.tables[place];
@@ -96,23 +115,39 @@ impl TxnTables {
 
     /// The present tables. It takes memory for the list of them and for each that is open.
     pub(crate) fn stand(&mut self) -> Result<Vec<Arc<Table, Global>>, AllocError>
-        requires sound { All IsSound self.old }
-        ensures tables { IfOk result (λ ts. map arc_value ts.items ≡ map standing self.old) }
+        requires sound { All IsSound self.old.tables }
+        ensures tables { IfOk result (λ ts. map arc_value ts.items ≡ map standing self.old.tables) }
         ensures unchanged { self.new ≡ self.old }
     {
         let alloc = *self.tables.allocator();
         standing(alloc, &mut self.tables)
     }
 
-    /// The tables that the writes end with. It takes memory for the list of them and for each that
-    /// is open.
-    pub(crate) fn freeze(self) -> Result<Vec<Arc<Table, Global>>, AllocError>
-        requires sound { All IsSound self }
-        ensures { IfOk result (λ ts. map arc_value ts.items ≡ map standing self) }
+    /// The tables that the writes end with, and the ids that come next. It takes memory for the list of
+    /// them and for each that is open.
+    pub(crate) fn freeze(self) -> Result<(Vec<Arc<Table, Global>>, Ids), AllocError>
+        requires sound { All IsSound self.tables }
+        ensures tables { IfOk result
+            (λ made. map arc_value made.0.items ≡ map standing self.tables) }
+        ensures ids { IfOk result (λ made. made.1 ≡ self.ids) }
+        ensures within { IfOk result
+            (λ made. All (AreWithin self.ids) (trees_of (map arc_value made.0.items))) }
     {
-        let TxnTables { tables } = self;
-        frozen(*tables.allocator(), tables)
+        let TxnTables { tables, ids } = self;
+        let tables = frozen(*tables.allocator(), tables)?;
+        Ok((tables, ids))
     }
+}
+
+/// Tables that nobody has written to.
+fn unwritten(alloc: Global, shared: &[Arc<Table, Global>]) -> Result<Vec<TxnTable>, AllocError>
+    ensures { IfOk result (λ ts. ts.items ≡ map unwritten (map arc_value shared.now)) }
+{
+    let mut tables = Vec::with_capacity(alloc, shared.len())?;
+    for table in shared {
+        tables.push(TxnTable::of(Arc::try_clone(table)?))?;
+    }
+    Ok(tables)
 }
 
 /// The tables that writes to these end with.

@@ -1,16 +1,19 @@
 //! The value that a commit shows.
-ghost use Rattle.std.specs.Prelude.{◌≡◌, []};
+ghost use Rattle.std.specs.Prelude.{◌≡◌, [], IfOk};
 
 use crate::accepted::Accepted;
 use crate::view::View;
-use std::alloc::Global;
+use radix_node::Ids;
+use std::alloc::{AllocError, Global};
 use std::marker::Model;
 
-/// The state after a commit, with the writes of that commit; seen as a `Version`. It never changes.
+/// The state after a commit, with the writes of that commit and the ids of the cells that come next;
+/// seen as a `Version`. It never changes.
 #[derive(Drop)]
 pub(crate) struct Version {
     view: View,
     writes: Vec<Accepted>,
+    ids: Ids,
 }
 
 impl Model for Version {
@@ -27,36 +30,45 @@ impl Model for Version {
 }
 
 impl db_front::Version for Version {
-    ghost use Rattle.mem_txn.specs.inner.Versions.{StandsFor};
+    ghost use Rattle.mem_txn.specs.inner.Versions.{IsLogOf, StandsFor};
 
     ghost stands = { StandsFor };
 
-    // No commit fires a cell.
-    ghost fired = { λ h log. Unit {0} };
+    // No commit fires a cell yet.
+    ghost fired = { IsLogOf };
 }
 
 impl Version {
     /// The state before the first commit. It takes no memory.
-    pub(crate) fn opening(alloc: Global, view: View) -> Version
-        ensures { result ≡ record { view = view; writes = [] } }
+    pub(crate) fn opening(alloc: Global, view: View, ids: Ids) -> Version
+        ensures { result ≡ record { view = view.view; trees = view.trees; writes = []; ids = ids } }
     {
-        Version {
-            view,
-            writes: Vec::new(alloc),
-        }
+        Version::of(view, Vec::new(alloc), ids)
     }
 
     /// The state after a commit of these writes.
-    pub(crate) fn of(view: View, writes: Vec<Accepted>) -> Version
-        ensures { result ≡ record { view = view; writes = writes.items } }
+    pub(crate) fn of(view: View, writes: Vec<Accepted>, ids: Ids) -> Version
+        ensures { result ≡ record {
+          view = view.view;
+          trees = view.trees;
+          writes = writes.items;
+          ids = ids;
+        } }
     {
-        Version { view, writes }
+        Version { view, writes, ids }
     }
 
     /// The state.
     pub(crate) fn view(&self) -> &View
-        ensures { result.now ≡ self.now.view }
+        ensures { result.now ≡ record { view = self.now.view; trees = self.now.trees } }
     {
         &self.view
+    }
+
+    /// A second counter of the ids that come next.
+    pub(crate) fn share_ids(&self) -> Result<Ids, AllocError>
+        ensures { IfOk result (λ i. i ≡ self.now.ids) }
+    {
+        self.ids.share()
     }
 }

@@ -1,18 +1,22 @@
 //! The state after a commit.
-ghost use Rattle.std.specs.Prelude.{◌≡◌, ◌≤◌, ◌^◌, ◌++◌, ◌∷◌, [], IfOk, OnOk, map};
+ghost use Rattle.std.specs.Prelude.{◌≡◌, ◌≤◌, ◌+◌, ◌^◌, ◌++◌, ◌∷◌, [], All, IfOk, OnOk, map};
 ghost use Rattle.std.specs.Arc.{arc_value};
 ghost use Rattle.mdb_schema.specs.Answer.{ask};
 ghost use Rattle.mdb_schema.specs.Refusals.{AnswersAsk};
 ghost use Rattle.mdb_schema.specs.State.{empty_state};
-ghost use Rattle.mem_txn.specs.inner.VersionTables.{empty_table, schemas_of, state_of};
+ghost use Rattle.mem_txn.specs.inner.EmptyTables.{AreEmpty, IsEmptyOf};
+ghost use Rattle.mem_txn.specs.inner.VersionTables.{AreWithin, schemas_of, state_of, trees_of};
+ghost use Rattle.table_index.specs.Table.{TableRows};
 
 use mdb_schema::{Answer, AskError, Query, Schema, TableDef};
+use radix_node::Ids;
 use std::alloc::{AllocError, Global};
 use std::marker::Model;
 use std::sync::Arc;
 use table_index::Table;
+use watch_word::Front;
 
-/// The tables after a commit, in the schema's order, seen as a `View`. It never changes.
+/// The tables after a commit, in the schema's order, seen as a `View` with the trees. It never changes.
 #[derive(Drop)]
 pub(crate) struct View {
     schema: Arc<Schema, Global>,
@@ -21,12 +25,12 @@ pub(crate) struct View {
 }
 
 impl Model for View {
-    ghost use Rattle.mem_txn.specs.Database.{View};
-    ghost use Rattle.mem_txn.specs.inner.Stored.{view_code};
+    ghost use Rattle.mem_txn.specs.inner.Stored.{view_with_trees_code};
+    ghost use Rattle.mem_txn.specs.inner.Versions.{ViewWithTrees};
 
-    ghost Value = { View };
+    ghost Value = { ViewWithTrees };
 
-    ghost coded = { view_code };
+    ghost coded = { view_with_trees_code };
 
     ghost use Rattle.mem_txn.specs.inner.Views.{state_view, IsView};
 
@@ -36,12 +40,23 @@ impl Model for View {
 }
 
 impl View {
-    /// The tables before the first commit, without rows. It takes memory for them.
-    pub(crate) fn empty(alloc: Global, schema: Schema) -> Result<View, AllocError>
-        ensures { IfOk result
-            (λ v. v ≡ record { schema = schema; number = 0; state = empty_state schema }) }
+    /// The tables before the first commit, without rows. It takes memory for them, and an id for the cell
+    /// of each index.
+    pub(crate) fn empty(
+        alloc: Global,
+        schema: Schema,
+        front: &Front,
+        ids: &mut Ids,
+    ) -> Result<View, AllocError>
+        requires book { front.now.book ≡ ids.old.book }
+        requires first { ids.old.next ≡ 0 }
+        ensures view { IfOk result
+            (λ v. v.view ≡ record { schema = schema; number = 0; state = empty_state schema }) }
+        ensures within { IfOk result (λ v. All (AreWithin ids.new) v.trees) }
+        ensures book { ids.new.book ≡ ids.old.book }
+        ensures few { OnOk result (ids.new.next ≤ 2 ^ 11) }
     {
-        let tables = empty_tables(alloc, &schema)?;
+        let tables = empty_tables(alloc, &schema, front, ids)?;
         Ok(View {
             schema: Arc::new(alloc, schema)?,
             tables,
@@ -58,9 +73,12 @@ impl View {
         requires schemas { schemas_of (map arc_value tables.items) ≡ arc_value schema }
         requires few { number ≤ 2 ^ 63 }
         ensures { result ≡ record {
-          schema = arc_value schema;
-          number = number;
-          state = state_of (map arc_value tables.items);
+          view = record {
+            schema = arc_value schema;
+            number = number;
+            state = state_of (map arc_value tables.items);
+          };
+          trees = trees_of (map arc_value tables.items);
         } }
     {
         View {
@@ -72,29 +90,30 @@ impl View {
 
     /// The schema.
     pub(crate) fn schema(&self) -> &Schema
-        ensures { result.now ≡ self.now.schema }
+        ensures { result.now ≡ self.now.view.schema }
     {
         &self.schema
     }
 
     /// A second owner of the schema.
     pub(crate) fn share_schema(&self) -> Result<Arc<Schema, Global>, AllocError>
-        ensures { IfOk result (λ s. arc_value s ≡ self.now.schema) }
+        ensures { IfOk result (λ s. arc_value s ≡ self.now.view.schema) }
     {
         Arc::try_clone(&self.schema)
     }
 
     /// The tables, each at its place in the schema.
     pub(crate) fn tables(&self) -> &[Arc<Table, Global>]
-        ensures schemas { schemas_of (map arc_value result.now) ≡ self.now.schema }
-        ensures state { state_of (map arc_value result.now) ≡ self.now.state }
+        ensures schemas { schemas_of (map arc_value result.now) ≡ self.now.view.schema }
+        ensures state { state_of (map arc_value result.now) ≡ self.now.view.state }
+        ensures trees { trees_of (map arc_value result.now) ≡ self.now.trees }
     {
         self.tables.as_slice()
     }
 
     /// How many commits there were.
     pub(crate) fn number(&self) -> u64
-        ensures number { result ≡ self.now.number }
+        ensures number { result ≡ self.now.view.number }
         ensures few { result ≤ 2 ^ 63 }
     {
         self.number
@@ -102,7 +121,7 @@ impl View {
 
     /// What a question is answered.
     pub(crate) fn ask(&self, query: &Query) -> Result<Answer, AskError>
-        ensures { AnswersAsk (ask self.now.schema self.now.state query.now) result }
+        ensures { AnswersAsk (ask self.now.view.schema self.now.view.state query.now) result }
     {
         match self.schema.find(query.table().as_str()) {
             Some(place) => {
@@ -115,26 +134,46 @@ impl View {
 }
 
 /// A table without rows for each of a schema.
-fn empty_tables(alloc: Global, schema: &Schema) -> Result<Vec<Arc<Table, Global>>, AllocError>
-    ensures { IfOk result
-        (λ tables. map arc_value tables.items ≡ map empty_table schema.now) }
+fn empty_tables(
+    alloc: Global,
+    schema: &Schema,
+    front: &Front,
+    ids: &mut Ids,
+) -> Result<Vec<Arc<Table, Global>>, AllocError>
+    requires book { front.now.book ≡ ids.old.book }
+    requires first { ids.old.next ≡ 0 }
+    ensures tables { IfOk result
+        (λ tables. AreEmpty schema.now ids.new (map arc_value tables.items)) }
+    ensures book { ids.new.book ≡ ids.old.book }
+    ensures few { OnOk result (ids.new.next ≤ 2 ^ 11) }
 {
     let mut tables = Vec::with_capacity(alloc, schema.len())?;
     for at in 0..schema.len() {
         let Some(def) = schema.table(at) else {
             unreachable!();
         };
-        push_empty(&mut tables, def)?;
+        push_empty(&mut tables, def, front, ids)?;
     }
     Ok(tables)
 }
 
 /// Adds a table without rows.
-fn push_empty(tables: &mut Vec<Arc<Table, Global>>, def: &TableDef) -> Result<(), AllocError>
-    ensures { OnOk result (map arc_value tables.new.items
-        ≡ map arc_value tables.old.items ++ empty_table def.now ∷ []) }
+fn push_empty(
+    tables: &mut Vec<Arc<Table, Global>>,
+    def: &TableDef,
+    front: &Front,
+    ids: &mut Ids,
+) -> Result<(), AllocError>
+    requires book { front.now.book ≡ ids.old.book }
+    requires left { ids.old.next + 32 ≤ 2 ^ 63 }
+    ensures table { OnOk result
+        ((t : TableRows) × IsEmptyOf def.now ids.new t × (map arc_value tables.new.items
+        ≡ map arc_value tables.old.items ++ t ∷ [])) }
+    ensures book { ids.new.book ≡ ids.old.book }
+    ensures few { OnOk result ((ids.old.next ≤ ids.new.next) × (ids.new.next ≤ ids.old.next + 32)) }
 {
     let alloc = *tables.allocator();
-    tables.push(Arc::new(alloc, Table::empty(alloc, def)?)?)?;
+    let table = Table::empty(alloc, def, front, ids)?;
+    tables.push(Arc::new(alloc, table)?)?;
     Ok(())
 }

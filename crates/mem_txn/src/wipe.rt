@@ -1,17 +1,20 @@
 //! Wipes of a table, for a write transaction.
-ghost use Rattle.std.specs.Prelude.{◌≡◌, ◌<◌, ◌++◌, ◌∷◌, [], false, All, IfOk, MatchResult, OnOk, length};
+ghost use Rattle.std.specs.Prelude.{◌≡◌, ◌⊎◌, ◌≤◌, ◌<◌, ◌+◌, ◌*◌, ◌^◌, ◌++◌, ◌∷◌, [], false, All, IfErr, IfOk, MatchResult, OnOk, length};
 ghost use Rattle.mdb_schema.specs.Wipe.{removals};
 ghost use Rattle.mdb_schema.specs.Write.{remove};
-ghost use Rattle.mem_txn.specs.inner.VersionTables.{IsSound, unwritten};
+ghost use Rattle.mem_txn.specs.inner.VersionTables.{IsSound, IsWithin, unwritten};
 ghost use Rattle.mem_txn.specs.inner.Wipes.{JoinsGoneAt, Refuses, is_memory, wiped_by};
-ghost use Rattle.table_index.specs.Table.{AnswersCheck, AnswersTake};
+ghost use Rattle.table_index.specs.Table.{AnswersCheck, AnswersTake, rows_asked};
+ghost use Rattle.table_index.specs.declared.wipe_error.WipeError.TheVariants.{Memory};
 
 use crate::accepted::{Accepted, Kind};
 use crate::txn_tables::TxnTables;
 use mdb_datum::Row;
 use mdb_schema::{Query, Rows, TableDef};
+use radix_node::Ids;
 use std::alloc::{AllocError, Global};
 use table_index::{Table, TableTxn, WipeError};
+use watch_word::Front;
 
 /// Which rows a wipe takes out.
 #[derive(Clone, Copy, Debug, PartialEq, Eq)]
@@ -46,14 +49,28 @@ impl Wipe {
     }
 
     /// Takes the rows out of an open table, and gives them in the order of their first listing.
-    pub(crate) fn take(self, table: &mut TableTxn, query: &Query) -> Result<Rows, WipeError>
+    pub(crate) fn take(
+        self,
+        table: &mut TableTxn,
+        front: &Front,
+        ids: &mut Ids,
+        query: &Query,
+    ) -> Result<Rows, WipeError>
         requires sound { table.old.spoiled ≡ false }
-        ensures { AnswersTake (wiped_by self table.old.schema table.old.rows query.now) result
-            table.old table.new }
+        requires book { front.now.book ≡ ids.old.book }
+        requires within { IsWithin ids.old table.old }
+        ensures answers { AnswersTake ids.old.next
+            (wiped_by self table.old.schema table.old.rows query.now) result table.old table.new }
+        ensures within { IsWithin ids.new table.new }
+        ensures book { ids.new.book ≡ ids.old.book }
+        ensures later { ids.old.next ≤ ids.new.next }
+        ensures few { ids.new.next ≤ ids.old.next + 2 ^ 26
+            * rows_asked (wiped_by self table.old.schema table.old.rows query.now) }
+        ensures refused { IfErr result (λ e. (e ≡ Memory) ⊎ (ids.new ≡ ids.old)) }
     {
         match self {
-            Wipe::Listed => table.take_all(query),
-            Wipe::ByPrefix => table.take_prefix(query),
+            Wipe::Listed => table.take_all(front, ids, query),
+            Wipe::ByPrefix => table.take_prefix(front, ids, query),
         }
     }
 }
@@ -71,15 +88,17 @@ pub(crate) fn wipe_in(
     def: &TableDef,
     wipe: Wipe,
     query: &Query,
+    front: &Front,
     tables: &mut TxnTables,
     writes: &mut Vec<Accepted>,
 ) -> Result<u64, WipeError>
-    requires within { place < length tables.old }
-    requires sound { All IsSound tables.old }
+    requires within { place < length tables.old.tables }
+    requires sound { All IsSound tables.old.tables }
+    requires book { front.now.book ≡ tables.old.ids.book }
     ensures { JoinsGoneAt (λ t. wiped_by wipe t.schema t.rows query.now) place def.now.name result
         tables.old tables.new writes.old.items writes.new.items }
 {
-    let gone = match tables.wipe(place, wipe, query) {
+    let gone = match tables.wipe(place, front, wipe, query) {
         Ok(gone) => gone,
         Err(error) => return Err(error),
     };

@@ -1,11 +1,12 @@
 -- The first and the last pair under a node, found by the first and by the last edges.
 use Rattle.std.proofs.Common.{◌≡◌, ◌≢◌, ◌<◌, ◌≤◌, ◌-◌, ◌++◌, ◌∷◌, ◌∙◌, ℕ, suc, false, Bor, List, [], length, map, slice_get, Option, Some, None, option_map, refl, sym, ap, subst, arith, append_assoc}
-use Rattle.std.specs.Prelude.{reverse, is_some, option_copied}
+use Rattle.std.specs.Prelude.{reverse, is_some, option_map}
 use Rattle.std.proofs.lemmas.Bool.{false≢true}
 use Rattle.std.proofs.lemmas.List.{map-append, reverse-append, reverse-reverse}
 use Rattle.mdb_datum.specs.Pairs.{first_item, last_item, rows_of}
 use Rattle.mdb_datum.specs.Row.{Fields, Pair}
 use Rattle.radix_node.specs.Node.{PlainNode, below, nodes_in, edge_node, plain_edge}
+use Rattle.radix_node.specs.Cells.{CellLeaf}
 use Rattle.radix_node.specs.Nodes.{Nodes, no_nodes, node, pairs_of_leaf, pairs_of_nodes, pairs_of}
 use Rattle.radix_node.specs.Shape.{IsBranching, IsShaped, width}
 use Rattle.radix_node.specs.declared.edge.Edge.{Edge}
@@ -69,7 +70,11 @@ under_edge path e es s =
 
 -- ---- down by the first edges
 
-leaf_none : (o : Option (Bor Pair)) (leaf : Option Pair) → option_copied o ≡ leaf → is_some o ≡ false → leaf ≡ None
+-- the pair of a leaf that is lent
+abbrev pub lent_pair : Option (Bor CellLeaf) → Option Pair
+lent_pair o = option_map (λ (l : Bor CellLeaf). l.now.pair) o
+
+leaf_none : (o : Option (Bor CellLeaf)) (leaf : Option Pair) → lent_pair o ≡ leaf → is_some o ≡ false → leaf ≡ None
 leaf_none None leaf is e = sym is
 leaf_none (Some pair) leaf is e = absurd (false≢true (sym e))
 
@@ -78,7 +83,7 @@ pub record IsFirstAt (whole : Option Pair) (n : PlainNode) : Type 0 where
   pub shaped : IsShaped path n.under
   pub same : first_item (pairs_of (below n)) ≡ whole
 
-module _ (whole : Option Pair) (n : PlainNode) (on : IsFirstAt whole n) (o : Option (Bor Pair)) (is_leaf : option_copied o ≡ n.leaf) (bare : is_some o ≡ false) where
+module _ (whole : Option Pair) (n : PlainNode) (on : IsFirstAt whole n) (o : Option (Bor CellLeaf)) (is_leaf : lent_pair o ≡ n.leaf) (bare : is_some o ≡ false) where
   at_edges : (es : List Edge) → nodes_in (map edge_node es) ≡ n.under → first_item (pairs_at_edges es) ≡ whole
   at_edges es all = (λ i. first_item (pairs_of_leaf (sym (leaf_none o n.leaf is_leaf bare) i) ++ pairs_of_nodes (all i))) ∙ on.same
 

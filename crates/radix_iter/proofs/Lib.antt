@@ -4,6 +4,5 @@ pub mod KeyFilters
 pub mod KeySteps
 pub mod NodeCount
 pub mod RowsGathered
-pub mod ShapeCounts
 pub mod SliceCompare
 pub mod WalkSteps

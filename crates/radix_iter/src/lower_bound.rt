@@ -1,6 +1,7 @@
 //! The walk from a key on.
 ghost use Rattle.std.specs.Prelude.{◌≡◌, ◌++◌, IfOk, reverse};
 ghost use Rattle.mdb_datum.specs.Pairs.{at_least, rows_of};
+ghost use Rattle.radix_node.specs.Cells.{plain_of};
 ghost use Rattle.radix_node.specs.Nodes.{pairs_of};
 
 use crate::edges::edges_above;
@@ -14,7 +15,7 @@ use std::alloc::{AllocError, Global};
 /// for the list of the rows, and is refused only for want of it, or of room to count one more owner
 /// of a row. It takes time in the length of the key and in the nodes that hold the rows.
 pub fn from_key(alloc: Global, tree: &Tree, key: &[u8]) -> Result<Walk, AllocError>
-    ensures { IfOk result (λ w. w ≡ rows_of (at_least key.now (pairs_of tree.now))) }
+    ensures { IfOk result (λ w. w ≡ rows_of (at_least key.now (pairs_of (plain_of tree.now)))) }
 {
     let mut rows = Vec::new(alloc);
     push_at_least(&mut rows, tree, key)?;
@@ -25,7 +26,7 @@ pub fn from_key(alloc: Global, tree: &Tree, key: &[u8]) -> Result<Walk, AllocErr
 /// beside it, which are higher, and at its end those under it.
 fn push_at_least(rows: &mut Vec<Row>, tree: &Tree, key: &[u8]) -> Result<(), AllocError>
     ensures { IfOk result (λ _. rows.new.items
-        ≡ rows.old.items ++ reverse (rows_of (at_least key.now (pairs_of tree.now)))) }
+        ≡ rows.old.items ++ reverse (rows_of (at_least key.now (pairs_of (plain_of tree.now))))) }
 {
     let mut node = tree.root();
     let mut rest = key;

@@ -3,7 +3,7 @@ mod built;
 mod drawn;
 
 use crate::{Walk, ascend, descend, down_from, first, from_key, last};
-use built::{Entry, chain, entries_of, tree_of, tree_of_keys};
+use built::{Entry, chain, empty_tree, entries_of, tree_of, tree_of_keys};
 use drawn::{drawn_entries, drawn_key};
 use mdb_datum::{Datum, Row};
 use radix_node::Tree;
@@ -97,7 +97,7 @@ const NOTHING: [Case; 8] = [
 ];
 
 fn has_no_ends(alloc: Global) -> Result<bool, AllocError> {
-    let tree = Tree::empty(alloc)?;
+    let tree = empty_tree(alloc)?;
     Ok(first(&tree, b"").is_none() && last(&tree, b"").is_none())
 }
 
@@ -381,7 +381,7 @@ fn assert_shareable<T: Send + Sync>(_value: &T) {}
 
 #[test]
 fn threads_may_share_a_walk(rt: HostRuntime) -> Result<(), Fail> {
-    let tree = Tree::empty(rt.alloc())?;
+    let tree = empty_tree(rt.alloc())?;
     assert_shareable(&ascend(rt.alloc(), &tree, b"")?);
     Ok(())
 }

@@ -2,6 +2,7 @@
 ghost use Rattle.std.specs.Prelude.{◌≡◌, ◌++◌, IfOk, reverse};
 ghost use Rattle.mdb_datum.specs.Pairs.{at_most, rows_of};
 ghost use Rattle.radix_node.specs.Edges.{EdgesRise};
+ghost use Rattle.radix_node.specs.Cells.{plain_of};
 ghost use Rattle.radix_node.specs.Node.{plain_node};
 ghost use Rattle.radix_node.specs.Nodes.{pairs_of, pairs_of_leaf, pairs_of_nodes};
 ghost use Rattle.radix_iter.specs.inner.Beside.{lower};
@@ -16,7 +17,7 @@ use std::alloc::{AllocError, Global};
 /// A walk over the rows of keys that are at most `key`, against the order of the keys. It takes
 /// memory and time as [`crate::from_key`] does.
 pub fn down_from(alloc: Global, tree: &Tree, key: &[u8]) -> Result<Walk, AllocError>
-    ensures { IfOk result (λ w. w ≡ reverse (rows_of (at_most key.now (pairs_of tree.now)))) }
+    ensures { IfOk result (λ w. w ≡ reverse (rows_of (at_most key.now (pairs_of (plain_of tree.now))))) }
 {
     let mut rows = Vec::new(alloc);
     push_at_most(&mut rows, tree, key)?;
@@ -27,7 +28,7 @@ pub fn down_from(alloc: Global, tree: &Tree, key: &[u8]) -> Result<Walk, AllocEr
 /// prefixes of it and those beside it, which are lower.
 fn push_at_most(rows: &mut Vec<Row>, tree: &Tree, key: &[u8]) -> Result<(), AllocError>
     ensures { IfOk result (λ _. rows.new.items
-        ≡ rows.old.items ++ rows_of (at_most key.now (pairs_of tree.now))) }
+        ≡ rows.old.items ++ rows_of (at_most key.now (pairs_of (plain_of tree.now)))) }
 {
     let mut node = tree.root();
     let mut rest = key;

@@ -1,5 +1,5 @@
 //! A walk.
-ghost use Rattle.std.specs.Prelude.{◌≡◌, IfOk, IsOk, OnErr, OnOk, drop};
+ghost use Rattle.std.specs.Prelude.{◌≡◌, IfOk, IsOk, OnErr, OnOk, drop, length};
 ghost use Rattle.mdb_datum.specs.Pairs.{first_item};
 
 use mdb_datum::Row;
@@ -27,6 +27,13 @@ impl Model for Walk {
 }
 
 impl Walk {
+    /// How many rows are still to come.
+    pub fn len(&self) -> usize
+        ensures { result ≡ length self.now }
+    {
+        self.rows.len()
+    }
+
     /// The next row. `None` comes exactly at the end, and from then on. It takes a time that doesn't
     /// depend on the tree, and no memory.
     pub fn next(&mut self) -> Result<Option<Row>, AllocError>

@@ -2,19 +2,19 @@
 use Rattle.std.proofs.Common.{◌≡◌, ◌<◌, ◌+◌, ◌++◌, ◌∷◌, ◌∙◌, ℕ, Bool, suc, List, length, map, drop, get_or, Option, Some, None, is_some, option_map, refl, sym, ap, arith, length-append}
 use Rattle.std.proofs.Math.Seq.{drop-cons}
 use mir.Val.{bool_byte}
-use Rattle.std.specs.Arc.{arc_value}
 use Rattle.std.specs.Global.{Global}
 use Rattle.std.specs.declared.sync.Arc.{Arc}
 use Rattle.mdb_datum.specs.Row.{Pair}
 use Rattle.radix_node.specs.Nodes.{Nodes, pairs_of_leaf, pairs_of_nodes, pairs_of}
-use Rattle.radix_node.specs.Node.{PlainNode, nodes_in, below, below_prefix, edge_node, plain_edge, plain_node}
+use Rattle.radix_node.specs.Node.{PlainNode, leaf_pair, nodes_in, below, below_prefix, edge_node, plain_edge, plain_node}
+use Rattle.radix_node.specs.declared.leaf.Leaf.{Leaf}
 use Rattle.radix_node.specs.declared.edge.Edge.{Edge}
 use Rattle.radix_node.specs.declared.edges.Edges.{out-Edges}
 use Rattle.radix_node.specs.declared.node.Node.{Node, out-Node}
 use Rattle.radix_node.proofs.Levels.{edges_out, out_leaf, out_under}
 
 -- a truth value as a number counts the own leaf
-own_counted : (o : Option (Arc Pair Global)) → bool_byte (is_some o) ≡ length (pairs_of_leaf (option_map arc_value o))
+own_counted : (o : Option (Arc Leaf Global)) → bool_byte (is_some o) ≡ length (pairs_of_leaf (option_map leaf_pair o))
 own_counted None = refl
 own_counted (Some a) = refl
 

@@ -5,7 +5,7 @@ use Rattle.std.specs.FinMap.Entries as entries
 use Rattle.mdb_datum.specs.Row.{Pair}
 use Rattle.radix_node.specs.Nodes.{Nodes, no_nodes, node, part, first_order}
 use Rattle.radix_node.specs.inner.Seek.{seek, found}
-use Rattle.radix_node.specs.Node.{PlainEdge, PlainNode, nodes_in, nodes_list, edge_step, edges_step, node_step, ref_step, plain_edge, edges_of, plain_node, node_of, edge_node, edge_of, labelled}
+use Rattle.radix_node.specs.Node.{PlainEdge, PlainNode, leaf_pair, nodes_in, nodes_list, edge_step, edges_step, node_step, ref_step, plain_edge, edges_of, plain_node, node_of, edge_node, edge_of, labelled}
 use Rattle.radix_node.specs.declared.edge.Edge.{Edge, Edge-F, out-Edge, roll-Edge, fold_out-Edge, fold-roll-Edge}
 use Rattle.radix_node.specs.declared.edges.Edges.{Edges, Edges-F, out-Edges, roll-Edges, fold_out-Edges, fold-roll-Edges}
 use Rattle.radix_node.specs.declared.node.Node.{Node, Node-F, out-Node, roll-Node, fold_out-Node, fold-roll-Node}
@@ -29,7 +29,7 @@ edges_opened (e ∷ es) = ap (λ (ns : List PlainNode). edge_node e ∷ ns) (edg
 pub edges_out : (e : Edges) → edges_of e ≡ map edge_node (out-Edges e).edges.items
 edges_out e = fold_out-Edges PlainEdge (List PlainNode) PlainNode PlainNode edge_step edges_step node_step ref_step e ∙ edges_opened (out-Edges e).edges.items
 
-pub node_out : (n : Node) → plain_node n ≡ record { prefix = (out-Node n).prefix.items; leaf = option_map arc_value (out-Node n).leaf; under = nodes_in (edges_of (out-Node n).edges) }
+pub node_out : (n : Node) → plain_node n ≡ record { prefix = (out-Node n).prefix.items; leaf = option_map leaf_pair (out-Node n).leaf; under = nodes_in (edges_of (out-Node n).edges) }
 node_out n = fold_out-Node PlainEdge (List PlainNode) PlainNode PlainNode edge_step edges_step node_step ref_step n
 
 pub ref_out : (r : NodeRef) → plain_node (arc_value (out-NodeRef r).node) ≡ node_of r
@@ -38,7 +38,7 @@ ref_out r = sym (fold_out-NodeRef PlainEdge (List PlainNode) PlainNode PlainNode
 pub out_prefix : (n : Node) → (out-Node n).prefix.items ≡ (plain_node n).prefix
 out_prefix n = sym (ap (λ (p : PlainNode). p.prefix) (node_out n))
 
-pub out_leaf : (n : Node) → option_map arc_value (out-Node n).leaf ≡ (plain_node n).leaf
+pub out_leaf : (n : Node) → option_map leaf_pair (out-Node n).leaf ≡ (plain_node n).leaf
 out_leaf n = sym (ap (λ (p : PlainNode). p.leaf) (node_out n))
 
 pub out_under : (n : Node) → nodes_in (edges_of (out-Node n).edges) ≡ (plain_node n).under
@@ -52,7 +52,7 @@ edge_roll d = fold-roll-Edge PlainEdge (List PlainNode) PlainNode PlainNode edge
 pub edges_roll : (d : Edges-F Edge Edges Node NodeRef) → edges_of (roll-Edges d) ≡ map edge_node d.edges.items
 edges_roll d = fold-roll-Edges PlainEdge (List PlainNode) PlainNode PlainNode edge_step edges_step node_step ref_step d ∙ edges_opened d.edges.items
 
-pub node_roll : (d : Node-F Edge Edges Node NodeRef) → plain_node (roll-Node d) ≡ record { prefix = d.prefix.items; leaf = option_map arc_value d.leaf; under = nodes_in (edges_of d.edges) }
+pub node_roll : (d : Node-F Edge Edges Node NodeRef) → plain_node (roll-Node d) ≡ record { prefix = d.prefix.items; leaf = option_map leaf_pair d.leaf; under = nodes_in (edges_of d.edges) }
 node_roll d = fold-roll-Node PlainEdge (List PlainNode) PlainNode PlainNode edge_step edges_step node_step ref_step d
 
 pub ref_roll : (d : NodeRef-F Edge Edges Node NodeRef) → node_of (roll-NodeRef d) ≡ plain_node (arc_value d.node)

@@ -1,4 +1,7 @@
 pub mod ByteCompare
+pub mod CellEdges
+pub mod CellLevels
+pub mod CellsLeft
 pub mod CommonPrefix
 pub mod EdgePut
 pub mod EdgeSearch
@@ -7,10 +10,14 @@ pub mod KeyOrder
 pub mod KeysRise
 pub mod KeysUnder
 pub mod LeafCount
+pub mod LeafWatch
 pub mod Levels
 pub mod LongestPrefix
 pub mod Lookup
 pub mod LookupSteps
+pub mod Members
+pub mod NearPlaces
+pub mod OneBook
 pub mod OneShape
 pub mod PairLaws
 pub mod Parts
@@ -19,6 +26,12 @@ pub mod PathOrder
 pub mod Paths
 pub mod PrefixSeek
 pub mod Prefixes
+pub mod Sitting
 pub mod Splices
 pub mod Threads
+pub mod TwoTrees
+pub mod WalkSteps
+pub mod WalkedTree
+pub mod Walks
+pub mod WatchesHold
 pub mod WholeTree

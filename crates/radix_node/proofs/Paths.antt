@@ -13,16 +13,16 @@ use Rattle.radix_node.proofs.CommonPrefix.{common_two, common_first, common_seco
 
 -- ---- membership
 
-pub Has-left : (x : List ℕ) (xs ys : List (List ℕ)) → Has x xs → Has x (xs ++ ys)
+pub Has-left : {A : Type 0} → (x : A) (xs ys : List A) → Has x xs → Has x (xs ++ ys)
 Has-left x [] ys h = absurd h
 Has-left x (y ∷ xs) ys (inl e) = inl e
 Has-left x (y ∷ xs) ys (inr h) = inr (Has-left x xs ys h)
 
-pub Has-right : (x : List ℕ) (xs ys : List (List ℕ)) → Has x ys → Has x (xs ++ ys)
+pub Has-right : {A : Type 0} → (x : A) (xs ys : List A) → Has x ys → Has x (xs ++ ys)
 Has-right x [] ys h = h
 Has-right x (y ∷ xs) ys h = inr (Has-right x xs ys h)
 
-pub Has-split : (x : List ℕ) (xs ys : List (List ℕ)) → Has x (xs ++ ys) → Has x xs ⊎ Has x ys
+pub Has-split : {A : Type 0} → (x : A) (xs ys : List A) → Has x (xs ++ ys) → Has x xs ⊎ Has x ys
 Has-split x [] ys h = inr h
 Has-split x (y ∷ xs) ys (inl e) = inl (inl e)
 Has-split x (y ∷ xs) ys (inr h) = elim (Has-split x xs ys h) [ inl a ↦ inl (inr a) | inr b ↦ inr b ]

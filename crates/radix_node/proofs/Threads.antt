@@ -11,6 +11,8 @@ use Rattle.std.specs.contracts.option.Option
 use Rattle.std.specs.contracts.sync.Arc
 use Rattle.smallvec.specs.contracts.small_vec.SmallVec
 use Rattle.mdb_datum.specs.contracts.row.Row
+use Rattle.watch_word.specs.contracts.cell.WatchCell
+use Rattle.watch_word.proofs.cell.WatchCell.TheSendSync as of_cell
 use Rattle.mdb_datum.proofs.datum.Datum.TheLaws.TheKnot as datum
 use Rattle.radix_node.proofs.edge.Edge.TheLaws.TheKnot as knot
 use Rattle.radix_node.specs.contracts.leaf.Leaf
@@ -29,11 +31,17 @@ row-send = search (sendable, crosses, datum.crosses_both) depth 20
 row-sync : IsSync (Row.the_field).row
 row-sync = search (sendable, crosses, datum.crosses_both) depth 20
 
+cell-send : IsSend (Arc.the_field WatchCell.the_row Global.the_row TheImpl.ghosts).row
+cell-send = Arc-send WatchCell.the_row of_cell.the_send of_cell.the_sync
+
+cell-sync : IsSync (Arc.the_field WatchCell.the_row Global.the_row TheImpl.ghosts).row
+cell-sync = Arc-sync WatchCell.the_row of_cell.the_send of_cell.the_sync
+
 leaf-send : IsSend Leaf.the_row
-leaf-send = search (sendable, crosses, row-send) depth 20
+leaf-send = search (sendable, crosses, row-send, cell-send) depth 20
 
 leaf-sync : IsSync Leaf.the_row
-leaf-sync = search (sendable, crosses, row-sync) depth 20
+leaf-sync = search (sendable, crosses, row-sync, cell-sync) depth 20
 
 label-send : IsSend Field.u8-field.row
 label-send = search (sendable, crosses) depth 20
@@ -48,10 +56,10 @@ option-sync : IsSync (Option.the_field (Arc.the_row Leaf.the_row Global.the_row 
 option-sync = search (sendable, crosses, leaf-send, leaf-sync) depth 20
 
 ref-send : IsSend (NodeRef.the_field).row
-ref-send = knot.both_send-NodeRef label-send label-sync (λ h s y. Vec-send h s) (λ h s y. Vec-sync h y) prefix-send prefix-sync option-send option-sync Arc-send Arc-sync
+ref-send = knot.both_send-NodeRef label-send label-sync (λ h s y. Vec-send h s) (λ h s y. Vec-sync h y) prefix-send prefix-sync option-send option-sync cell-send cell-sync Arc-send Arc-sync
 
 ref-sync : IsSync (NodeRef.the_field).row
-ref-sync = knot.both_sync-NodeRef label-send label-sync (λ h s y. Vec-send h s) (λ h s y. Vec-sync h y) prefix-send prefix-sync option-send option-sync Arc-send Arc-sync
+ref-sync = knot.both_sync-NodeRef label-send label-sync (λ h s y. Vec-send h s) (λ h s y. Vec-sync h y) prefix-send prefix-sync option-send option-sync cell-send cell-sync Arc-send Arc-sync
 
 pub tree_send : IsSend Tree.the_row
 tree_send = search (sendable, ref-send) depth 20

@@ -1,8 +1,14 @@
+pub mod CellNode
+pub mod Cells
 pub mod Edges
+pub mod Ids
+pub mod Left
 pub mod Longest
 pub mod Node
 pub mod Nodes
 pub mod Pairs
 pub mod Paths
 pub mod Shape
+pub mod Watches
 pub mod inner
+pub mod worked

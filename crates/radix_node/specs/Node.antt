@@ -1,10 +1,13 @@
 -- What nodes and edges in memory stand for.
 use Rattle.std.specs.Prelude.{ℕ, List, [], ◌∷◌, Option, Some, None, map, option_map}
 use Rattle.std.specs.Arc.{arc_value}
+use Rattle.std.specs.Global.{Global}
+use Rattle.std.specs.declared.sync.Arc.{Arc}
 use Rattle.std.specs.FinMap.Entries.{by_order}
 use Rattle.mdb_datum.specs.Bytes.{Bytes}
 use Rattle.mdb_datum.specs.Row.{Pair}
 use Rattle.radix_node.specs.Nodes.{Nodes, no_nodes, node, Plain, first_order, part, pairs_of}
+use Rattle.radix_node.specs.declared.leaf.Leaf.{Leaf}
 use Rattle.radix_node.specs.declared.edge.Edge.{Edge, Edge-F, fold-Edge}
 use Rattle.radix_node.specs.declared.edges.Edges.{Edges, Edges-F, fold-Edges}
 use Rattle.radix_node.specs.declared.node.Node.{Node, Node-F, fold-Node}
@@ -39,6 +42,10 @@ nodes_list (node prefix leaf under later) = record { prefix = prefix; leaf = lea
 abbrev pub below : PlainNode → Plain
 below n = record { leaf = n.leaf; nodes = n.under }
 
+-- the pair of a leaf that is shared
+abbrev pub leaf_pair : Arc Leaf Global → Pair
+leaf_pair l = (arc_value l).pair
+
 -- one level in memory, where what is below it is plain already
 abbrev pub edge_step : Edge-F PlainEdge (List PlainNode) PlainNode PlainNode → PlainEdge
 edge_step e = record { label = e.label; node = e.node }
@@ -47,7 +54,7 @@ abbrev pub edges_step : Edges-F PlainEdge (List PlainNode) PlainNode PlainNode �
 edges_step e = map labelled e.edges.items
 
 abbrev pub node_step : Node-F PlainEdge (List PlainNode) PlainNode PlainNode → PlainNode
-node_step n = record { prefix = n.prefix.items; leaf = option_map arc_value n.leaf; under = nodes_in n.edges }
+node_step n = record { prefix = n.prefix.items; leaf = option_map leaf_pair n.leaf; under = nodes_in n.edges }
 
 abbrev pub ref_step : NodeRef-F PlainEdge (List PlainNode) PlainNode PlainNode → PlainNode
 ref_step r = r.node.value

@@ -3,10 +3,10 @@ use Rattle.std.specs.Prelude.{◌≡◌, ◌≢◌, ℕ, List, [], ◌∷◌, �
 use Rattle.mdb_datum.specs.Row.{Pair}
 use Rattle.radix_node.specs.Nodes.{Nodes, no_nodes, node, Plain, common}
 
--- a path is in a list of paths
-abbrev pub Has : List ℕ → List (List ℕ) → Type 0
-Has path [] = ⊥
-Has path (x ∷ xs) = (path ≡ x) ⊎ Has path xs
+-- an item is in a list
+abbrev pub Has : {A : Type 0} → A → List A → Type 0
+Has x [] = ⊥
+Has x (y ∷ ys) = (x ≡ y) ⊎ Has x ys
 
 -- a pair has the key
 abbrev pub HasKey : List ℕ → List Pair → Type 0

@@ -1,3 +1,4 @@
 pub mod Seek
 pub mod Stored
 pub mod TreeView
+pub mod Walk

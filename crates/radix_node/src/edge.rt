@@ -1,5 +1,6 @@
 //! An edge of a node.
 ghost use Rattle.std.specs.Prelude.{◌≡◌, IfOk};
+ghost use Rattle.radix_node.specs.CellNode.{cell_edge, cell_node, cell_ref};
 ghost use Rattle.radix_node.specs.Node.{plain_edge, plain_node, node_of};
 
 use crate::node::Node;
@@ -15,25 +16,28 @@ pub struct Edge {
     pub(crate) node: NodeRef,
 }
 
-#[tactic(auto, using(crate::proofs::Levels::out_label, crate::proofs::Levels::out_node, crate::proofs::Levels::edge_roll))]
+#[tactic(auto, using(crate::proofs::Levels::out_label, crate::proofs::Levels::out_node, crate::proofs::Levels::edge_roll, crate::proofs::CellLevels::out_cell_node, crate::proofs::CellLevels::out_cell_edge, crate::proofs::CellLevels::cell_edge_roll))]
 impl Edge {
     /// The edge of a byte to a node.
     pub fn of(label: u8, node: NodeRef) -> Edge
-        ensures { plain_edge result ≡ record { label = label; node = node_of node } }
+        ensures edge { plain_edge result ≡ record { label = label; node = node_of node } }
+        ensures cells { cell_edge result ≡ record { label = label; node = cell_ref node } }
     {
         Edge { label, node }
     }
 
     /// The byte that leads to the node.
     pub fn label(&self) -> u8
-        ensures { let e = plain_edge self.now in result ≡ e.label }
+        ensures edge { let e = plain_edge self.now in result ≡ e.label }
+        ensures cells { let e = cell_edge self.now in result ≡ e.label }
     {
         self.label
     }
 
     /// The node.
     pub fn node(&self) -> &Node
-        ensures { let e = plain_edge self.now in plain_node result.now ≡ e.node }
+        ensures node { let e = plain_edge self.now in plain_node result.now ≡ e.node }
+        ensures cells { let e = cell_edge self.now in cell_node result.now ≡ e.node }
     {
         self.node.node()
     }
@@ -41,7 +45,8 @@ impl Edge {
     /// An edge of the same byte to the same node, which has one owner more. It takes no memory, and
     /// is refused as [`NodeRef::share`] is.
     pub fn share(&self) -> Result<Edge, AllocError>
-        ensures { IfOk result (λ e. plain_edge e ≡ plain_edge self.now) }
+        ensures edge { IfOk result (λ e. plain_edge e ≡ plain_edge self.now) }
+        ensures cells { IfOk result (λ e. cell_edge e ≡ cell_edge self.now) }
     {
         Ok(Edge {
             label: self.label,

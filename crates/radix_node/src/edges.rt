@@ -2,6 +2,7 @@
 ghost use Rattle.std.specs.Prelude.{◌≡◌, ◌++◌, ◌∷◌, ◌+◌, ◌≤◌, ◌<◌, [], IfOk, IfErr, OnOk, OnErr, Some, Ok, Err, length, take, drop, map, option_map};
 ghost use Rattle.std.specs.Slice.Iter.{iter_rest};
 ghost use Rattle.std.specs.List.{slice_get};
+ghost use Rattle.radix_node.specs.CellNode.{cell_edges, cell_put, led_node};
 ghost use Rattle.radix_node.specs.Edges.{EdgesRise, place_of, edge_put};
 ghost use Rattle.radix_node.specs.Node.{nodes_in, edges_of, edge_node, edge_of, plain_edge};
 
@@ -17,11 +18,12 @@ pub struct Edges {
     pub(crate) edges: Vec<Edge>,
 }
 
-#[tactic(auto, using(crate::proofs::Levels::edges_out, crate::proofs::Levels::edges_roll))]
+#[tactic(auto, using(crate::proofs::Levels::edges_out, crate::proofs::Levels::edges_roll, crate::proofs::CellLevels::cell_edges_out, crate::proofs::CellLevels::cell_edges_roll))]
 impl Edges {
     /// No edges. It takes no memory; later ones are put where `alloc` says.
     pub fn new(alloc: Global) -> Edges
-        ensures { edges_of result ≡ [] }
+        ensures edges { edges_of result ≡ [] }
+        ensures cells { cell_edges result ≡ [] }
     {
         Edges {
             edges: Vec::new(alloc),
@@ -42,14 +44,16 @@ impl Edges {
 
     /// The edges, in the order of their labels.
     pub fn iter(&self) -> Iter<'_, Edge>
-        ensures { map edge_node (iter_rest result) ≡ edges_of self.now }
+        ensures edges { map edge_node (iter_rest result) ≡ edges_of self.now }
+        ensures cells { map led_node (iter_rest result) ≡ cell_edges self.now }
     {
         self.edges.iter()
     }
 
     /// The edge at a place, counted from 0, if there is such a place.
     pub fn get(&self, at: usize) -> Option<&Edge>
-        ensures { option_map (λ e. edge_node e.now) result ≡ slice_get (edges_of self.now) at }
+        ensures edge { option_map (λ e. edge_node e.now) result ≡ slice_get (edges_of self.now) at }
+        ensures cells { option_map (λ e. led_node e.now) result ≡ slice_get (cell_edges self.now) at }
     {
         if at < self.edges.len() {
             Some(&self.edges[at])
@@ -73,6 +77,8 @@ impl Edges {
         requires rising { EdgesRise (nodes_in (edges_of self.now)) }
         ensures edge { IfOk result
             (λ r. slice_get (edges_of self.now) r.0 ≡ Some (edge_node r.1.now)) }
+        ensures cells { IfOk result
+            (λ r. slice_get (cell_edges self.now) r.0 ≡ Some (led_node r.1.now)) }
         ensures place { IfOk result (λ r. Ok r.0 ≡ place_of label (edges_of self.now)) }
         ensures gap { IfErr result (λ at. Err at ≡ place_of label (edges_of self.now)) }
     {
@@ -89,11 +95,14 @@ impl Edges {
 
         ensures put { OnOk result
             (edges_of self.new ≡ edge_put (edge_node edge) (edges_of self.old)) }
+        ensures cells { OnOk result
+            (cell_edges self.new ≡ cell_put (led_node edge) (cell_edges self.old)) }
         ensures old { IfOk result (λ old. let e = plain_edge edge in
             option_map edge_node old ≡ edge_of e.label (nodes_in (edges_of self.old))) }
         ensures rising { EdgesRise (nodes_in (edges_of self.new)) }
 
         ensures unchanged { OnErr result (edges_of self.new ≡ edges_of self.old) }
+        ensures unchanged_cells { OnErr result (cell_edges self.new ≡ cell_edges self.old) }
     {
         match self.find(edge.label()) {
             Ok(at) => Ok(Some(mem::replace(&mut self.edges[at], edge))),
@@ -110,8 +119,10 @@ impl Edges {
     pub fn spliced(&self, start: usize, end: usize, edge: Edge) -> Result<Edges, AllocError>
         requires ordered { start ≤ end }
         requires in_range { end ≤ length (edges_of self.now) }
-        ensures { IfOk result (λ e. edges_of e
+        ensures edges { IfOk result (λ e. edges_of e
             ≡ take start (edges_of self.now) ++ edge_node edge ∷ drop end (edges_of self.now)) }
+        ensures cells { IfOk result (λ e. cell_edges e
+            ≡ take start (cell_edges self.now) ++ led_node edge ∷ drop end (cell_edges self.now)) }
     {
         let mut edges = Vec::with_capacity(self.allocator(), self.edges.len() - (end - start) + 1)?;
         push_shared(&mut edges, &self.edges[..start])?;
@@ -124,8 +135,10 @@ impl Edges {
     /// for the list once, and is refused as [`Edges::spliced`] is.
     pub fn without(&self, at: usize) -> Result<Edges, AllocError>
         requires { at < length (edges_of self.now) }
-        ensures { IfOk result (λ e. edges_of e
+        ensures edges { IfOk result (λ e. edges_of e
             ≡ take at (edges_of self.now) ++ drop (at + 1) (edges_of self.now)) }
+        ensures cells { IfOk result (λ e. cell_edges e
+            ≡ take at (cell_edges self.now) ++ drop (at + 1) (cell_edges self.now)) }
     {
         let mut edges = Vec::with_capacity(self.allocator(), self.edges.len() - 1)?;
         push_shared(&mut edges, &self.edges[..at])?;
@@ -136,7 +149,8 @@ impl Edges {
     /// A copy of the edges, which shares the nodes. It takes the memory for the list once, and is
     /// refused as [`Edges::spliced`] is.
     pub fn share(&self) -> Result<Edges, AllocError>
-        ensures { IfOk result (λ e. edges_of e ≡ edges_of self.now) }
+        ensures edges { IfOk result (λ e. edges_of e ≡ edges_of self.now) }
+        ensures cells { IfOk result (λ e. cell_edges e ≡ cell_edges self.now) }
     {
         let mut edges = Vec::with_capacity(self.allocator(), self.edges.len())?;
         push_shared(&mut edges, &self.edges)?;
@@ -146,8 +160,10 @@ impl Edges {
 
 /// Adds second owners of the edges' nodes at the end.
 fn push_shared(into: &mut Vec<Edge>, edges: &[Edge]) -> Result<(), AllocError>
-    ensures { IfOk result (λ _. map edge_node into.new.items
+    ensures edges { IfOk result (λ _. map edge_node into.new.items
         ≡ map edge_node into.old.items ++ map edge_node edges.now) }
+    ensures cells { IfOk result (λ _. map led_node into.new.items
+        ≡ map led_node into.old.items ++ map led_node edges.now) }
 {
     for edge in edges {
         into.push(edge.share()?)?;

@@ -9,6 +9,7 @@
 
 mod edge;
 mod edges;
+mod ids;
 mod leaf;
 mod node;
 mod node_ref;
@@ -19,7 +20,8 @@ pub mod tree_laws;
 
 pub use edge::Edge;
 pub use edges::Edges;
+pub use ids::Ids;
 pub use leaf::Leaf;
-pub use node::Node;
+pub use node::{Node, push_cell};
 pub use node_ref::NodeRef;
 pub use tree::Tree;

@@ -1,55 +1,78 @@
 //! Nodes.
+mod cells;
 mod copies;
 
 ghost use Rattle.std.specs.Prelude.{◌≡◌, ◌==◌, ◌<◌, ◌^◌, IfOk, length, option_map, option_copied};
 ghost use Rattle.std.specs.List.{take_while, zip};
 ghost use Rattle.std.specs.Arc.{arc_value};
+ghost use Rattle.radix_node.specs.CellNode.{cell_edge_of, cell_edges, cell_node, cell_ref, led};
+ghost use Rattle.radix_node.specs.Cells.{cells_in};
 ghost use Rattle.radix_node.specs.Nodes.{pairs_of, common};
-ghost use Rattle.radix_node.specs.Node.{plain_node, node_of, nodes_in, edges_of, below_prefix, edge_of, labelled, rest_past};
+ghost use Rattle.radix_node.specs.Node.{leaf_pair, plain_node, node_of, nodes_in, edges_of, below_prefix, edge_of, labelled, rest_past};
 ghost use Rattle.radix_node.specs.Edges.{EdgesRise};
 
 use crate::edges::Edges;
 use crate::leaf::Leaf;
 use crate::node_ref::NodeRef;
+pub use cells::push_cell;
 use smallvec::SmallVec;
 use std::alloc::{AllocError, Global};
 use std::sync::Arc;
+use watch_word::WatchCell;
 
 /// A node of the tree, which never changes once it is made: its prefix, which are the bytes that
-/// come after the label of the edge to it, perhaps a leaf, and the edges to the nodes under it. A
-/// prefix of up to 16 bytes lies in the node itself.
+/// come after the label of the edge to it, perhaps a leaf, the edges to the nodes under it, and a
+/// cell. A prefix of up to 16 bytes lies in the node itself.
 #[cycle(node)]
 #[derive(Drop)]
 pub struct Node {
     prefix: SmallVec<u8, 16>,
     leaf: Option<Arc<Leaf, Global>>,
     edges: Edges,
+    cell: Arc<WatchCell>,
 }
 
 #[tactic(auto, using(crate::proofs::Levels::out_prefix, crate::proofs::Levels::out_leaf, crate::proofs::Levels::out_under, crate::proofs::Levels::node_roll, crate::proofs::Levels::ref_roll))]
 impl Node {
     /// A shared node of its parts. It takes memory for the node, and for a copy of the prefix where
     /// that has more than 16 bytes.
+    #[tactic(auto, using(crate::proofs::Levels::node_roll, crate::proofs::Levels::ref_roll, crate::proofs::CellLevels::cell_node_roll, crate::proofs::CellLevels::cell_ref_roll))]
     pub fn of(
         alloc: Global,
         prefix: &[u8],
         leaf: Option<Arc<Leaf, Global>>,
         edges: Edges,
+        cell: Arc<WatchCell>,
     ) -> Result<NodeRef, AllocError>
-        ensures { IfOk result (λ r. node_of r ≡ record {
+        ensures node { IfOk result (λ r. node_of r ≡ record {
+          prefix = prefix.now;
+          leaf = option_map leaf_pair leaf;
+          under = nodes_in (edges_of edges);
+        }) }
+        ensures cells { IfOk result (λ r. cell_ref r ≡ record {
+          cell = arc_value cell;
           prefix = prefix.now;
           leaf = option_map arc_value leaf;
-          under = nodes_in (edges_of edges);
+          under = cells_in (cell_edges edges);
         }) }
     {
         let node = Node {
             prefix: SmallVec::from_slice(alloc, prefix)?,
             leaf,
             edges,
+            cell,
         };
         Ok(NodeRef {
             node: Arc::new(alloc, node)?,
         })
+    }
+
+    /// The cell.
+    #[tactic(auto, using(crate::proofs::CellLevels::out_cell))]
+    pub fn cell(&self) -> &Arc<WatchCell>
+        ensures { let n = cell_node self.now in arc_value result.now ≡ n.cell }
+    {
+        &self.cell
     }
 
     /// The bytes that lead to the node, after the label of the edge to it.
@@ -61,7 +84,8 @@ impl Node {
 
     /// The leaf, if the node's path is a key.
     pub fn leaf(&self) -> Option<&Leaf>
-        ensures { let n = plain_node self.now in option_copied result ≡ n.leaf }
+        ensures leaf { let n = plain_node self.now in option_map (λ l. l.now.pair) result ≡ n.leaf }
+        ensures cells { let n = cell_node self.now in option_copied result ≡ n.leaf }
     {
         match &self.leaf {
             None => None,
@@ -71,7 +95,8 @@ impl Node {
 
     /// The edges to the nodes under it.
     pub fn edges(&self) -> &Edges
-        ensures { let n = plain_node self.now in nodes_in (edges_of result.now) ≡ n.under }
+        ensures edges { let n = plain_node self.now in nodes_in (edges_of result.now) ≡ n.under }
+        ensures cells { let n = cell_node self.now in cells_in (cell_edges result.now) ≡ n.under }
     {
         &self.edges
     }
@@ -80,9 +105,12 @@ impl Node {
     /// number of edges.
     pub fn child(&self, label: u8) -> Option<&Node>
         requires { let n = plain_node self.now in EdgesRise n.under }
-        ensures { let n = plain_node self.now in
+        ensures child { let n = plain_node self.now in
             option_map (λ m. labelled (record { label = label; node = plain_node m.now })) result
             ≡ edge_of label n.under }
+        ensures cells { let n = cell_node self.now in
+            option_map (λ m. led (record { label = label; node = cell_node m.now })) result
+            ≡ cell_edge_of label n.under }
     {
         match self.edges.find_edge(label) {
             Ok((_, edge)) => Some(edge.node()),

@@ -1,5 +1,6 @@
 //! Shared owners of nodes.
 ghost use Rattle.std.specs.Prelude.{◌≡◌, IfOk};
+ghost use Rattle.radix_node.specs.CellNode.{cell_node, cell_ref};
 ghost use Rattle.radix_node.specs.Node.{plain_node, node_of};
 
 use crate::node::Node;
@@ -13,11 +14,12 @@ pub struct NodeRef {
     pub(crate) node: Arc<Node, Global>,
 }
 
-#[tactic(auto, using(crate::proofs::Levels::ref_out, crate::proofs::Levels::ref_roll))]
+#[tactic(auto, using(crate::proofs::Levels::ref_out, crate::proofs::Levels::ref_roll, crate::proofs::CellLevels::cell_ref_out, crate::proofs::CellLevels::cell_ref_roll))]
 impl NodeRef {
     /// The node.
     pub fn node(&self) -> &Node
-        ensures { plain_node result.now ≡ node_of self.now }
+        ensures node { plain_node result.now ≡ node_of self.now }
+        ensures cells { cell_node result.now ≡ cell_ref self.now }
     {
         &self.node
     }
@@ -25,7 +27,8 @@ impl NodeRef {
     /// One more owner of the same node, which copies nothing. It takes no memory, and may be
     /// refused as for want of it, which the kit does where the node has 2^63 - 1 owners.
     pub fn share(&self) -> Result<NodeRef, AllocError>
-        ensures { IfOk result (λ r. node_of r ≡ node_of self.now) }
+        ensures node { IfOk result (λ r. node_of r ≡ node_of self.now) }
+        ensures cells { IfOk result (λ r. cell_ref r ≡ cell_ref self.now) }
     {
         Ok(NodeRef {
             node: Arc::try_clone(&self.node)?,

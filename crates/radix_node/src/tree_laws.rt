@@ -3,15 +3,17 @@
 ghost use Rattle.std.specs.Prelude.{◌≡◌, ◌↔◌, List};
 ghost use Rattle.std.specs.List.Sorted.{IsStrictlySortedBy};
 ghost use Rattle.mdb_datum.specs.Bytes.{Bytes, byte_order};
+ghost use Rattle.radix_node.specs.Cells.{plain_of};
 ghost use Rattle.radix_node.specs.Nodes.{pairs_of};
 ghost use Rattle.radix_node.specs.Pairs.{IsRising, find};
 ghost use Rattle.radix_node.specs.Paths.{Has, IsPath, paths_of_plain};
+ghost use Rattle.radix_node.specs.Watches.{TellTheSame, WatchesHold};
 
 use crate::tree::Tree;
 
 /// The pairs of a tree rise by key, so that no key comes twice.
 pub fn pairs_rise(tree: &Tree)
-    ensures { IsRising (pairs_of tree.now) }
+    ensures { IsRising (pairs_of (plain_of tree.now)) }
 {
     let _ = tree.root();
 }
@@ -21,17 +23,17 @@ pub fn pairs_rise(tree: &Tree)
 /// rise in byte order, and so no two nodes have one path.
 pub fn paths_are_told_by_the_keys(tree: &Tree)
     ensures told { (path : Bytes) →
-        Has path (paths_of_plain tree.now) ↔ IsPath (pairs_of tree.now) path }
-    ensures rising { IsStrictlySortedBy byte_order (paths_of_plain tree.now) }
+        Has path (paths_of_plain (plain_of tree.now)) ↔ IsPath (pairs_of (plain_of tree.now)) path }
+    ensures rising { IsStrictlySortedBy byte_order (paths_of_plain (plain_of tree.now)) }
 {
     let _ = tree.root();
 }
 
 /// Trees of the same pairs have the same nodes, whatever was written before: one shape for each
-/// map.
+/// map. The cells are others.
 pub fn pairs_have_one_tree(first: &Tree, second: &Tree)
-    requires { pairs_of first.now ≡ pairs_of second.now }
-    ensures { first.now ≡ second.now }
+    requires { pairs_of (plain_of first.now) ≡ pairs_of (plain_of second.now) }
+    ensures { plain_of first.now ≡ plain_of second.now }
 {
     let _ = first.root();
     let _ = second.root();
@@ -39,10 +41,20 @@ pub fn pairs_have_one_tree(first: &Tree, second: &Tree)
 
 /// Trees in which each key finds the same row, or none, have the same pairs and the same nodes.
 pub fn look_ups_tell_the_tree(first: &Tree, second: &Tree)
-    requires { (key : Bytes) → find key (pairs_of first.now) ≡ find key (pairs_of second.now) }
-    ensures pairs { pairs_of first.now ≡ pairs_of second.now }
-    ensures nodes { first.now ≡ second.now }
+    requires { (key : Bytes) → find key (pairs_of (plain_of first.now)) ≡ find key (pairs_of (plain_of second.now)) }
+    ensures pairs { pairs_of (plain_of first.now) ≡ pairs_of (plain_of second.now) }
+    ensures nodes { plain_of first.now ≡ plain_of second.now }
 {
     let _ = first.root();
     let _ = second.root();
+}
+
+/// Of two trees in which an id tells its node or leaf: whatever is watched in the old one, its cell
+/// isn't in the new one, or the same look-up there finds the same cell and the same rows.
+pub fn watches_hold(old: &Tree, new: &Tree)
+    requires { TellTheSame old.now new.now }
+    ensures { WatchesHold old.now new.now }
+{
+    let _ = old.root();
+    let _ = new.root();
 }

@@ -36,7 +36,7 @@ module _ (p k : List ℕ) (n : ℕ) (is : n ≡ length (common p k)) where
   first_some : n < length p → (part p k).1 ≢ []
   first_some lt e = let parts = part_parts p k in absurd (omega (arith, is, lt, ap length parts.first, length-append (part p k).0 (part p k).1, ap length e))
 
-  first_none : length p ≤ n → (part p k).1 ≡ []
+  pub first_none : length p ≤ n → (part p k).1 ≡ []
   first_none le = ended (part p k).1 (let parts = part_parts p k in omega (arith, is, le, ap length parts.first, length-append (part p k).0 (part p k).1))
     where
       ended : (xs : List ℕ) → length xs ≡ 0 → xs ≡ []

@@ -1,3 +1,5 @@
+pub mod Kept
+pub mod Notice
 pub mod Txn
 pub mod Write
 pub mod inner

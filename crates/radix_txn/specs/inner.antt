@@ -1,6 +1,10 @@
 pub mod Below
 pub mod Edits
+pub mod Kept
+pub mod Outside
+pub mod Pieces
 pub mod PutAt
 pub mod Remains
 pub mod Removal
+pub mod Steps
 pub mod Stored

@@ -8,8 +8,10 @@
 //! pairs that it held before that write.
 #![tactic(auto)]
 
+mod cells;
 mod edit;
 mod insert;
+mod notice;
 mod remains;
 mod remove;
 mod target;
@@ -19,5 +21,6 @@ mod txn;
 mod write;
 
 pub use edit::Edit;
+pub use notice::Notice;
 pub use txn::TreeTxn;
 pub use write::Write;

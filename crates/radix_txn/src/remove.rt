@@ -1,16 +1,25 @@
 //! Both deletes are one walk down: to the end of a key, or to the node that a prefix leads to.
-ghost use Rattle.std.specs.Prelude.{◌≡◌, ◌<◌, ◌^◌, [], None, IfOk, IfSome, IfNone, IsSome, OnErr, length};
-ghost use Rattle.radix_node.specs.Node.{below_prefix, plain_node};
+ghost use Rattle.std.specs.Prelude.{◌≡◌, ◌<◌, ◌≤◌, ◌+◌, ◌++◌, ◌^◌, [], List, None, Some, IfOk, IfSome, IfNone, IsSome, OnErr, OnOk, length, take, drop, option_to_list};
+ghost use Rattle.std.specs.List.{slice_get};
+ghost use Rattle.mdb_datum.specs.Bytes.{Bytes};
+ghost use Rattle.radix_node.specs.CellNode.{cell_node, led_node};
+ghost use Rattle.radix_node.specs.Cells.{AreBelow, CellNode, cells_in, cells_list, pieces_of, plain_of, root_of};
+ghost use Rattle.radix_node.specs.Node.{below_prefix, edge_node, nodes_in, nodes_list, plain_node};
 ghost use Rattle.radix_node.specs.Nodes.{pairs_of};
-ghost use Rattle.radix_txn.specs.inner.Below.{IsShapedBelow};
+ghost use Rattle.radix_node.specs.Shape.{HasShape};
+ghost use Rattle.radix_txn.specs.inner.Below.{IsShapedBelow, settled_node};
+ghost use Rattle.radix_txn.specs.inner.Outside.{AllIn, inner_pieces, outside_node};
+ghost use Rattle.radix_txn.specs.inner.Pieces.{led, whole};
 ghost use Rattle.radix_txn.specs.inner.Removal.{IsAbsent, IsMissing, IsRemoval, IsTaken, IsThere, LosesPairs};
-ghost use Rattle.radix_txn.specs.inner.Remains.{remains_of};
+ghost use Rattle.radix_txn.specs.inner.Remains.{own_leaf, own_nodes, pieces_left, remains_of, stays_left};
+ghost use Rattle.radix_txn.specs.inner.Steps.{IsOnward, Ledger, Steps};
 ghost use Rattle.radix_txn.specs.declared.target.Target.TheVariants.{Key, Prefix};
 
+use crate::cells::Cells;
 use crate::remains::Remains;
 use crate::target::Target;
 use mdb_datum::Row;
-use radix_node::{Node, Tree};
+use radix_node::{Edge, Leaf, Node, Tree};
 use std::alloc::AllocError;
 
 /// A tree without some keys, the row of the key, where one key was to go, and how many went.
@@ -23,15 +32,35 @@ pub struct Taken {
 
 /// The tree without the keys of a target; none where there is no such key. Only where there is one,
 /// it can want for memory.
-pub fn take(tree: &Tree, key: &[u8], target: Target) -> Result<Option<Taken>, AllocError>
-    ensures taken { IfOk result (λ o. IfSome o
-        (λ t. IsTaken target key.now (pairs_of tree.now) (pairs_of t.tree) t.row t.count)) }
-    ensures absent { IfOk result (λ o. IfNone o (IsAbsent target key.now (pairs_of tree.now))) }
+pub fn take(
+    tree: &Tree,
+    key: &[u8],
+    target: Target,
+    cells: &mut Cells,
+) -> Result<Option<Taken>, AllocError>
+    requires left { cells.old.next + length key.now + 1 ≤ 2 ^ 63 }
+    requires below { AreBelow cells.old.next tree.now }
 
-    ensures there { OnErr result (IsThere target key.now (pairs_of tree.now)) }
+    ensures taken { IfOk result (λ o. IfSome o (λ t. IsTaken target key.now
+        (pairs_of (plain_of tree.now)) (pairs_of (plain_of t.tree)) t.row t.count)) }
+    ensures absent { IfOk result
+        (λ o. IfNone o (IsAbsent target key.now (pairs_of (plain_of tree.now)))) }
+
+    ensures cells { IfOk result (λ o. IfSome o
+        (λ t. Steps (pieces_of tree.now) cells.old (pieces_of t.tree) cells.new)) }
+    ensures fresh { IfOk result (λ o. IfSome o (λ t. cells.old.next ≤ t.tree.cell.id)) }
+    ensures stays { IfOk result (λ o. IfSome o (λ t. AllIn
+        (outside_node target key.now (root_of tree.now)) (pieces_of t.tree))) }
+    ensures shapes { IfOk result (λ o. IfSome o (λ t. HasShape (plain_of tree.now)
+        × HasShape (plain_of t.tree))) }
+    ensures still { IfOk result (λ o. IfNone o (cells.new ≡ cells.old)) }
+    ensures few { OnOk result (cells.new.next ≤ cells.old.next + length key.now + 1) }
+    ensures onward { OnOk result (IsOnward cells.old cells.new) }
+
+    ensures there { OnErr result (IsThere target key.now (pairs_of (plain_of tree.now))) }
 {
     let len = tree.len();
-    let Some(removed) = remove(tree.root(), key, target)? else {
+    let Some(removed) = remove(tree.root(), key, target, cells)? else {
         return Ok(None);
     };
     let Removed {
@@ -39,7 +68,7 @@ pub fn take(tree: &Tree, key: &[u8], target: Target) -> Result<Option<Taken>, Al
         row,
         count,
     } = removed;
-    let tree = Tree::of_root(remains.root()?, len - count);
+    let tree = Tree::of_root(remains.root(cells)?, len - count);
     Ok(Some(Taken { tree, row, count }))
 }
 
@@ -54,9 +83,15 @@ struct Removed {
 /// The node without the leaf at the end of the rest of a key, where `rest` is what the key has after
 /// the node's path, or without the leaves whose keys go on with it; none where there is no such
 /// leaf. Nothing is copied before one is found, so only then can it want for memory.
-fn remove(node: &Node, rest: &[u8], target: Target) -> Result<Option<Removed>, AllocError>
+fn remove(
+    node: &Node,
+    rest: &[u8],
+    target: Target,
+    cells: &mut Cells,
+) -> Result<Option<Removed>, AllocError>
     requires shape { let n = plain_node node.now in IsShapedBelow n.under }
     requires few { length (pairs_of (below_prefix node.now)) < 2 ^ 64 }
+    requires left { cells.old.next + length rest.now ≤ 2 ^ 63 }
 
     ensures removed { IfOk result (λ o. IfSome o
         (λ r. IsRemoval target rest.now (below_prefix node.now)
@@ -64,10 +99,18 @@ fn remove(node: &Node, rest: &[u8], target: Target) -> Result<Option<Removed>, A
     ensures missing { IfOk result
         (λ o. IfNone o (IsMissing target rest.now (below_prefix node.now))) }
 
+    ensures cells { IfOk result (λ o. IfSome o (λ r. (front : Bytes) → Steps
+        (whole (led front (cell_node node.now))) cells.old (pieces_left r.remains) cells.new)) }
+    ensures stays { IfOk result (λ o. IfSome o (λ r. AllIn
+        (outside_node target rest.now (cell_node node.now)) (stays_left r.remains))) }
+    ensures still { IfOk result (λ o. IfNone o (cells.new ≡ cells.old)) }
+    ensures drawn { OnOk result (cells.new.next ≤ cells.old.next + length rest.now) }
+    ensures onward { OnOk result (IsOnward cells.old cells.new) }
+
     ensures there { OnErr result (LosesPairs target rest.now (below_prefix node.now)) }
 {
     let Some((first, after)) = rest.split_first() else {
-        return Ok(remove_here(node, target)?);
+        return Ok(remove_here(node, target, cells)?);
     };
     let Ok((at, edge)) = node.edges().find_edge(*first) else {
         return Ok(None);
@@ -78,42 +121,126 @@ fn remove(node: &Node, rest: &[u8], target: Target) -> Result<Option<Removed>, A
             return Ok(None);
         }
         return Ok(Some(Removed {
-            remains: Remains::without_edge(node, at)?,
+            remains: without_child(node, at, edge, cells)?,
             row: None,
             count: child.count(),
         }));
     };
-    match remove(child, left, target)? {
+    match remove(child, left, target, cells)? {
         None => Ok(None),
         Some(below) => Ok(Some(Removed {
-            remains: Remains::above(node, at, edge, below.remains)?,
+            remains: above(node, at, edge, below.remains, cells)?,
             row: below.row,
             count: below.count,
         })),
     }
 }
 
+/// What a node is left with without the edge at a place, with all under it.
+fn without_child(
+    node: &Node,
+    at: usize,
+    edge: &Edge,
+    cells: &mut Cells,
+) -> Result<Remains, AllocError>
+    requires in_range { let n = plain_node node.now in at < length (nodes_list n.under) }
+    requires there { let n = cell_node node.now in
+        slice_get (cells_list n.under) at ≡ Some (led_node edge.now) }
+
+    ensures plain { let n = plain_node node.now in let es = nodes_list n.under in
+        IfOk result (λ r. remains_of r
+        ≡ record { leaf = n.leaf; nodes = nodes_in (take at es ++ drop (at + 1) es) }) }
+
+    ensures cells { IfOk result (λ r. (front : Bytes) → Steps
+        (whole (led front (cell_node node.now))) cells.old (pieces_left r) cells.new) }
+    ensures leaf { let n = cell_node node.now in IfOk result (λ r. own_leaf r ≡ n.leaf) }
+    ensures nodes { let n = cell_node node.now in let es = cells_list n.under in
+        IfOk result (λ r. own_nodes r ≡ cells_in (take at es ++ drop (at + 1) es)) }
+    ensures drawn { OnOk result (cells.new.next ≡ cells.old.next) }
+    ensures onward { OnOk result (IsOnward cells.old cells.new) }
+{
+    cells.leave_all(edge.node())?;
+    cells.leave(node.cell())?;
+    Ok(Remains::without_edge(node, at)?)
+}
+
+/// What a node is left with where the node at the edge at a place is left with `below`.
+fn above(
+    node: &Node,
+    at: usize,
+    edge: &Edge,
+    below: Remains,
+    cells: &mut Cells,
+) -> Result<Remains, AllocError>
+    requires in_range { let n = plain_node node.now in at < length (nodes_list n.under) }
+    requires left { cells.old.next < 2 ^ 63 }
+
+    ensures plain { let n = plain_node node.now in let es = nodes_list n.under in
+        let m = edge_node edge.now in let b = remains_of below in
+        let child = settled_node m.prefix b.leaf b.nodes in
+        IfOk result (λ r. remains_of r ≡ record {
+          leaf = n.leaf;
+          nodes = nodes_in (take at es ++ (option_to_list child ++ drop (at + 1) es));
+        }) }
+
+    ensures cells { let n = cell_node node.now in IfOk result (λ r. (front : Bytes) (k : CellNode) (old : Ledger)
+        → slice_get (cells_list n.under) at ≡ Some k → IsOnward old cells.old
+        → Steps (whole k) old (pieces_left below) cells.old
+        → Steps (whole (led front n)) old (pieces_left r) cells.new) }
+    ensures leaf { let n = cell_node node.now in IfOk result (λ r. own_leaf r ≡ n.leaf) }
+    ensures nodes { let n = cell_node node.now in let es = cells_list n.under in
+        IfOk result (λ r. (ns : List CellNode)
+        × (own_nodes r ≡ cells_in (take at es ++ (ns ++ drop (at + 1) es)))
+        × AllIn (stays_left below) (inner_pieces (cells_in ns))) }
+    ensures drawn { OnOk result (cells.new.next ≤ cells.old.next + 1) }
+    ensures onward { OnOk result (IsOnward cells.old cells.new) }
+{
+    let remains = Remains::above(node, at, edge, below, cells)?;
+    cells.leave(node.cell())?;
+    Ok(remains)
+}
+
 /// The node without its own leaf, or without all at it and under it.
-fn remove_here(node: &Node, target: Target) -> Result<Option<Removed>, AllocError>
+fn remove_here(
+    node: &Node,
+    target: Target,
+    cells: &mut Cells,
+) -> Result<Option<Removed>, AllocError>
     requires { length (pairs_of (below_prefix node.now)) < 2 ^ 64 }
 
     ensures removed { IfOk result (λ o. IfSome o
         (λ r. IsRemoval target [] (below_prefix node.now) (remains_of r.remains) r.row r.count)) }
     ensures missing { IfOk result (λ o. IfNone o (IsMissing target [] (below_prefix node.now))) }
 
+    ensures cells { IfOk result (λ o. IfSome o (λ r. (front : Bytes) → Steps
+        (whole (led front (cell_node node.now))) cells.old (pieces_left r.remains) cells.new)) }
+    ensures stays { IfOk result (λ o. IfSome o (λ r. AllIn
+        (outside_node target [] (cell_node node.now)) (stays_left r.remains))) }
+    ensures still { IfOk result (λ o. IfNone o (cells.new ≡ cells.old)) }
+    ensures drawn { OnOk result (cells.new.next ≡ cells.old.next) }
+    ensures onward { OnOk result (IsOnward cells.old cells.new) }
+
     ensures there { OnErr result (LosesPairs target [] (below_prefix node.now)) }
 {
     match target {
-        Target::Key => Ok(remove_leaf(node)?),
-        Target::Prefix => Ok(remove_all(node)),
+        Target::Key => Ok(remove_leaf(node, cells)?),
+        Target::Prefix => Ok(remove_all(node, cells)?),
     }
 }
 
 /// The node without its own leaf, if it has one.
-fn remove_leaf(node: &Node) -> Result<Option<Removed>, AllocError>
+fn remove_leaf(node: &Node, cells: &mut Cells) -> Result<Option<Removed>, AllocError>
     ensures removed { IfOk result (λ o. IfSome o
         (λ r. IsRemoval Key [] (below_prefix node.now) (remains_of r.remains) r.row r.count)) }
     ensures missing { IfOk result (λ o. IfNone o (IsMissing Key [] (below_prefix node.now))) }
+
+    ensures cells { IfOk result (λ o. IfSome o (λ r. (front : Bytes) → Steps
+        (whole (led front (cell_node node.now))) cells.old (pieces_left r.remains) cells.new)) }
+    ensures stays { IfOk result (λ o. IfSome o (λ r. AllIn
+        (outside_node Key [] (cell_node node.now)) (stays_left r.remains))) }
+    ensures still { IfOk result (λ o. IfNone o (cells.new ≡ cells.old)) }
+    ensures drawn { OnOk result (cells.new.next ≡ cells.old.next) }
+    ensures onward { OnOk result (IsOnward cells.old cells.new) }
 
     ensures there { OnErr result (LosesPairs Key [] (below_prefix node.now)) }
 {
@@ -121,27 +248,56 @@ fn remove_leaf(node: &Node) -> Result<Option<Removed>, AllocError>
         return Ok(None);
     };
     Ok(Some(Removed {
-        remains: Remains::without_leaf(node)?,
+        remains: leafless(node, leaf, cells)?,
         row: Some(leaf.row().share()?),
         count: 1,
     }))
 }
 
+/// What a node is left with without its leaf.
+fn leafless(node: &Node, leaf: &Leaf, cells: &mut Cells) -> Result<Remains, AllocError>
+    requires { let n = cell_node node.now in n.leaf ≡ Some leaf.now }
+    ensures plain { let n = plain_node node.now in
+        IfOk result (λ r. remains_of r ≡ record { leaf = None; nodes = n.under }) }
+
+    ensures cells { IfOk result (λ r. (front : Bytes) → Steps
+        (whole (led front (cell_node node.now))) cells.old (pieces_left r) cells.new) }
+    ensures stays { IfOk result
+        (λ r. AllIn (outside_node Key [] (cell_node node.now)) (stays_left r)) }
+    ensures drawn { OnOk result (cells.new.next ≡ cells.old.next) }
+    ensures onward { OnOk result (IsOnward cells.old cells.new) }
+{
+    cells.leave(leaf.cell())?;
+    cells.leave(node.cell())?;
+    Ok(Remains::without_leaf(node)?)
+}
+
 /// Nothing of the node, if there are leaves at it or under it.
-fn remove_all(node: &Node) -> Option<Removed>
+fn remove_all(node: &Node, cells: &mut Cells) -> Result<Option<Removed>, AllocError>
     requires { length (pairs_of (below_prefix node.now)) < 2 ^ 64 }
 
-    ensures removed { IfSome result
-        (λ r. IsRemoval Prefix [] (below_prefix node.now) (remains_of r.remains) r.row r.count) }
-    ensures missing { IfNone result (IsMissing Prefix [] (below_prefix node.now)) }
+    ensures removed { IfOk result (λ o. IfSome o
+        (λ r. IsRemoval Prefix [] (below_prefix node.now) (remains_of r.remains) r.row r.count)) }
+    ensures missing { IfOk result (λ o. IfNone o (IsMissing Prefix [] (below_prefix node.now))) }
+
+    ensures cells { IfOk result (λ o. IfSome o (λ r. (front : Bytes) → Steps
+        (whole (led front (cell_node node.now))) cells.old (pieces_left r.remains) cells.new)) }
+    ensures stays { IfOk result (λ o. IfSome o (λ r. AllIn
+        (outside_node Prefix [] (cell_node node.now)) (stays_left r.remains))) }
+    ensures still { IfOk result (λ o. IfNone o (cells.new ≡ cells.old)) }
+    ensures drawn { OnOk result (cells.new.next ≡ cells.old.next) }
+    ensures onward { OnOk result (IsOnward cells.old cells.new) }
+
+    ensures there { OnErr result (LosesPairs Prefix [] (below_prefix node.now)) }
 {
     let count = node.count();
     if count == 0 {
-        return None;
+        return Ok(None);
     }
-    Some(Removed {
+    cells.leave_all(node)?;
+    Ok(Some(Removed {
         remains: Remains::nothing(node.edges().allocator()),
         row: None,
         count,
-    })
+    }))
 }

@@ -1,16 +1,16 @@
 //! The worked trees are those of the words `foo`, `football`, `fool` and `foot`, each ended by a
 //! byte 00, as the shape asks. A row tells its number.
 mod deep;
+mod look_ups;
+mod notices;
 mod refused;
 mod run;
 mod written;
 
-use crate::{Edit, TreeTxn};
 use mdb_datum::Row;
-use radix_node::Tree;
 use std::alloc::{AllocError, Global};
 use std::test::Fail;
-use written::{applied, freeze, nodes_are, put, row, stand, take, take_all, three_writes, txn_of};
+use written::{Work, applied, nodes_are, row, three_writes, work_of};
 
 /// A node of a tree: a path that leads to it, its own prefix, whether it has a leaf, and the labels
 /// of its edges.
@@ -60,11 +60,11 @@ fn nodes_after(
     taken: &[&[u8]],
     nodes: &[Line],
 ) -> Result<bool, Fail> {
-    let mut txn = txn_of(alloc, keys)?;
+    let mut work = work_of(alloc, keys)?;
     for key in taken {
-        drop(take(&mut txn, key)?);
+        drop(work.take(key)?);
     }
-    let tree = stand(&mut txn)?;
+    let tree = work.stand()?;
     Ok(nodes_are(&tree, nodes))
 }
 
@@ -120,9 +120,9 @@ const TAKEN: [(&[u8], u64, &[Line]); 10] = [
 ];
 
 fn takes(alloc: Global, prefix: &[u8], count: u64, nodes: &[Line]) -> Result<bool, Fail> {
-    let mut txn = txn_of(alloc, &FORKED_KEYS)?;
-    let gone = take_all(&mut txn, prefix)?;
-    let tree = freeze(txn)?;
+    let mut work = work_of(alloc, &FORKED_KEYS)?;
+    let gone = work.take_all(prefix)?;
+    let (tree, _) = work.freeze()?;
     Ok(gone == count && nodes_are(&tree, nodes))
 }
 
@@ -135,18 +135,18 @@ fn a_prefix_takes_its_node_with_all_under_it(rt: HostRuntime) -> Result<(), Fail
 }
 
 /// In a scattered order, since 97 is odd.
-fn put_all_bytes(txn: &mut TreeTxn, row: &Row) -> Result<(), AllocError> {
+fn put_all_bytes(work: &mut Work, row: &Row) -> Result<(), AllocError> {
     for turn in 0..=255u8 {
         let byte = turn.wrapping_mul(97);
-        put(txn, &[b'k', byte, byte], row)?;
+        work.put(&[b'k', byte, byte], row)?;
     }
     Ok(())
 }
 
 fn has_all_bytes(alloc: Global, row: &Row) -> Result<bool, AllocError> {
-    let mut txn = Tree::empty(alloc)?.txn()?;
-    put_all_bytes(&mut txn, row)?;
-    let tree = freeze(txn)?;
+    let mut work = Work::new(alloc)?;
+    put_all_bytes(&mut work, row)?;
+    let (tree, _) = work.freeze()?;
     Ok(
         tree.seek(b"k")
             .is_some_and(|node| node.edges().len() == 256),
@@ -170,10 +170,10 @@ fn writes_are_made_in_turn(rt: HostRuntime) -> Result<(), Fail> {
 
 /// Whether a tree that was given stays as it was, and a later one has the change.
 fn stays(alloc: Global) -> Result<bool, Fail> {
-    let mut txn = txn_of(alloc, &FORKED_KEYS)?;
-    let tree = stand(&mut txn)?;
-    take_all(&mut txn, b"foot")?;
-    let changed = freeze(txn)?;
+    let mut work = work_of(alloc, &FORKED_KEYS)?;
+    let tree = work.stand()?;
+    work.take_all(b"foot")?;
+    let (changed, _) = work.freeze()?;
     Ok(nodes_are(&tree, &FORKED) && nodes_are(&changed, &FOO))
 }
 

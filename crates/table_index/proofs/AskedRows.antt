@@ -14,7 +14,6 @@ use Rattle.mdb_schema.specs.declared.ask.Ask.{Ask}
 use Rattle.mdb_schema.specs.declared.ask_error.AskError.{AskError}
 use Rattle.mdb_schema.specs.declared.ask_error.AskError.TheVariants.{Memory}
 use Rattle.radix_node.specs.Nodes.{Plain, pairs_of}
-use Rattle.table_index.specs.Table.{TableRows}
 use Rattle.table_index.specs.inner.Held.{AreTrees, rows_held}
 use Rattle.table_index.specs.inner.Lookups.{AnswersLookup}
 
@@ -58,20 +57,20 @@ module _ (t : TableSchema) (rows : List Fields) (q : Query) where
 
 -- ---- the same, of what a table's parts say
 
-module _ (t : TableSchema) (trees : List Plain) (now : TableRows) (is : ◌≡◌ {A = TableRows} (record { schema = t; rows = rows_held t trees }) now) (word : Ask) (q : Query) (same : word ≡ q.ask) where
+module _ (t : TableSchema) (trees : List Plain) (now : TableSchema × List Fields) (is : (t, rows_held t trees) ≡ now) (word : Ask) (q : Query) (same : word ≡ q.ask) where
   told_at : (result : Result Lookup AskError) → AnswersLookup (lookup_of t (record q { ask = word })) result → AnswersLookup (lookup_of t q) result
   told_at result told = subst (λ (a : Ask). AnswersLookup (lookup_of t (record q { ask = a })) result) same told
 
-  answers_now : (result : Result Answer AskError) → AnswersAsk (ask_rows t (rows_held t trees) q) result → AnswersAsk (ask_rows now.schema now.rows q) result
-  answers_now result told = subst (λ (x : TableRows). AnswersAsk (ask_rows x.schema x.rows q) result) is told
+  answers_now : (result : Result Answer AskError) → AnswersAsk (ask_rows t (rows_held t trees) q) result → AnswersAsk (ask_rows now.0 now.1 q) result
+  answers_now result told = subst (λ (x : TableSchema × List Fields). AnswersAsk (ask_rows x.0 x.1 q) result) is told
 
-  pub refused : (e : AskError) → AnswersLookup (lookup_of t (record q { ask = word })) (Err e) → AnswersAsk (ask_rows now.schema now.rows q) (Err e)
+  pub refused : (e : AskError) → AnswersLookup (lookup_of t (record q { ask = word })) (Err e) → AnswersAsk (ask_rows now.0 now.1 q) (Err e)
   refused e told = answers_now (Err e) (refused_lookup t (rows_held t trees) q (lookup_of t q) e (told_at (Err e) told))
 
-  found : (l : Lookup) (a : Answer) → AnswersLookup (lookup_of t (record q { ask = word })) (Ok l) → a ≡ answer q.ask (is_exact l.index q) l.key (entries t l.index (rows_held t trees)) → AnswersAsk (ask_rows now.schema now.rows q) (Ok a)
+  found : (l : Lookup) (a : Answer) → AnswersLookup (lookup_of t (record q { ask = word })) (Ok l) → a ≡ answer q.ask (is_exact l.index q) l.key (entries t l.index (rows_held t trees)) → AnswersAsk (ask_rows now.0 now.1 q) (Ok a)
   found l a told made = answers_now (Ok a) (found_lookup t (rows_held t trees) q (lookup_of t q) l a (told_at (Ok l) told) made)
 
   pub answered : (l : Lookup) (result : Result Answer AskError) → AnswersLookup (lookup_of t (record q { ask = word })) (Ok l)
-      → MatchResult result (λ a. a ≡ answer q.ask (is_exact l.index q) l.key (entries t l.index (rows_held t trees))) (λ e. e ≡ Memory) → AnswersAsk (ask_rows now.schema now.rows q) result
+      → MatchResult result (λ a. a ≡ answer q.ask (is_exact l.index q) l.key (entries t l.index (rows_held t trees))) (λ e. e ≡ Memory) → AnswersAsk (ask_rows now.0 now.1 q) result
   answered l (Ok a) told made = found l a told made
   answered l (Err e) told memory = answers_now (Err e) (memory_lookup t (rows_held t trees) q (lookup_of t q) l e (told_at (Ok l) told) memory)

@@ -12,10 +12,11 @@ use Rattle.mdb_schema.specs.State.{AreLawfulRows}
 use Rattle.mdb_schema.proofs.IdEntries.{rows_of-entries}
 use Rattle.mdb_schema.proofs.IdKeys.{id_index}
 use Rattle.mdb_schema.proofs.LawfulRows.{no_rows_lawful}
+use Rattle.radix_node.specs.Cells.{CellTree, plain_of}
 use Rattle.radix_node.specs.Nodes.{Plain, pairs_of}
 use Rattle.radix_txn.specs.Txn.{Txn}
 use Rattle.table_index.specs.Table.{TableRows, TableChange}
-use Rattle.table_index.specs.inner.Held.{Hold, rows_in, rows_held, AreTrees, begun, nodes_of, AreSound}
+use Rattle.table_index.specs.inner.Held.{Hold, rows_in, rows_held, AreTrees, begun, nodes_of, plains, starts_of, trees_of, AreSound}
 
 abbrev rows_or_none : Option (List Pair) → List Fields
 rows_or_none None = []
@@ -55,39 +56,59 @@ pub Hold-none : (t : TableSchema) (trees : List Plain) → map pairs_of trees �
 Hold-none t trees e = e ∙ entries_of_none t t.indexes
 
 -- a table without rows, of its parts
-pub empty_table : (t d : TableSchema) (n : ℕ) (trees : List Plain) → d ≡ t → n ≡ length t.indexes → IsLawfulTable t → map pairs_of trees ≡ replicate n []
-    → AreTrees d trees × (◌≡◌ {A = TableRows} (record { schema = d; rows = rows_held d trees }) (record { schema = t; rows = [] }))
+pub empty_table : (t d : TableSchema) (n : ℕ) (trees : List CellTree) → d ≡ t → n ≡ length t.indexes → IsLawfulTable t → map pairs_of (plains trees) ≡ replicate n []
+    → AreTrees d (plains trees) × (◌≡◌ {A = TableRows} (record { schema = d; rows = rows_held d (plains trees); trees = trees }) (record { schema = t; rows = []; trees = trees }))
 empty_table t d n trees same count table e =
-    let held = Hold-none t trees (e ∙ ap (λ (k : ℕ). replicate k []) count) in
-    let rows = rows_held-rows t [] trees table (no_rows_lawful t) held in (
-      subst (λ (x : TableSchema). AreTrees x trees) (sym same) (AreTrees-from t [] trees table (no_rows_lawful t) held),
-      ap (λ (x : TableSchema). record { schema = x; rows = rows_held x trees }) same ∙ ap (λ (rs : List Fields). record { schema = t; rows = rs }) rows,
+    let held = Hold-none t (plains trees) (e ∙ ap (λ (k : ℕ). replicate k []) count) in
+    let rows = rows_held-rows t [] (plains trees) table (no_rows_lawful t) held in (
+      subst (λ (x : TableSchema). AreTrees x (plains trees)) (sym same) (AreTrees-from t [] (plains trees) table (no_rows_lawful t) held),
+      ap (λ (x : TableSchema). record { schema = x; rows = rows_held x (plains trees); trees = trees }) same ∙ ap (λ (rs : List Fields). record { schema = t; rows = rs; trees = trees }) rows,
     )
 
 -- ---- transactions
 
-pub nodes_of-begun : (trees : List Plain) → nodes_of (map begun trees) ≡ trees
+nodes_of-begun : (trees : List CellTree) → nodes_of (map begun trees) ≡ plains trees
 nodes_of-begun [] = refl
-nodes_of-begun (tree ∷ trees) = ap (λ (ts : List Plain). tree ∷ ts) (nodes_of-begun trees)
+nodes_of-begun (tree ∷ trees) = ap (λ (ts : List Plain). plain_of tree ∷ ts) (nodes_of-begun trees)
 
-pub AreSound-begun : (trees : List Plain) → AreSound (map begun trees)
+trees_of-begun : (trees : List CellTree) → trees_of (map begun trees) ≡ trees
+trees_of-begun [] = refl
+trees_of-begun (tree ∷ trees) = ap (λ (ts : List CellTree). tree ∷ ts) (trees_of-begun trees)
+
+starts_of-begun : (trees : List CellTree) → starts_of (map begun trees) ≡ trees
+starts_of-begun [] = refl
+starts_of-begun (tree ∷ trees) = ap (λ (ts : List CellTree). tree ∷ ts) (starts_of-begun trees)
+
+pub AreSound-begun : (trees : List CellTree) → AreSound (map begun trees)
 AreSound-begun trees = All-map (λ (x : Txn). x.spoiled ≡ false) begun trees (λ k d h. refl)
 
+-- the nodes of present trees are their own
+pub plains-trees_of : (txns : List Txn) → plains (trees_of txns) ≡ nodes_of txns
+plains-trees_of [] = refl
+plains-trees_of (x ∷ txns) = ap (λ (ts : List Plain). plain_of x.tree ∷ ts) (plains-trees_of txns)
+
 -- a change that begins with a table, of its parts
-pub begun_change : (t d : TableSchema) (trees : List Plain) (txns : List Txn) (now : TableRows) → AreTrees t trees → d ≡ t → txns ≡ map begun trees
-    → ◌≡◌ {A = TableRows} (record { schema = t; rows = rows_held t trees }) now
+pub begun_change : (t d : TableSchema) (trees : List CellTree) (txns : List Txn) (now : TableRows) → AreTrees t (plains trees) → d ≡ t → txns ≡ map begun trees
+    → ◌≡◌ {A = TableRows} (record { schema = t; rows = rows_held t (plains trees); trees = trees }) now
     → AreTrees d (nodes_of txns) × AreSound txns
-    × (◌≡◌ {A = TableChange} (record { schema = d; rows = rows_held d (nodes_of txns); spoiled = false }) (record { schema = now.schema; rows = now.rows; spoiled = false }))
+    × (◌≡◌ {A = TableChange} (record { schema = d; rows = rows_held d (nodes_of txns); start = starts_of txns; trees = trees_of txns; spoiled = false })
+    (record { schema = now.schema; rows = now.rows; start = now.trees; trees = now.trees; spoiled = false }))
 begun_change t d trees txns now held same begins is =
-    let nodes : trees ≡ nodes_of txns = sym (ap nodes_of begins ∙ nodes_of-begun trees) in (
-      subst (λ (x : TableSchema). AreTrees x (nodes_of txns)) (sym same) (subst (λ (ts : List Plain). AreTrees t ts) nodes held),
+    let nodes : nodes_of txns ≡ plains trees = ap nodes_of begins ∙ nodes_of-begun trees in
+    let all : starts_of txns ≡ trees = ap starts_of begins ∙ starts_of-begun trees in
+    let present : trees_of txns ≡ trees = ap trees_of begins ∙ trees_of-begun trees in (
+      subst (λ (x : TableSchema). AreTrees x (nodes_of txns)) (sym same) (subst (λ (ts : List Plain). AreTrees t ts) (sym nodes) held),
       All-same (λ (x : Txn). x.spoiled ≡ false) txns (map begun trees) begins (AreSound-begun trees),
-      ap (λ (x : TableSchema). record { schema = x; rows = rows_held x (nodes_of txns); spoiled = false }) same
-          ∙ ap (λ (ts : List Plain). record { schema = t; rows = rows_held t ts; spoiled = false }) (sym nodes)
-          ∙ ap (λ (x : TableRows). record { schema = x.schema; rows = x.rows; spoiled = false }) is,
+      (λ k. record { schema = same k; rows = rows_held (same k) (nodes k); start = all k; trees = present k; spoiled = false })
+          ∙ ap (λ (x : TableRows). record { schema = x.schema; rows = x.rows; start = x.trees; trees = x.trees; spoiled = false }) is,
     )
 
--- the table in which a change stands
-pub standing_trees : (t d : TableSchema) (txns : List Txn) (trees : List Plain) → AreTrees t (nodes_of txns) → d ≡ t → trees ≡ nodes_of txns → AreTrees d trees
-standing_trees t d txns trees held same is =
-    subst (λ (x : TableSchema). AreTrees x trees) (sym same) (subst (λ (ts : List Plain). AreTrees t ts) (sym is) held)
+-- the table in which a change stands, of its parts
+pub standing_table : (t d : TableSchema) (txns : List Txn) (trees : List CellTree) → AreTrees t (nodes_of txns) → d ≡ t → trees ≡ trees_of txns
+    → AreTrees d (plains trees)
+    × (◌≡◌ {A = TableRows} (record { schema = d; rows = rows_held d (plains trees); trees = trees }) (record { schema = t; rows = rows_held t (nodes_of txns); trees = trees_of txns }))
+standing_table t d txns trees held same is =
+    let nodes : plains trees ≡ nodes_of txns = ap plains is ∙ plains-trees_of txns in (
+      subst (λ (x : TableSchema). AreTrees x (plains trees)) (sym same) (subst (λ (ts : List Plain). AreTrees t ts) (sym nodes) held),
+      λ k. record { schema = same k; rows = rows_held (same k) (nodes k); trees = is k },
+    )

@@ -1,5 +1,5 @@
 -- Where a question looks, test by test, and what its refusals tell.
-use Rattle.std.proofs.Common.{◌≡◌, ◌∙◌, ℕ, List, [], ◌∷◌, Bool, true, not, Option, Some, Ok, Err, slice_get, refl, sym, ap, subst}
+use Rattle.std.proofs.Common.{◌≡◌, ◌∙◌, ℕ, List, [], ◌∷◌, Bool, true, false, not, Option, Some, None, Ok, Err, slice_get, refl, sym, ap, subst}
 use Rattle.std.specs.Prelude.{◌||◌}
 use Rattle.mdb_datum.specs.Doc.{Doc}
 use Rattle.mdb_encode.specs.ArgRefusal.{arg_count}
@@ -73,3 +73,35 @@ module _ (t : TableSchema) (a : Ask) (asked : Query) where
   pub key_found : (place : ℕ) (i : IndexSchema) (found : Option Bytes) → lookup_of t q ≡ by_key place i (key_asked i asked asked.args) → AnswersAskedKey (key_asked i asked asked.args) (Ok found)
       → AnswersLookup (lookup_of t q) (Ok (record { place = place; index = i; key = key_or_empty found }))
   key_found place i found walked told = subst (λ (r : Asked Lookup). AnswersLookup r (Ok (record { place = place; index = i; key = key_or_empty found }))) (sym walked) (by_found place i (key_asked i asked asked.args) found told)
+
+  -- ---- what is found there
+
+  from_key : (place : ℕ) (i : IndexSchema) (k : Asked Bytes) (at : Lookup) → by_key place i k ≡ Ok at → (place ≡ at.place) × (i ≡ at.index)
+  from_key place i (Ok k) at e = let same : ◌≡◌ {A = Lookup} (record { place = place; index = i; key = k }) at = cc in (ap (λ (l : Lookup). l.place) same, ap (λ (l : Lookup). l.index) same)
+  from_key place i (Err why) at e = cc
+
+  from_enough : (place : ℕ) (i : IndexSchema) (b : Bool) (at : Lookup) → by_enough place i b ≡ Ok at → (place ≡ at.place) × (i ≡ at.index)
+  from_enough place i true at e = from_key place i (key_asked i q q.args) at e
+  from_enough place i false at e = cc
+
+  from_able : (place : ℕ) (i : IndexSchema) (b : Bool) (at : Lookup) → by_able place i b ≡ Ok at → (place ≡ at.place) × (i ≡ at.index)
+  from_able place i true at e = from_enough place i (not (needs_argument q.ask) || has_argument q) at e
+  from_able place i false at e = cc
+
+  from_index : (place : ℕ) (o : Option IndexSchema) (at : Lookup) → slice_get t.indexes place ≡ o → by_index place o ≡ Ok at → slice_get t.indexes at.place ≡ Some at.index
+  from_index place None at there e = cc
+  from_index place (Some i) at there e =
+      let found = from_able place i (may_ask q.ask i) at e in
+      ap (slice_get t.indexes) (sym found.0) ∙ there ∙ ap Some found.1
+
+  from_place : (o : Option ℕ) (at : Lookup) → by_place o ≡ Ok at → slice_get t.indexes at.place ≡ Some at.index
+  from_place None at e = cc
+  from_place (Some place) at e = from_index place (slice_get t.indexes place) at refl e
+
+  from_name : (b : Bool) (at : Lookup) → by_name b ≡ Ok at → slice_get t.indexes at.place ≡ Some at.index
+  from_name true at e = from_place (index_place (own_name q.index) t.indexes) at e
+  from_name false at e = cc
+
+-- the index where a question looks
+pub looked_there : (t : TableSchema) (q : Query) (at : Lookup) → lookup_of t q ≡ Ok at → slice_get t.indexes at.place ≡ Some at.index
+looked_there t q at e = from_name t q.ask q (may_name q.ask q) at e

@@ -1,5 +1,5 @@
 -- What a put is, of its steps: its refusals, and what stands after it.
-use Rattle.std.proofs.Common.{◌≡◌, ◌∙◌, ℕ, List, map, length, Bool, Option, Some, None, is_some, Ok, Err, sym, ap, subst}
+use Rattle.std.proofs.Common.{◌≡◌, ◌∙◌, ℕ, List, map, length, Bool, Option, Some, None, is_some, Ok, Err, refl, sym, ap, subst, inl, inr}
 use Rattle.std.specs.List.{zip}
 use Rattle.std.proofs.lemmas.List.{length-map}
 use Rattle.mdb_datum.specs.Row.{Fields}
@@ -16,11 +16,13 @@ use Rattle.mdb_schema.proofs.IdKeys.{id_of-key}
 use Rattle.mdb_schema.proofs.LawfulRows.{put_keeps}
 use Rattle.mdb_schema.proofs.Passed.{goes_on}
 use Rattle.mdb_schema.specs.declared.write_error.WriteError.{WriteError}
+use Rattle.mdb_schema.specs.declared.write_error.WriteError.TheVariants.{IdsSpent}
 use Rattle.radix_txn.specs.Txn.{Txn, txn_pairs}
+use Rattle.table_index.specs.Table.{AreSpent}
 use Rattle.table_index.specs.inner.Held.{AreSound, AreTrees, Hold, nodes_of, rows_held}
 use Rattle.table_index.specs.inner.Keys.{Tells, full_keys_at}
 use Rattle.table_index.specs.inner.PutKeys.{IsAccepted, first_taken, keys_of_each}
-use Rattle.table_index.specs.inner.TreeEdits.{NewAndOld, IsPut, edited_each, replaced_each, replaced_in}
+use Rattle.table_index.specs.inner.TreeEdits.{NewAndOld, IsPut, IsRefused, edited_each, replaced_each, replaced_in}
 use Rattle.table_index.proofs.FreeTold.{TellsFree, free_told, zip_of_maps}
 use Rattle.table_index.proofs.FullKeys.{found_keys}
 use Rattle.table_index.proofs.KeysTold.{takes_each, takes_told}
@@ -112,3 +114,14 @@ module _ (t : TableSchema) (row : Fields) where
         let now = written t (put_row t row rows) c.0 c.1 after table accepted.done (put_keeps t row rows c trees.lawful accepted.done)
         (Hold-put rows c before after trees.lawful trees.held accepted.done (edits ∙ keys)) sound in
         (c.1, accepted.there, now)
+
+-- a put that isn't refused, and finds too few ids
+pub put_short : (t : TableSchema) (row : Fields) (txns : List Txn) (next : ℕ) → AreSpent next 1 → (new old : List (List Bytes)) (replaced : Bool) → IsAccepted t row (rows_held t (nodes_of txns)) new old replaced
+    → IsRefused next (put_row t row (rows_held t (nodes_of txns))) IdsSpent txns txns
+put_short t row txns next few new old replaced accepted = inr (inl (record {
+  changed = accepted.changed;
+  done = accepted.done;
+  few = few;
+  error = refl;
+  same = refl;
+}))

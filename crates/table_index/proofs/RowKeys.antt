@@ -37,6 +37,22 @@ limited_short (Ok js) ks h = of (nat_lt most_keys (length js)) (list_any is_too_
 pub keys_short : (i : Indexer) (row : Fields) (ks : List Bytes) → keys i row ≡ Ok ks → All IsShort ks
 keys_short i row ks e = limited_short (raw_keys i row) ks e
 
+few_from : (n : ℕ) → nat_lt 256 n ≡ false → n ≤ 256
+few_from n e = grind (arith, nat_tests)
+
+limited_few : (k : Keyed) (ks : List Bytes) → limited k ≡ Ok ks → length ks ≤ 256
+limited_few (Err e) ks h = cc
+limited_few (Ok js) ks h = of (nat_lt most_keys (length js)) (list_any is_too_long js) refl h
+  where
+    of : (b c : Bool) → nat_lt most_keys (length js) ≡ b → ◌≡◌ {A = Keyed} (cond b (Err too_many) (cond c (Err too_long) (Ok js))) (Ok ks) → length ks ≤ 256
+    of true c e h = cc
+    of false true e h = cc
+    of false false e h = let same : js ≡ ks = cc in subst (λ (xs : List Bytes). length xs ≤ 256) same (few_from (length js) e)
+
+-- and few
+pub keys_few : (i : Indexer) (row : Fields) (ks : List Bytes) → keys i row ≡ Ok ks → length ks ≤ 256
+keys_few i row ks e = limited_few (raw_keys i row) ks e
+
 pub answered : (k : Keyed) (ks : List Bytes) → AnswersKeys k (Ok ks) → k ≡ Ok ks
 answered (Ok js) ks e = ap Ok (sym e)
 answered (Err r) ks e = cc

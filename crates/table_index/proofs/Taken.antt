@@ -1,5 +1,5 @@
 -- What the removal of a row is, of its steps.
-use Rattle.std.proofs.Common.{◌≡◌, ◌∙◌, List, map, Option, Some, Result, Ok, Err, MatchResult, sym, ap, subst, inl}
+use Rattle.std.proofs.Common.{◌≡◌, ◌∙◌, ℕ, List, map, Option, Some, Result, Ok, Err, MatchResult, refl, sym, ap, subst, inl, inr}
 use Rattle.mdb_datum.specs.Row.{Fields}
 use Rattle.mdb_encode.specs.Bytes.{Bytes}
 use Rattle.mdb_schema.specs.LawfulSchema.{IsLawfulTable}
@@ -8,10 +8,11 @@ use Rattle.mdb_schema.specs.State.{row_at, without_row}
 use Rattle.mdb_schema.specs.Tests.{◌>>=◌, needed, each}
 use Rattle.mdb_schema.specs.Write.{Tested, Changed, not_found, id_of, indexes_of, remove_row}
 use Rattle.mdb_schema.specs.declared.write_error.WriteError.{WriteError}
-use Rattle.mdb_schema.specs.declared.write_error.WriteError.TheVariants.{Memory}
+use Rattle.mdb_schema.specs.declared.write_error.WriteError.TheVariants.{Memory, IdsSpent}
 use Rattle.mdb_schema.proofs.LawfulRows.{remove_keeps}
 use Rattle.mdb_schema.proofs.Passed.{goes_on}
 use Rattle.radix_txn.specs.Txn.{Txn, txn_pairs}
+use Rattle.table_index.specs.Table.{AreLeft, AreSpent}
 use Rattle.table_index.specs.inner.Held.{AreSound, AreTrees, nodes_of, rows_held}
 use Rattle.table_index.specs.inner.Keys.{full_keys_at}
 use Rattle.table_index.specs.inner.TreeEdits.{without_each, IsRefused, IsWritten}
@@ -42,8 +43,19 @@ module _ (t : TableSchema) (txns : List Txn) (table : IsLawfulTable t) (trees : 
       written t (remove_row t row rows) left (Some old) after table gone (remove_keeps t row rows (left, Some old) trees.lawful gone) held sound
 
   -- the same, with want of memory
-  pub removal_told : (id : Bytes) (old : Fields) → id_of t row ≡ Ok id → row_at t id rows ≡ Some old → (kss : List (List Bytes)) → each (full_keys_at id old) (indexes_of t) ≡ Ok kss
+  pub removal_told : (next : ℕ) → AreLeft next 1 → (id : Bytes) (old : Fields) → id_of t row ≡ Ok id → row_at t id rows ≡ Some old → (kss : List (List Bytes)) → each (full_keys_at id old) (indexes_of t) ≡ Ok kss
       → (after : List Txn) (result : Result Fields WriteError) → MatchResult result (λ x. (x ≡ old) × (map txn_pairs after ≡ without_each kss (map txn_pairs txns)) × AreSound after) (λ e. e ≡ Memory)
-      → MatchResult result (λ x. IsWritten t (remove_row t row rows) (Some x) after) (λ e. IsRefused (remove_row t row rows) e txns after)
-  removal_told id old known found kss e after (Ok x) h = subst (λ (y : Fields). IsWritten t (remove_row t row rows) (Some y) after) (sym h.0) (removal id old known found kss after e h.1 h.2)
-  removal_told id old known found kss e after (Err why) memory = inl memory
+      → MatchResult result (λ x. AreLeft next 1 × IsWritten t (remove_row t row rows) (Some x) after) (λ e. IsRefused next (remove_row t row rows) e txns after)
+  removal_told next left id old known found kss e after (Ok x) h =
+      (left, subst (λ (y : Fields). IsWritten t (remove_row t row rows) (Some y) after) (sym h.0) (removal id old known found kss after e h.1 h.2))
+  removal_told next left id old known found kss e after (Err why) memory = inl memory
+
+  -- a removal that isn't refused, and finds too few ids
+  pub removal_short : (next : ℕ) → AreSpent next 1 → (id : Bytes) (old : Fields) → id_of t row ≡ Ok id → row_at t id rows ≡ Some old → IsRefused next (remove_row t row rows) IdsSpent txns txns
+  removal_short next few id old known found = inr (inl (record {
+    changed = (without_row t id rows, Some old);
+    done = removed_by id known (Some old) found;
+    few = few;
+    error = refl;
+    same = refl;
+  }))

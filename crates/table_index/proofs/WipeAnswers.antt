@@ -17,11 +17,12 @@ use Rattle.mdb_schema.specs.declared.ask.Ask.TheVariants.{Get}
 use Rattle.mdb_schema.specs.declared.ask_error.AskError.{AskError}
 use Rattle.mdb_schema.proofs.Passed.{goes_on}
 use Rattle.radix_txn.specs.Txn.{Txn}
-use Rattle.table_index.specs.Table.{TableChange, AnswersCheck, AnswersTake, AnswersWipe}
+use Rattle.table_index.specs.Table.{TableChange, AnswersCheck, AnswersTake, AnswersWipe, AreLeft, IsWipeGivenUp}
 use Rattle.table_index.specs.declared.wipe_error.WipeError.{WipeError}
-use Rattle.table_index.specs.declared.wipe_error.WipeError.TheVariants.{Memory, Refused}
+use Rattle.table_index.specs.declared.wipe_error.WipeError.TheVariants.{Refused}
 use Rattle.table_index.specs.inner.Lookups.{AnswersLookup}
-use Rattle.table_index.specs.inner.Wipes.{listed_at, AnswersTarget, IsWiped, IsRefusedWipe, wipe_error, wants_memory}
+use Rattle.table_index.specs.inner.Held.{starts_of, trees_of}
+use Rattle.table_index.specs.inner.Wipes.{listed_at, AnswersTarget, GivesUp, IsWiped, IsRefusedWipe, wipe_error, wants_memory}
 use Rattle.table_index.proofs.Answered.{change_of}
 
 -- ---- the question
@@ -67,12 +68,12 @@ module _ (t : TableSchema) (rows : List Fields) (q : Query) where
       ∙ ap (λ (k : Bytes). let r : Asked (List Fields) = Ok (once t (rows_of (with_prefix k (entries t at.index rows)))) in r) (sym is_key)
       ∙ ap (λ (o : Option IndexSchema). let r : Asked (List Fields) = Ok (once t (listed_at t rows o key)) in r) (sym found)
 
-  refused_by : (told : Asked Lookup) (e : WipeError) (txns : List Txn) → AnswersTarget told (Err e) → IsRefusedWipe (told >>= listing t rows) e txns txns
-  refused_by (Ok at) e txns memory = inl (once t (rows_of (with_prefix at.key (entries t at.index rows))), refl, memory)
-  refused_by (Err why) e txns h = let same : e ≡ Refused (ask_error why) = cc in inr (why, refl, same, refl)
+  refused_by : (next : ℕ) (told : Asked Lookup) (e : WipeError) (txns : List Txn) → AnswersTarget told (Err e) → IsRefusedWipe next (told >>= listing t rows) e txns txns
+  refused_by next (Ok at) e txns memory = inl (once t (rows_of (with_prefix at.key (entries t at.index rows))), refl, inl memory)
+  refused_by next (Err why) e txns h = let same : e ≡ Refused (ask_error why) = cc in inr (why, refl, same, refl)
 
-  pub question_refused : (e : WipeError) (txns : List Txn) → AnswersTarget (lookup_of t (record q { ask = Get })) (Err e) → IsRefusedWipe (wiped_rows t rows q) e txns txns
-  question_refused e txns h = refused_by asked e txns h
+  pub question_refused : (next : ℕ) (e : WipeError) (txns : List Txn) → AnswersTarget (lookup_of t (record q { ask = Get })) (Err e) → IsRefusedWipe next (wiped_rows t rows q) e txns txns
+  question_refused next e txns h = refused_by next asked e txns h
 
   -- the rules are those of where it looks
   check_passed_by : (told : Asked Lookup) (at : Lookup) → AnswersTarget told (Ok at) → AnswersCheck {A = ⊤} (told >>= listing t rows) (Ok tt)
@@ -90,41 +91,56 @@ module _ (t : TableSchema) (rows : List Fields) (q : Query) where
   check_refused e h = check_refused_by asked e h
 
 -- what the trees say, where the question isn't refused
-pub wiped_trees : (t : TableSchema) (told : Asked (List Fields)) (gone : List Fields) (result : Result (List Fields) WipeError) (before after : List Txn) → told ≡ Ok gone
-    → MatchResult result (λ taken. IsWiped t gone taken before after) (λ e. e ≡ Memory)
-    → MatchResult result (λ taken. (rows : List Fields) × (told ≡ Ok rows) × IsWiped t rows taken before after) (λ e. IsRefusedWipe told e before after)
-wiped_trees t told gone (Ok taken) before after is w = (gone, is, w)
-wiped_trees t told gone (Err e) before after is memory = inl (gone, is, memory)
+pub wiped_trees : (next : ℕ) (t : TableSchema) (told : Asked (List Fields)) (gone : List Fields) (result : Result (List Fields) WipeError) (before after : List Txn) → told ≡ Ok gone
+    → MatchResult result (λ taken. AreLeft next (length gone) × IsWiped t gone taken before after) (λ e. GivesUp next (length gone) e before after)
+    → MatchResult result (λ taken. (rows : List Fields) × (told ≡ Ok rows) × AreLeft next (length rows) × IsWiped t rows taken before after) (λ e. IsRefusedWipe next told e before after)
+wiped_trees next t told gone (Ok taken) before after is w = (gone, is, w.0, w.1)
+wiped_trees next t told gone (Err e) before after is given_up = inl (gone, is, given_up)
 
 -- ---- the change
 
-pub wiped_answer : (t : TableSchema) (told : Asked (List Fields)) (gone taken : List Fields) (before after : List Txn) (spoiled : Bool) → told ≡ Ok gone → IsWiped t gone taken before after
-    → AnswersTake told (Ok taken) (change_of t before spoiled) (change_of t after spoiled)
-wiped_answer t told gone taken before after spoiled is w =
-    subst (λ (a : Asked (List Fields)). AnswersTake a (Ok taken) (change_of t before spoiled) (change_of t after spoiled)) (sym is)
-    (w.each, ap (λ (rows : List Fields). record { schema = t; rows = rows; spoiled = spoiled }) w.rows)
+module _ (next : ℕ) (t : TableSchema) (told : Asked (List Fields)) (before after : List Txn) (start : starts_of after ≡ starts_of before) where
+  pub wiped_answer : (gone taken : List Fields) (spoiled : Bool) → told ≡ Ok gone → AreLeft next (length gone) → IsWiped t gone taken before after
+      → AnswersTake next told (Ok taken) (change_of t before spoiled) (change_of t after spoiled)
+  wiped_answer gone taken spoiled is left w =
+      subst (λ (a : Asked (List Fields)). AnswersTake next a (Ok taken) (change_of t before spoiled) (change_of t after spoiled)) (sym is)
+      (left, w.each, λ k. record { schema = t; rows = w.rows k; start = start k; trees = trees_of after; spoiled = spoiled })
 
-pub refused_answer : (t : TableSchema) (told : Asked (List Fields)) (e : WipeError) (before after : List Txn) (old new : Bool) → old ≡ false → new ≡ wants_memory e → IsRefusedWipe told e before after
-    → AnswersTake told (Err e) (change_of t before old) (change_of t after new)
-refused_answer t told e before after old new sound spoils refused = elim refused [
-  | inl memory ↦ subst (λ (a : Asked (List Fields)). AnswersTake a (Err e) (change_of t before old) (change_of t after new)) (sym memory.1) (record {
-    error = memory.2;
-    spoiled = spoils ∙ ap wants_memory memory.2;
-    schema = refl;
-  })
-  | inr why ↦
-      let flag : new ≡ old = spoils ∙ ap wants_memory why.2 ∙ sym sound in
-      subst (λ (a : Asked (List Fields)). AnswersTake a (Err e) (change_of t before old) (change_of t after new)) (sym why.1)
-      (ap Err why.2, λ i. change_of t (why.3 i) (flag i))
-]
+  module _ (e : WipeError) (old new : Bool) (sound : old ≡ false) (spoils : new ≡ wants_memory e) where
+    same_change : after ≡ before → wants_memory e ≡ false → change_of t after new ≡ change_of t before old
+    same_change same kept =
+        let flag : new ≡ old = spoils ∙ kept ∙ sym sound in
+        λ i. change_of t (same i) (flag i)
+
+    given_up : (gone : List Fields) → GivesUp next (length gone) e before after → IsWipeGivenUp next gone e (change_of t before old) (change_of t after new)
+    given_up gone h = elim h [
+      | inl memory ↦ inr (record {
+        error = memory;
+        spoiled = spoils ∙ ap wants_memory memory;
+        schema = refl;
+        start = start;
+      })
+      | inr spent ↦ inl (record {
+        few = spent.0;
+        error = spent.1;
+        same = same_change spent.2 (ap wants_memory spent.1);
+      })
+    ]
+
+    pub refused_answer : IsRefusedWipe next told e before after → AnswersTake next told (Err e) (change_of t before old) (change_of t after new)
+    refused_answer refused = elim refused [
+      | inl h ↦ subst (λ (a : Asked (List Fields)). AnswersTake next a (Err e) (change_of t before old) (change_of t after new)) (sym h.1) (given_up h.0 h.2)
+      | inr why ↦
+          subst (λ (a : Asked (List Fields)). AnswersTake next a (Err e) (change_of t before old) (change_of t after new)) (sym why.1) (ap Err why.2, same_change why.3 (ap wants_memory why.2))
+    ]
 
 -- ---- how many rows there were
 
-module _ (old new : TableChange) where
-  pub take_counted : (told : Asked (List Fields)) (taken : List Fields) (n : ℕ) → n ≡ length taken → AnswersTake told (Ok taken) old new → AnswersWipe told (Ok n) old new
-  take_counted (Ok gone) taken n is a = (is ∙ ap length a.0, a.1)
+module _ (next : ℕ) (old new : TableChange) where
+  pub take_counted : (told : Asked (List Fields)) (taken : List Fields) (n : ℕ) → n ≡ length taken → AnswersTake next told (Ok taken) old new → AnswersWipe next told (Ok n) old new
+  take_counted (Ok gone) taken n is a = (a.0, is ∙ ap length a.1, a.2)
   take_counted (Err why) taken n is a = let h = a.0 in cc
 
-  pub take_refused : (told : Asked (List Fields)) (e : WipeError) → AnswersTake told (Err e) old new → AnswersWipe told (Err e) old new
+  pub take_refused : (told : Asked (List Fields)) (e : WipeError) → AnswersTake next told (Err e) old new → AnswersWipe next told (Err e) old new
   take_refused (Ok gone) e a = a
   take_refused (Err why) e a = let h = a.0 in let same : e ≡ Refused (ask_error why) = cc in (ap Err same, a.1)

@@ -1,5 +1,5 @@
 -- The steps of a wipe: its beginning, each row that is listed, and its end.
-use Rattle.std.proofs.Common.{◌≡◌, ◌≢◌, ◌∙◌, ◌||◌, ◌++◌, ◌<◌, ℕ, zero, suc, List, [], ◌∷◌, map, filter, drop, set, length, slice_get, codes, Bool, true, false, not, cond, Option, Some, None, IfSome, Result, Ok, Err, OnOk, option_map, is_some, Contains, eq-eqb, eqb-true, refl, sym, ap, subst, inl, inr, arith}
+use Rattle.std.proofs.Common.{◌≡◌, ◌≢◌, ◌∙◌, ◌||◌, ◌++◌, ◌<◌, ℕ, zero, suc, List, [], ◌∷◌, map, filter, drop, set, length, slice_get, codes, Bool, true, false, not, cond, Option, Some, None, Result, Ok, Err, OnOk, option_map, is_some, Contains, eq-eqb, eqb-true, refl, sym, ap, subst, inl, inr, arith}
 use Rattle.std.specs.Prelude.{nat_eq, unwrap_or}
 use Rattle.std.proofs.lemmas.Bool.{or_right, both_ways, not_from_false, false_from_ne_true}
 use Rattle.std.proofs.lemmas.List.{append-nil, append_assoc, length-map, map-set}
@@ -29,7 +29,7 @@ use Rattle.radix_node.specs.Pairs.{without_prefix}
 use Rattle.radix_txn.specs.Txn.{Txn, txn_pairs}
 use Rattle.table_index.specs.inner.Held.{AreSound, AreTrees, nodes_of, rows_held}
 use Rattle.table_index.specs.inner.TreeEdits.{without_each}
-use Rattle.table_index.specs.inner.Wipes.{listed_at, cut_at, holds, holds_at, is_there, IsMoved, IsStored, IsTaking, IsWiped}
+use Rattle.table_index.specs.inner.Wipes.{listed_at, listed_from, cut_at, holds, holds_at, is_there, IsMoved, IsStored, IsTaking, IsWiped}
 use Rattle.table_index.proofs.CutTrees.{without_each-cut, length-cut_at, slice_get-cut_at, set-cut_at, cut_at-nothing}
 use Rattle.table_index.proofs.HeldRows.{AreTrees-from, rows_held-rows}
 use Rattle.table_index.proofs.OneByOne.{taken_of, left_of, taken_of-there, taken_of-out, left_of-there, left_of-out, taken_of-once, left_of-without, Follow, follow_listed, follow_rising, rising-filter}
@@ -78,7 +78,7 @@ module _ (t : TableSchema) (table : IsLawfulTable t) (cut : ℕ) (key : Bytes) w
       ∙ slice_get-map (λ (i : IndexSchema). entries t i rows) t.indexes at.place
       ∙ ap (option_map (λ (i : IndexSchema). entries t i rows)) at.there
 
-  there-told : (rows : List Fields) (id : Bytes) → AreLawfulRows t rows → is_there t cut id (cut_at key (all_entries t rows) cut) ≡ (cuts_id t cut || is_some (row_at t id rows))
+  pub there-told : (rows : List Fields) (id : Bytes) → AreLawfulRows t rows → is_there t cut id (cut_at key (all_entries t rows) cut) ≡ (cuts_id t cut || is_some (row_at t id rows))
   there-told rows id lawful =
       let at = id_index t table in
       let es = cut_at key (all_entries t rows) cut in
@@ -260,8 +260,8 @@ there_within [] at h = absurd (omega arith)
 there_within (x ∷ xs) zero h = (x, refl)
 there_within (x ∷ xs) (suc at) h = there_within xs at (omega arith)
 
-pub listed_there : (key : Bytes) (listed : List Fields) (o : Option Txn) (x : Txn) → IfSome o (λ y. listed ≡ rows_of (with_prefix key (txn_pairs y))) → o ≡ Some x → listed ≡ rows_of (with_prefix key (txn_pairs x))
-listed_there key listed o x h there = subst (λ (p : Option Txn). IfSome p (λ y. listed ≡ rows_of (with_prefix key (txn_pairs y)))) there h
+pub listed_there : (key : Bytes) (listed : List Fields) (o : Option Txn) (x : Txn) → listed ≡ listed_from key o → o ≡ Some x → listed ≡ rows_of (with_prefix key (txn_pairs x))
+listed_there key listed o x is there = is ∙ ap (listed_from key) there
 
 pub on_ok : {T E : Type 0} {P Q : Type 0} (r : Result T E) → (P → Q) → OnOk r P → OnOk r Q
 on_ok (Ok x) f h = f h
@@ -275,7 +275,7 @@ cut_one key txns place x y there edit =
     ∙ set-cut_at key (map txn_pairs txns) place (txn_pairs x) (slice_get-map txn_pairs txns place ∙ ap (option_map txn_pairs) there)
 
 -- the pairs of a tree are the entries of its index
-pairs_at : (t : TableSchema) (rows : List Fields) (txns : List Txn) (place : ℕ) (x : Txn) (i : IndexSchema) → map txn_pairs txns ≡ all_entries t rows
+pub pairs_at : (t : TableSchema) (rows : List Fields) (txns : List Txn) (place : ℕ) (x : Txn) (i : IndexSchema) → map txn_pairs txns ≡ all_entries t rows
     → slice_get txns place ≡ Some x → slice_get t.indexes place ≡ Some i → txn_pairs x ≡ entries t i rows
 pairs_at t rows txns place x i held there found =
     let e : Some (txn_pairs x) ≡ Some (entries t i rows) =
@@ -322,6 +322,23 @@ module _ (t : TableSchema) (table : IsLawfulTable t) (cut : ℕ) (key : Bytes) (
 
   listed_is : (i : IndexSchema) → slice_get t.indexes cut ≡ Some i → listed ≡ rows_of (with_prefix key (entries t i rows))
   listed_is i found = is ∙ ap (λ (es : List Pair). rows_of (with_prefix key es)) (pairs_at t rows txns cut x i held there found)
+
+  -- the rows are those of the definition
+  pub listed_is_at : listed ≡ listed_at t (rows_held t (nodes_of txns)) (slice_get t.indexes cut) key
+  listed_is_at = let n = named in listed_is n.0 n.1 ∙ sym (ap (λ (o : Option IndexSchema). listed_at t rows o key) n.1)
+
+  -- each index takes each of them
+  pub listed_stored : (r : Fields) → Contains listed r → IsStored t r
+  listed_stored r h i within =
+      let n = named in
+      trees.lawful.taken i r within (listing_within t table cut key rows trees.lawful n.0 n.1 r (subst (λ (l : List Fields). Contains l r) (listed_is n.0 n.1) h))
+
+  -- each of them is taken once
+  pub taken_once : taken_of t (rows_held t (nodes_of txns)) listed ≡ once t listed
+  taken_once =
+      let n = named in
+      subst (λ (l : List Fields). taken_of t rows l ≡ once t l) (sym (listed_is n.0 n.1))
+      (taken_of-once t rows (rows_of (with_prefix key (entries t n.0 rows))) trees.lawful.rising (listing_within t table cut key rows trees.lawful n.0 n.1))
 
   pub wipe_begins : (after : List Txn) → map txn_pairs after ≡ cut_at key (map txn_pairs txns) cut → Stands t cut key (rows_held t (nodes_of txns)) listed [] listed after
   wipe_begins after was_cut =

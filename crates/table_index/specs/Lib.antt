@@ -1,2 +1,6 @@
+pub mod Frozen
+pub mod Spot
 pub mod Table
+pub mod Watched
+pub mod Written
 pub mod inner

@@ -1,3 +1,4 @@
+pub mod Drawn
 pub mod Held
 pub mod Keys
 pub mod Lookups
@@ -6,3 +7,4 @@ pub mod Stored
 pub mod TreeEdits
 pub mod Views
 pub mod Wipes
+pub mod Writes

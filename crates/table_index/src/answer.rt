@@ -2,6 +2,7 @@
 ghost use Rattle.std.specs.Prelude.{◌≡◌, IfOk, IsOkAnd, option_copied};
 ghost use Rattle.mdb_datum.specs.Pairs.{first_item, last_item};
 ghost use Rattle.mdb_schema.specs.Answer.{answer, picked};
+ghost use Rattle.radix_node.specs.Cells.{plain_of};
 ghost use Rattle.radix_node.specs.Nodes.{pairs_of};
 
 use mdb_datum::Row;
@@ -19,7 +20,7 @@ pub(crate) fn answer(
     exact: bool,
     key: &[u8],
 ) -> Result<Answer, AllocError>
-    ensures { IfOk result (λ a. a ≡ answer ask exact key.now (pairs_of tree.now)) }
+    ensures { IfOk result (λ a. a ≡ answer ask exact key.now (pairs_of (plain_of tree.now))) }
 {
     match ask {
         Ask::First => one(first_row(tree, exact, key)),
@@ -34,7 +35,7 @@ pub(crate) fn answer(
 
 /// The first row of a key, or of the keys that begin with it.
 fn first_row<'a>(tree: &'a Tree, exact: bool, key: &[u8]) -> Option<&'a Row>
-    ensures { option_copied result ≡ first_item (picked exact key.now (pairs_of tree.now)) }
+    ensures { option_copied result ≡ first_item (picked exact key.now (pairs_of (plain_of tree.now))) }
 {
     if exact {
         tree.get(key)
@@ -45,7 +46,7 @@ fn first_row<'a>(tree: &'a Tree, exact: bool, key: &[u8]) -> Option<&'a Row>
 
 /// The last row of a key, or of the keys that begin with it.
 fn last_row<'a>(tree: &'a Tree, exact: bool, key: &[u8]) -> Option<&'a Row>
-    ensures { option_copied result ≡ last_item (picked exact key.now (pairs_of tree.now)) }
+    ensures { option_copied result ≡ last_item (picked exact key.now (pairs_of (plain_of tree.now))) }
 {
     if exact {
         tree.get(key)

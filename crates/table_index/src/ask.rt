@@ -3,6 +3,7 @@ ghost use Rattle.std.specs.Prelude.{◌≡◌, false, MatchResult};
 ghost use Rattle.mdb_schema.specs.Answer.{answer, ask_rows, is_exact};
 ghost use Rattle.mdb_schema.specs.Refusals.{AnswersAsk};
 ghost use Rattle.mdb_schema.specs.declared.ask_error.AskError.TheVariants.{Memory};
+ghost use Rattle.radix_node.specs.Cells.{plain_of};
 ghost use Rattle.radix_node.specs.Nodes.{pairs_of};
 ghost use Rattle.table_index.specs.inner.Held.{AreSound, AreTrees, nodes_of, rows_held};
 
@@ -77,7 +78,7 @@ fn answer_standing(
     requires sound { txn.old.spoiled ≡ false }
     ensures answers { MatchResult result
         (λ a. a ≡ answer query.now.ask (is_exact at.now.index query.now)
-        at.now.key (pairs_of txn.old.tree))
+        at.now.key (pairs_of (plain_of txn.old.tree)))
         (λ e. e ≡ Memory) }
     ensures unchanged { txn.new ≡ txn.old }
 {
@@ -86,10 +87,15 @@ fn answer_standing(
 }
 
 /// What a question is answered from the tree of the index where it looks.
-fn answer_at(alloc: Global, tree: &Tree, at: &Target<'_>, query: &Query) -> Result<Answer, AskError>
+pub(crate) fn answer_at(
+    alloc: Global,
+    tree: &Tree,
+    at: &Target<'_>,
+    query: &Query,
+) -> Result<Answer, AskError>
     ensures { MatchResult result
         (λ a. a ≡ answer query.now.ask (is_exact at.now.index query.now)
-        at.now.key (pairs_of tree.now))
+        at.now.key (pairs_of (plain_of tree.now)))
         (λ e. e ≡ Memory) }
 {
     let exact = is_exact(at.index(), query);
@@ -97,7 +103,7 @@ fn answer_at(alloc: Global, tree: &Tree, at: &Target<'_>, query: &Query) -> Resu
 }
 
 /// Whether a question asks for the entry of a very key, and not for those that begin with it.
-fn is_exact(index: &IndexDef, query: &Query) -> bool
+pub(crate) fn is_exact(index: &IndexDef, query: &Query) -> bool
     ensures { result ≡ is_exact index.now query.now }
 {
     index.unique() && !is_prefix_name(query.index().as_str()) && has_argument(query)

@@ -1,5 +1,5 @@
 //! The full keys of a row in one index.
-ghost use Rattle.std.specs.Prelude.{◌≡◌, ◌≤◌, ◌++◌, ◌∷◌, [], IfOk, OnOk, All, length, map, option_map};
+ghost use Rattle.std.specs.Prelude.{◌≡◌, ◌≤◌, ◌<◌, ◌++◌, ◌∷◌, [], IfOk, OnOk, All, length, map, option_map};
 ghost use Rattle.std.specs.Prelude.{replicate, slice_get};
 ghost use Rattle.mdb_encode.specs.Bytes.{Bytes};
 ghost use Rattle.mdb_schema.specs.State.{full_key};
@@ -51,18 +51,20 @@ impl FullKey {
     }
 }
 
-/// The full keys of one row in one index, seen as a list of byte strings.
+/// The full keys of one row in one index, at most 256, seen as a list of byte strings.
 #[derive(Drop)]
 pub(crate) struct FullKeys {
     keys: Vec<FullKey>,
 }
 
 impl Model for FullKeys {
-    ghost use Rattle.std.specs.Prelude.{List, ℕ};
+    ghost use Rattle.std.specs.Prelude.{List, ℕ, ◌≤◌, length};
 
     ghost Value = { List (List ℕ) };
 
     ghost view = { λ ks. ks.keys.items };
+
+    ghost invariant = { λ ks. length ks.keys.items ≤ 256 };
 }
 
 impl FullKeys {
@@ -73,7 +75,8 @@ impl FullKeys {
         id: &IdKey,
         keys: &Keys,
     ) -> Result<FullKeys, AllocError>
-        requires { All IsShort keys.now }
+        requires short { All IsShort keys.now }
+        requires few { length keys.now ≤ 256 }
         ensures { IfOk result (λ found. found ≡ map (full_key index.now id.now) keys.now) }
     {
         let mut full = FullKeys::none(alloc);
@@ -94,7 +97,8 @@ impl FullKeys {
         id: &IdKey,
         key: &Key,
     ) -> Result<(), AllocError>
-        requires { IsShort key.now }
+        requires short { IsShort key.now }
+        requires room { length self.old < 256 }
         ensures { OnOk result
             (self.new ≡ self.old ++ full_key index.now id.now key.now ∷ []) }
     {
@@ -113,7 +117,8 @@ impl FullKeys {
 
     /// The keys.
     pub(crate) fn keys(&self) -> &[FullKey]
-        ensures { result.now ≡ self.now }
+        ensures keys { result.now ≡ self.now }
+        ensures few { length result.now ≤ 256 }
     {
         self.keys.as_slice()
     }

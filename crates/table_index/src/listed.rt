@@ -1,84 +1,74 @@
 //! The removal of the rows that an index lists under a key.
-ghost use Rattle.std.specs.Prelude.{◌≡◌, ◌<◌, ◌≤◌, Ok, true, false, length, map, slice_get};
-ghost use Rattle.std.specs.Prelude.{IfOk, IfSome, MatchResult, OnOk};
-ghost use Rattle.mdb_datum.specs.Pairs.{rows_of, with_prefix};
+ghost use Rattle.std.specs.Prelude.{◌≡◌, ◌⊎◌, ◌+◌, ◌*◌, ◌<◌, ◌≤◌, ◌^◌, ◌∷◌, [], Ok, false, length, map};
+ghost use Rattle.std.specs.Prelude.{IfErr, MatchResult, OnOk, slice_get};
 ghost use Rattle.mdb_schema.specs.LawfulSchema.{IsLawfulTable};
+ghost use Rattle.mdb_schema.specs.State.{id_key};
 ghost use Rattle.mdb_schema.specs.Wipe.{once};
 ghost use Rattle.mdb_schema.specs.Write.{id_of};
-ghost use Rattle.radix_node.specs.Pairs.{without_prefix};
 ghost use Rattle.radix_txn.specs.Txn.{txn_pairs};
+ghost use Rattle.table_index.specs.Table.{AreLeft};
 ghost use Rattle.table_index.specs.declared.wipe_error.WipeError.TheVariants.{Memory};
+ghost use Rattle.table_index.specs.inner.Drawn.{AreReady, HaveDrawn, ids_of_row};
 ghost use Rattle.table_index.specs.inner.Held.{AreSound, AreTrees, nodes_of, rows_held};
-ghost use Rattle.table_index.specs.inner.TreeEdits.{is_memory};
-ghost use Rattle.table_index.specs.inner.Wipes.{IsMoved, IsOut, IsStored, IsTaking, IsWiped, cut_at};
+ghost use Rattle.table_index.specs.inner.Wipes.{GivesUp, IsMoved, IsOut, IsStored, IsTaking, IsWiped};
 ghost use Rattle.table_index.specs.inner.Wipes.{is_there, listed_at};
+ghost use Rattle.table_index.specs.inner.Writes.{WroteRows};
 
+use crate::cut::cut_listed;
 use crate::edits::delete_each;
 use crate::id_key::IdKey;
+use crate::refusal::of_stored;
 use crate::row_keys::{full_keys_of, id_key_of};
 use crate::wipe_error::WipeError;
 use mdb_datum::Row;
-use mdb_schema::{Rows, TableDef, WriteError};
-use radix_iter::{Walk, ascend};
+use mdb_schema::{Rows, TableDef};
+use radix_node::Ids;
 use radix_txn::TreeTxn;
-use std::alloc::{AllocError, Global};
+use std::alloc::Global;
+use watch_word::Front;
 
 /// Takes the rows that the index at a place lists under a key out of the trees, and gives them, in
-/// the order of their first listing. After an error some may be out.
+/// the order of their first listing. After want of memory some may be out.
 pub(crate) fn wipe_listed(
     alloc: Global,
     def: &TableDef,
     txns: &mut [TreeTxn],
+    front: &Front,
+    ids: &mut Ids,
     place: usize,
     key: &[u8],
 ) -> Result<Rows, WipeError>
     requires place { place < length def.now.indexes }
     requires short { length key.now ≤ 2048 }
-    requires sound { AreSound txns.old }
+    requires ready { AreReady front.now ids.old txns.old }
     requires held { AreTrees def.now (nodes_of txns.old) }
-    ensures { let rows = rows_held def.now (nodes_of txns.old) in
-        let listed = listed_at def.now rows (slice_get def.now.indexes place) key.now in
-        MatchResult result (λ gone. IsWiped def.now (once def.now listed) gone txns.old txns.new)
-        (λ e. e ≡ Memory) }
+    ensures answers { let rows = rows_held def.now (nodes_of txns.old) in
+        let gone = once def.now (listed_at def.now rows (slice_get def.now.indexes place) key.now) in
+        MatchResult result
+        (λ taken. AreLeft ids.old.next (length gone) × IsWiped def.now gone taken txns.old txns.new)
+        (λ e. GivesUp ids.old.next (length gone) e txns.old txns.new) }
+    ensures drawn { let rows = rows_held def.now (nodes_of txns.old) in
+        let gone = once def.now (listed_at def.now rows (slice_get def.now.indexes place) key.now) in
+        HaveDrawn front.now (2 ^ 26 * length gone) ids.old ids.new txns.old txns.new }
+    ensures refused { IfErr result (λ e. (e ≡ Memory) ⊎ (ids.new ≡ ids.old)) }
+    ensures written { let rows = rows_held def.now (nodes_of txns.old) in
+        let gone = once def.now (listed_at def.now rows (slice_get def.now.indexes place) key.now) in
+        OnOk result (WroteRows def.now gone txns.old txns.new) }
 {
     let indexes = def.len();
     prove!(place < indexes);
-    let mut listed = cut_at(alloc, txns, place, key)?;
+    let listed = match cut_listed(alloc, def, txns, front, ids, place, key) {
+        Ok(listed) => listed,
+        Err(error) => return Err(error),
+    };
+    let Some(mut listed) = listed else {
+        return Ok(Rows::new(alloc));
+    };
     let mut gone = Rows::new(alloc);
     'rows: while let Some(row) = listed.next()? {
-        move_listed(alloc, def, txns, place, row, &mut gone)?;
+        move_listed(alloc, def, txns, front, ids, place, row, &mut gone)?;
     }
     Ok(gone)
-}
-
-/// Drops the keys that begin with a key from the tree at a place, and gives their rows.
-fn cut_at(alloc: Global, txns: &mut [TreeTxn], place: usize, key: &[u8]) -> Result<Walk, AllocError>
-    requires place { place < length txns.old }
-    requires short { length key.now ≤ 2048 }
-    requires sound { AreSound txns.old }
-    ensures rows { IfOk result (λ w. IfSome (slice_get txns.old place)
-        (λ x. w ≡ rows_of (with_prefix key.now (txn_pairs x)))) }
-    ensures pairs { OnOk result
-        (map txn_pairs txns.new ≡ cut_at key.now (map txn_pairs txns.old) place) }
-    ensures sound { OnOk result (AreSound txns.new) }
-{
-    let txn = &mut txns[place];
-    cut(alloc, txn, key)
-}
-
-/// Drops the keys that begin with a key from a tree, and gives their rows.
-fn cut(alloc: Global, txn: &mut TreeTxn, key: &[u8]) -> Result<Walk, AllocError>
-    requires short { length key.now ≤ 2048 }
-    requires sound { txn.old.spoiled ≡ false }
-    ensures rows { IfOk result (λ w. w ≡ rows_of (with_prefix key.now (txn_pairs txn.old))) }
-    ensures pairs { OnOk result
-        (txn_pairs txn.new ≡ without_prefix key.now (txn_pairs txn.old)) }
-    ensures sound { OnOk result (txn.new.spoiled ≡ false) }
-{
-    let tree = txn.stand()?;
-    let listed = ascend(alloc, &tree, key)?;
-    txn.delete_prefix(key)?;
-    Ok(listed)
 }
 
 /// Takes a listed row out of the trees if it is still there, and adds it to those that are out.
@@ -87,19 +77,26 @@ fn move_listed(
     alloc: Global,
     def: &TableDef,
     txns: &mut [TreeTxn],
+    front: &Front,
+    ids: &mut Ids,
     cut: usize,
     row: Row,
     gone: &mut Rows,
 ) -> Result<(), WipeError>
     requires lawful { IsLawfulTable def.now }
     requires stored { IsStored def.now row }
-    requires sound { AreSound txns.old }
+    requires ready { AreReady front.now ids.old txns.old }
+    requires left { let there = is_there def.now cut (id_key def.now row) (map txn_pairs txns.old) in
+        ids.old.next + ids_of_row there ≤ 2 ^ 63 }
     requires both { length txns.old ≡ length def.now.indexes }
-    ensures { MatchResult result
+    ensures answers { MatchResult result
         (λ _. IsMoved def.now cut row txns.old txns.new gone.old gone.new)
         (λ e. e ≡ Memory) }
+    ensures drawn { let there = is_there def.now cut (id_key def.now row) (map txn_pairs txns.old) in
+        HaveDrawn front.now (ids_of_row there) ids.old ids.new txns.old txns.new }
+    ensures written { OnOk result (WroteRows def.now (row ∷ []) txns.old txns.new) }
 {
-    let taken = take_listed(alloc, def, txns, cut, &row)?;
+    let taken = take_listed(alloc, def, txns, front, ids, cut, &row)?;
     if !taken {
         return Ok(());
     }
@@ -113,16 +110,23 @@ fn take_listed(
     alloc: Global,
     def: &TableDef,
     txns: &mut [TreeTxn],
+    front: &Front,
+    ids: &mut Ids,
     cut: usize,
     row: &Row,
 ) -> Result<bool, WipeError>
     requires lawful { IsLawfulTable def.now }
     requires stored { IsStored def.now row.now }
-    requires sound { AreSound txns.old }
+    requires ready { AreReady front.now ids.old txns.old }
+    requires left { let there = is_there def.now cut (id_key def.now row.now) (map txn_pairs txns.old) in
+        ids.old.next + ids_of_row there ≤ 2 ^ 63 }
     requires both { length txns.old ≡ length def.now.indexes }
-    ensures { MatchResult result
+    ensures answers { MatchResult result
         (λ taken. IsTaking def.now cut row.now taken txns.old txns.new)
         (λ e. e ≡ Memory) }
+    ensures drawn { let there = is_there def.now cut (id_key def.now row.now) (map txn_pairs txns.old) in
+        HaveDrawn front.now (ids_of_row there) ids.old ids.new txns.old txns.new }
+    ensures written { OnOk result (WroteRows def.now (row.now ∷ []) txns.old txns.new) }
 {
     let id = match id_key_of(alloc, def, row) {
         Ok(id) => id,
@@ -131,7 +135,7 @@ fn take_listed(
     if !is_there(def, txns, cut, &id) {
         return Ok(false);
     }
-    take_out(alloc, def, txns, &id, row)?;
+    take_out(alloc, def, txns, front, ids, &id, row)?;
     Ok(true)
 }
 
@@ -140,31 +144,26 @@ fn take_out(
     alloc: Global,
     def: &TableDef,
     txns: &mut [TreeTxn],
+    front: &Front,
+    ids: &mut Ids,
     id: &IdKey,
     row: &Row,
 ) -> Result<(), WipeError>
+    requires lawful { IsLawfulTable def.now }
     requires stored { IsStored def.now row.now }
     requires known { id_of def.now row.now ≡ Ok id.now }
-    requires sound { AreSound txns.old }
+    requires ready { AreReady front.now ids.old txns.old }
+    requires left { ids.old.next + 2 ^ 25 ≤ 2 ^ 63 }
     requires both { length txns.old ≡ length def.now.indexes }
-    ensures { MatchResult result
+    ensures answers { MatchResult result
         (λ _. IsOut def.now row.now txns.old txns.new)
         (λ e. e ≡ Memory) }
+    ensures drawn { HaveDrawn front.now (2 ^ 25) ids.old ids.new txns.old txns.new }
+    ensures written { OnOk result (WroteRows def.now (row.now ∷ []) txns.old txns.new) }
 {
     match full_keys_of(alloc, def, id, row) {
-        Ok(keys) => Ok(delete_each(txns, keys.lists())?),
+        Ok(keys) => Ok(delete_each(txns, front, ids, keys.lists())?),
         Err(error) => Err(of_stored(error)),
-    }
-}
-
-/// The error of a stored row's keys, which are refused for nothing but want of memory.
-fn of_stored(error: WriteError) -> WipeError
-    requires { is_memory error ≡ true }
-    ensures { result ≡ Memory }
-{
-    match error {
-        WriteError::Memory => WipeError::Memory,
-        _ => unreachable!(),
     }
 }
 

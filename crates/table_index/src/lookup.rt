@@ -2,7 +2,7 @@
 ghost use Rattle.std.specs.Prelude.{◌≡◌, IfOk, Some, slice_get};
 ghost use Rattle.mdb_schema.specs.Answer.{lookup_of};
 ghost use Rattle.table_index.specs.inner.Keys.{IsShort};
-ghost use Rattle.table_index.specs.inner.Lookups.{AnswersLookup};
+ghost use Rattle.table_index.specs.inner.Lookups.{AnswersLookup, key_or_empty};
 
 use crate::question::{has_enough, may_ask, may_name, own_name};
 use crate::question_key::key_asked;
@@ -48,6 +48,13 @@ impl<'a> Target<'a> {
         ensures { result.now ≡ self.now.index }
     {
         self.index
+    }
+
+    /// The key, where the question has an argument.
+    pub(crate) fn into_key(self) -> Option<Key>
+        ensures { key_or_empty result ≡ self.entry.key }
+    {
+        self.key
     }
 
     /// The key.

@@ -1,18 +1,22 @@
 //! The put of a row.
-ghost use Rattle.std.specs.Prelude.{◌≡◌, false, Ok, MatchResult, is_some};
+ghost use Rattle.std.specs.Prelude.{◌≡◌, ◌⊎◌, ◌+◌, ◌≤◌, ◌^◌, false, IfErr, Ok, MatchResult, OnOk, is_some};
 ghost use Rattle.mdb_schema.specs.LawfulSchema.{IsLawfulTable};
 ghost use Rattle.mdb_schema.specs.State.{row_at};
 ghost use Rattle.mdb_schema.specs.Write.{id_of, put_row};
 ghost use Rattle.mdb_schema.specs.declared.write_error.WriteError.TheVariants.{Memory};
-ghost use Rattle.table_index.specs.Table.{AnswersPut};
+ghost use Rattle.table_index.specs.Table.{AnswersPut, AreAllBelow, AreAllOf, AreDrawn, AreLeft};
+ghost use Rattle.table_index.specs.Written.{Writes, rows_put};
+ghost use Rattle.table_index.specs.inner.Drawn.{AreReady, HaveDrawn};
 ghost use Rattle.table_index.specs.inner.Held.{AreSound, AreTrees, nodes_of, rows_held};
 ghost use Rattle.table_index.specs.inner.Keys.{Tells};
 ghost use Rattle.table_index.specs.inner.PutKeys.{IsAccepted, keys_of_each};
 ghost use Rattle.table_index.specs.inner.TreeEdits.{IsPut, IsRefused};
+ghost use Rattle.table_index.specs.inner.Writes.{WroteRows};
 
 use crate::free_keys::first_taken;
 use crate::full_key::RowKeys;
 use crate::id_key::IdKey;
+use crate::ids_left::has_ids;
 use crate::refusal::is_memory;
 use crate::replace::replace_each;
 use crate::row_keys::{full_keys_of, id_key_of, told_place};
@@ -20,23 +24,40 @@ use crate::stored::row_at;
 use crate::table_txn::TableTxn;
 use mdb_datum::Row;
 use mdb_schema::{TableDef, WriteError};
+use radix_node::Ids;
 use radix_txn::TreeTxn;
 use std::alloc::Global;
+use watch_word::Front;
 
 impl TableTxn {
     /// Puts a row into the table; true where it replaces the row of its `id` key. A refusal changes
-    /// nothing, and is decided before the first change. It takes memory for the keys of the row and
-    /// of the one that it replaces, and for copied nodes, and is refused for want of it, of room to
-    /// count one more owner of a node or row, or of room to count one more key of an index; that
-    /// spoils the change. It takes time in the lengths of the keys, with one look-up a key, and
-    /// compares the old keys of an index with the new ones, at most 256 with 256.
-    pub fn put(&mut self, row: &Row) -> Result<bool, WriteError>
+    /// nothing, and is decided before the first change; the last one is that fewer than 2^26 ids are left.
+    /// It takes memory for the keys of the row and of the one that it replaces, and for copied nodes, each
+    /// with a new cell, and is refused for want of it, of room to count one more owner of a node or row, or
+    /// of room to count one more key of an index; that spoils the change. It takes time in the lengths of
+    /// the keys, with one look-up a key, and compares the old keys of an index with the new ones, at most
+    /// 256 with 256. No key is written but the full keys of the row and of the one that it replaces.
+    pub fn put(&mut self, front: &Front, ids: &mut Ids, row: &Row) -> Result<bool, WriteError>
         requires sound { self.old.spoiled ≡ false }
-        ensures { AnswersPut
+        requires book { front.now.book ≡ ids.old.book }
+        requires below { AreAllBelow ids.old.next self.old.trees }
+        requires of { AreAllOf ids.old.book self.old.trees }
+        requires below_start { AreAllBelow ids.old.next self.old.start }
+
+        ensures answers { AnswersPut ids.old.next
             (put_row self.old.schema row.now self.old.rows) result self.old self.new }
+        ensures below { AreAllBelow ids.new.next self.new.trees }
+        ensures of { AreAllOf ids.new.book self.new.trees }
+        ensures drawn { AreDrawn front.now ids.old ids.new self.old.trees self.new.trees }
+        ensures below_start { AreAllBelow ids.new.next self.new.start }
+        ensures book { ids.new.book ≡ ids.old.book }
+        ensures ids { (ids.old.next ≤ ids.new.next) × (ids.new.next ≤ ids.old.next + 2 ^ 26) }
+        ensures refused { IfErr result (λ e. (e ≡ Memory) ⊎ (ids.new ≡ ids.old)) }
+        ensures written { OnOk result
+            (Writes (rows_put self.old.schema row.now self.old.rows) self.old self.new) }
     {
         let alloc = *self.trees.allocator();
-        let written = write_row(alloc, &self.def, &mut self.trees, row);
+        let written = write_row(alloc, &self.def, &mut self.trees, front, ids, row);
         match written {
             Ok(replaced) => Ok(replaced),
             Err(error) => {
@@ -67,14 +88,20 @@ fn write_row(
     alloc: Global,
     def: &TableDef,
     txns: &mut [TreeTxn],
+    front: &Front,
+    ids: &mut Ids,
     row: &Row,
 ) -> Result<bool, WriteError>
-    requires sound { AreSound txns.old }
+    requires ready { AreReady front.now ids.old txns.old }
     requires held { AreTrees def.now (nodes_of txns.old) }
-    ensures { let told = put_row def.now row.now (rows_held def.now (nodes_of txns.old)) in
+    ensures answers { let told = put_row def.now row.now (rows_held def.now (nodes_of txns.old)) in
         MatchResult result
-        (λ replaced. IsPut def.now told replaced txns.new)
-        (λ e. IsRefused told e txns.old txns.new) }
+        (λ replaced. AreLeft ids.old.next 1 × IsPut def.now told replaced txns.new)
+        (λ e. IsRefused ids.old.next told e txns.old txns.new) }
+    ensures drawn { HaveDrawn front.now (2 ^ 26) ids.old ids.new txns.old txns.new }
+    ensures refused { IfErr result (λ e. (e ≡ Memory) ⊎ (ids.new ≡ ids.old)) }
+    ensures written { let rows = rows_held def.now (nodes_of txns.old) in
+        OnOk result (WroteRows def.now (rows_put def.now row.now rows) txns.old txns.new) }
 {
     let count = def.len();
     prove!(0 < count);
@@ -82,8 +109,12 @@ fn write_row(
         Ok(keys) => keys,
         Err(error) => return Err(error),
     };
-    replace_each(txns, keys.new.lists(), keys.old.keys.lists(), row)?;
-    Ok(keys.old.there)
+    if !has_ids(ids, 1) {
+        return Err(WriteError::IdsSpent);
+    }
+    let PutKeys { new, old } = keys;
+    replace_each(txns, front, ids, new.lists(), old.keys.lists(), row)?;
+    Ok(old.there)
 }
 
 /// The full keys that a put takes out and puts in, if it isn't refused.

@@ -1,40 +1,60 @@
 //! The removal of a row.
-ghost use Rattle.std.specs.Prelude.{◌≡◌, ◌⊎◌, false, Ok, Some, None, MatchResult, length, map};
+ghost use Rattle.std.specs.Prelude.{◌≡◌, ◌⊎◌, ◌+◌, ◌*◌, ◌≤◌, ◌^◌, ◌∷◌, [], false, Ok, Some, None, IfOk, OnOk};
+ghost use Rattle.std.specs.Prelude.{IfErr, MatchResult, length, map};
 ghost use Rattle.mdb_schema.specs.LawfulSchema.{IsLawfulTable};
 ghost use Rattle.mdb_schema.specs.State.{row_at};
 ghost use Rattle.mdb_schema.specs.Tests.{each};
 ghost use Rattle.mdb_schema.specs.Write.{indexes_of, remove_row};
 ghost use Rattle.mdb_schema.specs.declared.write_error.WriteError.TheVariants.{Memory, NotFound};
 ghost use Rattle.radix_txn.specs.Txn.{txn_pairs};
-ghost use Rattle.table_index.specs.Table.{AnswersRemove};
+ghost use Rattle.table_index.specs.Table.{AnswersRemove, AreAllBelow, AreAllOf, AreDrawn, AreLeft};
+ghost use Rattle.table_index.specs.Written.{Writes};
+ghost use Rattle.table_index.specs.inner.Drawn.{AreReady, HaveDrawn};
 ghost use Rattle.table_index.specs.inner.Held.{AreSound, AreTrees, nodes_of, rows_held};
 ghost use Rattle.table_index.specs.inner.Keys.{full_keys_at};
 ghost use Rattle.table_index.specs.inner.TreeEdits.{IsRefused, IsWritten, without_each};
+ghost use Rattle.table_index.specs.inner.Writes.{TreesWrote, IsAt, WroteRows};
 
 use crate::edits::delete_each;
 use crate::full_key::RowKeys;
 use crate::id_key::IdKey;
+use crate::ids_left::has_ids;
 use crate::refusal::is_memory;
 use crate::row_keys::{full_keys_of, id_key_of};
 use crate::stored::row_at;
 use crate::table_txn::TableTxn;
 use mdb_datum::Row;
 use mdb_schema::{TableDef, WriteError};
+use radix_node::Ids;
 use radix_txn::TreeTxn;
 use std::alloc::Global;
+use watch_word::Front;
 
 impl TableTxn {
-    /// Takes out the row of another's `id` key, and gives it. A refusal changes nothing. It takes
-    /// memory for the row's keys and for copied nodes, and is refused for want of it or of room to
-    /// count one more owner of a node or row; that spoils the change. It takes time in the lengths
-    /// of the row's keys.
-    pub fn remove(&mut self, row: &Row) -> Result<Row, WriteError>
+    /// Takes out the row of another's `id` key, and gives it. A refusal changes nothing; the last one is
+    /// that fewer than 2^26 ids are left. It takes memory for the row's keys and for copied nodes, each
+    /// with a new cell, and is refused for want of it or of room to count one more owner of a node or row;
+    /// that spoils the change. It takes time in the lengths of the row's keys, and writes no others.
+    pub fn remove(&mut self, front: &Front, ids: &mut Ids, row: &Row) -> Result<Row, WriteError>
         requires sound { self.old.spoiled ≡ false }
-        ensures { AnswersRemove
+        requires book { front.now.book ≡ ids.old.book }
+        requires below { AreAllBelow ids.old.next self.old.trees }
+        requires of { AreAllOf ids.old.book self.old.trees }
+        requires below_start { AreAllBelow ids.old.next self.old.start }
+
+        ensures answers { AnswersRemove ids.old.next
             (remove_row self.old.schema row.now self.old.rows) result self.old self.new }
+        ensures below { AreAllBelow ids.new.next self.new.trees }
+        ensures of { AreAllOf ids.new.book self.new.trees }
+        ensures drawn { AreDrawn front.now ids.old ids.new self.old.trees self.new.trees }
+        ensures below_start { AreAllBelow ids.new.next self.new.start }
+        ensures book { ids.new.book ≡ ids.old.book }
+        ensures ids { (ids.old.next ≤ ids.new.next) × (ids.new.next ≤ ids.old.next + 2 ^ 26) }
+        ensures refused { IfErr result (λ e. (e ≡ Memory) ⊎ (ids.new ≡ ids.old)) }
+        ensures written { IfOk result (λ taken. Writes (taken ∷ []) self.old self.new) }
     {
         let alloc = *self.trees.allocator();
-        let removed = take_row(alloc, &self.def, &mut self.trees, row);
+        let removed = take_row(alloc, &self.def, &mut self.trees, front, ids, row);
         match removed {
             Ok(old) => Ok(old),
             Err(error) => {
@@ -57,14 +77,20 @@ fn take_row(
     alloc: Global,
     def: &TableDef,
     txns: &mut [TreeTxn],
+    front: &Front,
+    ids: &mut Ids,
     row: &Row,
 ) -> Result<Row, WriteError>
-    requires sound { AreSound txns.old }
+    requires ready { AreReady front.now ids.old txns.old }
     requires held { AreTrees def.now (nodes_of txns.old) }
-    ensures { let told = remove_row def.now row.now (rows_held def.now (nodes_of txns.old)) in
+    ensures answers { let told = remove_row def.now row.now (rows_held def.now (nodes_of txns.old)) in
         MatchResult result
-        (λ old. IsWritten def.now told (Some old) txns.new)
-        (λ e. IsRefused told e txns.old txns.new) }
+        (λ old. AreLeft ids.old.next 1 × IsWritten def.now told (Some old) txns.new)
+        (λ e. IsRefused ids.old.next told e txns.old txns.new) }
+    ensures drawn { HaveDrawn front.now (2 ^ 26) ids.old ids.new txns.old txns.new }
+    ensures refused { IfErr result (λ e. (e ≡ Memory) ⊎ (ids.new ≡ ids.old)) }
+    ensures written { IfOk result
+        (λ old. WroteRows def.now (old ∷ []) txns.old txns.new) }
 {
     let count = def.len();
     prove!(0 < count);
@@ -72,22 +98,35 @@ fn take_row(
         Ok(id) => id,
         Err(error) => return Err(error),
     };
-    match stored_row(alloc, def, txns, &id) {
-        Ok(stored) => delete_stored(txns, stored),
-        Err(error) => Err(error),
+    let stored = match stored_row(alloc, def, txns, &id) {
+        Ok(stored) => stored,
+        Err(error) => return Err(error),
+    };
+    if !has_ids(ids, 1) {
+        return Err(WriteError::IdsSpent);
     }
+    delete_stored(txns, front, ids, stored)
 }
 
 /// Takes the full keys of a row out of the trees, and gives the row. After an error some may be out.
-fn delete_stored(txns: &mut [TreeTxn], stored: StoredRow) -> Result<Row, WriteError>
-    requires sound { AreSound txns.old }
+fn delete_stored(
+    txns: &mut [TreeTxn],
+    front: &Front,
+    ids: &mut Ids,
+    stored: StoredRow,
+) -> Result<Row, WriteError>
+    requires ready { AreReady front.now ids.old txns.old }
+    requires left { ids.old.next + 2 ^ 20 * length txns.old ≤ 2 ^ 63 }
     requires both { length stored.keys ≡ length txns.old }
-    ensures { let edited = without_each stored.keys (map txn_pairs txns.old) in
+    ensures answers { let edited = without_each stored.keys (map txn_pairs txns.old) in
         MatchResult result
         (λ row. (row ≡ stored.row) × (map txn_pairs txns.new ≡ edited) × AreSound txns.new)
         (λ e. e ≡ Memory) }
+    ensures drawn { HaveDrawn front.now (2 ^ 20 * length txns.old) ids.old ids.new txns.old txns.new }
+    ensures written { OnOk result
+        (TreesWrote (IsAt stored.keys) txns.old txns.new) }
 {
-    delete_each(txns, stored.keys.lists())?;
+    delete_each(txns, front, ids, stored.keys.lists())?;
     Ok(stored.row)
 }
 

@@ -1,5 +1,5 @@
 //! The keys of a row in the indexes of a table, with the refusals that come of them.
-ghost use Rattle.std.specs.Prelude.{◌≡◌, ◌<◌, All, IfOk, length};
+ghost use Rattle.std.specs.Prelude.{◌≡◌, ◌<◌, ◌≤◌, All, IfOk, length};
 ghost use Rattle.mdb_datum.specs.Pairs.{first_item};
 ghost use Rattle.mdb_encode.specs.Keys.{keys};
 ghost use Rattle.mdb_schema.specs.Tests.{each, needed};
@@ -41,6 +41,7 @@ fn told(place: u32, error: KeyError) -> WriteError
 fn keys_in(alloc: Global, place: u32, index: &IndexDef, row: &Row) -> Result<Keys, WriteError>
     ensures answers { Answers (keys_at place (keys index.now.indexer row.now)) result }
     ensures short { IfOk result (λ found. All IsShort found) }
+    ensures few { IfOk result (λ found. length found ≤ 256) }
 {
     match keys_of(alloc, index.kind(), row) {
         Ok(found) => Ok(found),

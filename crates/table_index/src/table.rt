@@ -1,13 +1,16 @@
 //! A table.
-ghost use Rattle.std.specs.Prelude.{◌≡◌, [], IfOk};
+ghost use Rattle.std.specs.Prelude.{◌≡◌, ◌+◌, ◌≤◌, ◌^◌, [], IfOk, OnOk};
+ghost use Rattle.table_index.specs.Table.{AreAllBelow, AreAllOf};
 
 use crate::trees::{empty_trees, shared};
 use mdb_schema::TableDef;
-use radix_node::Tree;
+use radix_node::{Ids, Tree};
 use std::alloc::{AllocError, Global};
 use std::marker::Model;
+use watch_word::Front;
 
-/// A table, seen as what the schema says of it and its rows, rising by `id` key. It never changes.
+/// A table, seen as what the schema says of it, its rows, rising by `id` key, and the tree of each index
+/// with its cells. It never changes.
 #[derive(Drop)]
 pub struct Table {
     pub(crate) def: TableDef,
@@ -30,11 +33,26 @@ impl Model for Table {
 }
 
 impl Table {
-    /// A table without rows. It takes memory for an empty tree an index.
-    pub fn empty(alloc: Global, def: &TableDef) -> Result<Table, AllocError>
-        ensures { IfOk result (λ t. t ≡ record { schema = def.now; rows = [] }) }
+    /// A table without rows. It takes memory for an empty tree an index, and an id for the cell of its
+    /// root; there are at most 32.
+    pub fn empty(
+        alloc: Global,
+        def: &TableDef,
+        front: &Front,
+        ids: &mut Ids,
+    ) -> Result<Table, AllocError>
+        requires book { front.now.book ≡ ids.old.book }
+        requires left { ids.old.next + 32 ≤ 2 ^ 63 }
+
+        ensures table { IfOk result
+            (λ t. t ≡ record { schema = def.now; rows = []; trees = t.trees }) }
+        ensures below { IfOk result (λ t. AreAllBelow ids.new.next t.trees) }
+        ensures of { IfOk result (λ t. AreAllOf ids.new.book t.trees) }
+        ensures book { ids.new.book ≡ ids.old.book }
+        ensures later { ids.old.next ≤ ids.new.next }
+        ensures few { OnOk result (ids.new.next ≤ ids.old.next + 32) }
     {
-        let trees = empty_trees(alloc, def.len())?;
+        let trees = empty_trees(alloc, def.len(), front, ids)?;
         Ok(Table {
             def: def.share()?,
             trees,

@@ -1,14 +1,19 @@
 //! A table that is being changed.
 ghost use Rattle.std.specs.Prelude.{◌≡◌, false, IfOk};
+ghost use Rattle.table_index.specs.Frozen.{AreFrozen};
+ghost use Rattle.table_index.specs.Watched.{QuestionsHoldSince};
+ghost use Rattle.table_index.specs.Written.{KeepsOthers};
 
+use crate::notices::Notices;
 use crate::table::Table;
-use crate::trees::standing;
+use crate::trees::{frozen, standing};
 use mdb_schema::TableDef;
 use radix_txn::TreeTxn;
 use std::alloc::AllocError;
 use std::marker::Model;
 
-/// A table that is being changed, seen as its rows and whether it is spoiled.
+/// A table that is being changed, seen as its rows, the tree of each index before the change and now,
+/// with their cells, and whether it is spoiled.
 #[derive(Drop)]
 pub struct TableTxn {
     pub(crate) def: TableDef,
@@ -46,6 +51,7 @@ impl TableTxn {
         ensures table { IfOk result (λ t. t ≡ record {
           schema = self.old.schema;
           rows = self.old.rows;
+          trees = self.old.trees;
         }) }
         ensures unchanged { self.new ≡ self.old }
     {
@@ -57,11 +63,26 @@ impl TableTxn {
         })
     }
 
-    /// The table that the change ends with. It takes memory as [`TableTxn::stand`] does.
-    pub fn freeze(mut self) -> Result<Table, AllocError>
+    /// The table that the change ends with, and the notices of the cells that are gone. What is watched in
+    /// the table that it began with is in a notice, or it is as it was, and so is the answer that it
+    /// watches; and all that the written keys don't touch is kept. It takes memory for two lists of the
+    /// indexes, and time in their number; after an error the change is gone.
+    pub fn freeze(self) -> Result<(Table, Notices), AllocError>
         requires sound { self.spoiled ≡ false }
-        ensures { IfOk result (λ t. t ≡ record { schema = self.schema; rows = self.rows }) }
+        ensures table { IfOk result (λ r. r.0 ≡ record {
+          schema = self.schema;
+          rows = self.rows;
+          trees = self.trees;
+        }) }
+        ensures frozen { IfOk result (λ r. AreFrozen r.1 self.start self.trees) }
+        ensures kept { IfOk result (λ r. let table = r.0 in KeepsOthers self table.trees) }
+        ensures questions { IfOk result (λ r. QuestionsHoldSince self r.0) }
     {
-        self.stand()
+        // Brings the definition's laws into the proof of what holds for questions.
+        let _ = self.def.len();
+        let TableTxn { def, trees, .. } = self;
+        let alloc = *trees.allocator();
+        let (trees, notices) = frozen(alloc, trees)?;
+        Ok((Table { def, trees }, notices))
     }
 }

@@ -3,22 +3,25 @@ mod ask;
 mod change;
 mod drawn;
 mod further;
+mod ids;
 mod long;
 mod mixed;
 mod plain;
 mod played;
 mod put;
 mod refused;
+mod watched;
 mod wipe;
 mod without_memory;
 mod words;
+mod work;
 mod worked;
 
-use crate::Table;
 use mdb_datum::{Datum, Items, Row, read_doc};
 use mdb_schema::{Ask, Query, Rows, TableDef, read_schema};
 use std::alloc::Global;
 use std::test::Fail;
+use work::Base;
 
 const SCHEMA: &str = "{\"memdb\":1,\"tables\":{\"t\":{\"indexes\":{\
     \"id\":{\"unique\":true,\"indexer\":{\"kind\":\"text\",\"field\":\"name\"}},\
@@ -45,8 +48,8 @@ fn def_of(alloc: Global, schema: &str) -> Result<TableDef, Fail> {
 }
 
 /// The first table of a schema, without rows.
-fn table_of(alloc: Global, schema: &str) -> Result<Table, Fail> {
-    Ok(Table::empty(alloc, &def_of(alloc, schema)?)?)
+fn table_of(alloc: Global, schema: &str) -> Result<Base, Fail> {
+    Ok(Base::empty(alloc, &def_of(alloc, schema)?)?)
 }
 
 /// Fails with a name where something else was found.

@@ -1,19 +1,36 @@
 //! Lists of trees, one an index.
-ghost use Rattle.std.specs.Prelude.{◌≡◌, [], IfOk, map, replicate};
+ghost use Rattle.std.specs.Prelude.{◌≡◌, ◌+◌, ◌≤◌, ◌^◌, [], IfOk, OnOk, map, replicate};
 ghost use Rattle.radix_node.specs.Nodes.{pairs_of};
-ghost use Rattle.table_index.specs.inner.Held.{AreSound, begun, nodes_of};
+ghost use Rattle.table_index.specs.Frozen.{AreFrozen};
+ghost use Rattle.table_index.specs.Table.{AreAllBelow, AreAllOf};
+ghost use Rattle.table_index.specs.inner.Held.{AreSound, begun, plains, starts_of, trees_of};
 
-use radix_node::Tree;
+use crate::notices::Notices;
+use radix_node::{Ids, Tree};
 use radix_txn::{Edit, TreeTxn};
 use std::alloc::{AllocError, Global};
+use watch_word::Front;
 
-/// So many trees without keys.
-pub(crate) fn empty_trees(alloc: Global, count: usize) -> Result<Vec<Tree>, AllocError>
-    ensures { IfOk result (λ trees. map pairs_of trees.items ≡ replicate count []) }
+/// So many trees without keys, with an id for the cell of each root.
+pub(crate) fn empty_trees(
+    alloc: Global,
+    count: usize,
+    front: &Front,
+    ids: &mut Ids,
+) -> Result<Vec<Tree>, AllocError>
+    requires book { front.now.book ≡ ids.old.book }
+    requires left { ids.old.next + count ≤ 2 ^ 63 }
+    ensures pairs { IfOk result
+        (λ trees. map pairs_of (plains trees.items) ≡ replicate count []) }
+    ensures below { IfOk result (λ trees. AreAllBelow ids.new.next trees.items) }
+    ensures of { IfOk result (λ trees. AreAllOf ids.new.book trees.items) }
+    ensures book { ids.new.book ≡ ids.old.book }
+    ensures later { ids.old.next ≤ ids.new.next }
+    ensures few { OnOk result (ids.new.next ≤ ids.old.next + count) }
 {
     let mut trees = Vec::new(alloc);
     for at in 0..count {
-        trees.push(Tree::empty(alloc)?)?;
+        trees.push(Tree::empty(alloc, front, ids)?)?;
     }
     Ok(trees)
 }
@@ -32,7 +49,7 @@ pub(crate) fn begin(alloc: Global, trees: &[Tree]) -> Result<Vec<TreeTxn>, Alloc
 /// The present trees of transactions, which stay as they are. It takes memory for the list.
 pub(crate) fn standing(alloc: Global, txns: &mut [TreeTxn]) -> Result<Vec<Tree>, AllocError>
     requires sound { AreSound txns.old }
-    ensures trees { IfOk result (λ trees. trees.items ≡ nodes_of txns.old) }
+    ensures trees { IfOk result (λ trees. trees.items ≡ trees_of txns.old) }
     ensures unchanged { txns.new ≡ txns.old }
 {
     let mut trees = Vec::with_capacity(alloc, txns.len())?;
@@ -52,4 +69,21 @@ pub(crate) fn shared(alloc: Global, trees: &[Tree]) -> Result<Vec<Tree>, AllocEr
         owned.push(tree.share()?)?;
     }
     Ok(owned)
+}
+
+/// The trees that transactions end with, and their notices. It takes memory for both lists.
+pub(crate) fn frozen(alloc: Global, txns: Vec<TreeTxn>) -> Result<(Vec<Tree>, Notices), AllocError>
+    requires sound { AreSound txns.items }
+    ensures trees { IfOk result (λ r. let trees = r.0 in trees.items ≡ trees_of txns.items) }
+    ensures frozen { IfOk result
+        (λ r. AreFrozen r.1 (starts_of txns.items) (trees_of txns.items)) }
+{
+    let mut trees = Vec::with_capacity(alloc, txns.len())?;
+    let mut list = Vec::with_capacity(alloc, txns.len())?;
+    for txn in txns {
+        let (tree, notice) = txn.freeze()?;
+        trees.push(tree)?;
+        list.push(notice)?;
+    }
+    Ok((trees, Notices { list }))
 }

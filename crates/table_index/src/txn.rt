@@ -13,6 +13,8 @@ impl Table {
         ensures { IfOk result (λ t. t ≡ record {
           schema = self.now.schema;
           rows = self.now.rows;
+          start = self.now.trees;
+          trees = self.now.trees;
           spoiled = false;
         }) }
     {

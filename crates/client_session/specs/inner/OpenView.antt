@@ -9,7 +9,7 @@ use Rattle.mem_txn.specs.Transactions.{changes_of, items_of}
 use Rattle.mdb_schema.specs.History.{state_at}
 use Rattle.client_script.specs.Client.{Transaction, closed, reading, writing, Client}
 use Rattle.client_script.specs.Reply.{Reply, committed}
-use Rattle.client_script.specs.Turn.{turn, outcome}
+use Rattle.client_script.specs.Spent.{IsTold}
 use Rattle.client_script.specs.declared.command.Command.{Command}
 use Rattle.client_script.specs.declared.command.Command.TheVariants as command
 use Rattle.client_session.specs.Answered.{IsLater}
@@ -61,11 +61,11 @@ abbrev pub IsNumbered : Caller → Transaction → Reply → Type 0
 IsNumbered old t r = map (λ m. (m, old.number)) (number_printed r)
     ≡ enumerate_from (length old.seen + 1) (callers (made old.number t r))
 
--- a line's turn over what is open: the reply, and what the client then knows
+-- what a line is told over what is open: the reply, and what the client then knows
 pub record Turns (c : Command) (old new : Open) (r : Reply) (v : Client) : Type 0 where
   pub next : Client
-  pub says : outcome v (turn (caller_of old).schema (caller_of old).seen
-      (length (caller_of old).seen) v c) ≡ (r, next)
+  pub says : IsTold (caller_of old).schema (caller_of old).seen (length (caller_of old).seen) v c r
+      next
   pub transaction : next.transaction ≡ transaction_of new
   pub snapshots : next.snapshots ≡ v.snapshots
   pub last : next.last ≤ length (caller_of new).seen

@@ -43,5 +43,5 @@ abbrev pub wipe_rule : TxnWipeError → Option Rule
 wipe_rule wipe_refused.Spoiled = None
 wipe_rule wipe_refused.UnknownTable = Some rules.UnknownTable
 wipe_rule (wipe_refused.Refused wipe_errors.Memory) = None
-wipe_rule (wipe_refused.Refused wipe_errors.IdsSpent) = None
+wipe_rule (wipe_refused.Refused wipe_errors.IdsSpent) = Some rules.IdsSpent
 wipe_rule (wipe_refused.Refused (wipe_errors.Refused e)) = question_rule e

@@ -1,5 +1,5 @@
 -- The names of the rules that a line may break.
-use Rattle.std.specs.Prelude.{◌++◌, ℕ, [], ◌∷◌, Option, Some, None, option_map, option_and_then, slice_get, codes}
+use Rattle.std.specs.Prelude.{◌++◌, ℕ, [], ◌∷◌, Option, Some, None, option_map, option_and_then, slice_get, codes, ⊤}
 use Rattle.mdb_datum.specs.Bytes.{Bytes}
 use Rattle.mdb_schema.specs.Schema.{DbSchema, TableSchema, IndexSchema}
 use Rattle.mdb_schema.specs.declared.ask_error.AskError.{AskError}
@@ -68,6 +68,7 @@ index_part_at schema table (Some index) = name_part (index_at schema table index
 abbrev pub rule_name : DbSchema → Rule → Bytes
 rule_name schema rules.TransactionOpen = codes "transaction-open"
 rule_name schema rules.CommitsSpent = codes "commits-spent"
+rule_name schema rules.IdsSpent = codes "ids-spent"
 rule_name schema rules.NoTransaction = codes "no-transaction"
 rule_name schema rules.WriteOpen = codes "write-open"
 rule_name schema rules.ReadOnly = codes "read-only"
@@ -76,3 +77,9 @@ rule_name schema rules.UnknownName = codes "unknown-name"
 rule_name schema rules.UnknownTable = codes "unknown-table"
 rule_name schema (rules.Question e) = question_name e
 rule_name schema (rules.Row table e) = write_name e ++ index_part_at schema table (write_place e)
+
+-- rules that are the session's own, and no question's or row's
+abbrev pub IsSessions : Rule → Type 0
+IsSessions (rules.Question e) = ⊥
+IsSessions (rules.Row table e) = ⊥
+IsSessions rule = ⊤

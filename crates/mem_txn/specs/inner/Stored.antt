@@ -3,6 +3,7 @@ use Rattle.std.specs.Prelude.{◌≡◌, ℕ, Bool, true, false, List, refl}
 use Rattle.std.specs.Coded.{Coded, code_by, coded×, coded_ℕ, coded_bool, coded_list}
 use Rattle.atomic_table.specs.Seated.{table_id_coded}
 use Rattle.db_front.specs.Passes.{FrontId}
+use Rattle.logbook.specs.Pages.{Book, book_coded}
 use Rattle.mdb_datum.specs.Row.{Fields}
 use Rattle.mdb_datum.specs.inner.Stored.{fields_code}
 use Rattle.mdb_encode.specs.Bytes.{Bytes}
@@ -12,11 +13,13 @@ use Rattle.mdb_schema.specs.State.{State}
 use Rattle.mdb_schema.specs.Write.{Write, put, remove}
 use Rattle.mdb_schema.specs.inner.Stored.{name_code, schema_code}
 use Rattle.mdb_schema.specs.inner.StoredQuery.{rows_code}
+use Rattle.radix_node.specs.Ids.{Counter}
 use Rattle.table_index.specs.Table.{TableChange}
-use Rattle.table_index.specs.inner.Stored.{table_change_code}
+use Rattle.table_index.specs.inner.Stored.{table_change_code, trees_code}
 use Rattle.mem_txn.specs.Changes.{Changes}
 use Rattle.mem_txn.specs.Database.{Caller, Callers, Database, View}
-use Rattle.mem_txn.specs.inner.Versions.{Version}
+use Rattle.mem_txn.specs.inner.VersionTables.{Tables}
+use Rattle.mem_txn.specs.inner.Versions.{Forest, Turned, Version, ViewWithTrees}
 
 -- whether a write is a put, with the name of its table and its row
 abbrev pub Parts : Type 0
@@ -97,9 +100,26 @@ view_code = code_by (DbSchema × (ℕ × State)) (coded× schema_code (coded× c
     (λ v. (v.schema, (v.number, v.state)))
     (λ p. record { schema = p.0; number = p.1.0; state = p.1.1 }) (λ _. refl)
 
+abbrev pub counter_code : Coded Counter
+counter_code = code_by (Book × ℕ) (coded× book_coded coded_ℕ)
+    (λ i. (i.book, i.next)) (λ p. record { book = p.0; next = p.1 }) (λ _. refl)
+
+abbrev pub forest_code : Coded Forest
+forest_code = coded_list trees_code
+
+abbrev pub view_with_trees_code : Coded ViewWithTrees
+view_with_trees_code = code_by (View × Forest) (coded× view_code forest_code)
+    (λ v. (v.view, v.trees)) (λ p. record { view = p.0; trees = p.1 }) (λ _. refl)
+
 abbrev pub version_code : Coded Version
-version_code = code_by (View × List Write) (coded× view_code writes_code)
-    (λ v. (v.view, v.writes)) (λ p. record { view = p.0; writes = p.1 }) (λ _. refl)
+version_code = code_by ((View × Forest) × (List Write × Counter))
+    (coded× (coded× view_code forest_code) (coded× writes_code counter_code))
+    (λ v. ((v.view, v.trees), (v.writes, v.ids)))
+    (λ p. record { view = p.0.0; trees = p.0.1; writes = p.1.0; ids = p.1.1 }) (λ _. refl)
+
+abbrev pub turned_code : Coded Turned
+turned_code = code_by (Caller × Counter) (coded× caller_code counter_code)
+    (λ t. (t.caller, t.ids)) (λ p. record { caller = p.0; ids = p.1 }) (λ _. refl)
 
 abbrev pub changes_code : Coded Changes
 changes_code = code_by (Caller × (List Write × Bool))
@@ -107,5 +127,7 @@ changes_code = code_by (Caller × (List Write × Bool))
     (λ t. (t.caller, (t.writes, t.spoiled)))
     (λ p. record { caller = p.0; writes = p.1.0; spoiled = p.1.1 }) (λ _. refl)
 
-abbrev pub tables_code : Coded (List TableChange)
-tables_code = coded_list table_change_code
+abbrev pub tables_code : Coded Tables
+tables_code = code_by (List TableChange × Counter)
+    (coded× (coded_list table_change_code) counter_code)
+    (λ t. (t.tables, t.ids)) (λ p. record { tables = p.0; ids = p.1 }) (λ _. refl)

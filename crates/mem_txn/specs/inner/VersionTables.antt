@@ -1,5 +1,5 @@
 -- Lists of tables, each at its place in the schema.
-use Rattle.std.specs.Prelude.{◌≡◌, ◌⊎◌, ◌++◌, ℕ, Bool, true, false, List, [], ◌∷◌, map, slice_get, slice_set, Some, All}
+use Rattle.std.specs.Prelude.{◌≡◌, ◌≤◌, ◌⊎◌, ◌+◌, ◌++◌, ◌^◌, ℕ, Bool, true, false, List, [], ◌∷◌, map, slice_get, slice_set, Some, All}
 use Rattle.std.specs.Prelude.{Option, Result, Ok, Err, MatchResult}
 use Rattle.mdb_datum.specs.Row.{Fields}
 use Rattle.mdb_schema.specs.Answer.{ask_rows}
@@ -11,11 +11,10 @@ use Rattle.mdb_schema.specs.Write.{Changed, Tested, Write}
 use Rattle.mdb_schema.specs.declared.answer.Answer.{Answer}
 use Rattle.mdb_schema.specs.declared.ask_error.AskError.{AskError}
 use Rattle.mdb_schema.specs.declared.write_error.WriteError.{WriteError}
-use Rattle.mdb_schema.specs.declared.write_error.WriteError.TheVariants.{Memory}
-use Rattle.table_index.specs.Table.{TableRows, TableChange}
-
-abbrev pub empty_table : TableSchema → TableRows
-empty_table t = record { schema = t; rows = [] }
+use Rattle.mdb_schema.specs.declared.write_error.WriteError.TheVariants.{IdsSpent, Memory}
+use Rattle.radix_node.specs.Cells.{CellTree}
+use Rattle.radix_node.specs.Ids.{Counter}
+use Rattle.table_index.specs.Table.{AreAllBelow, AreAllOf, IsChanged, IsSpent, TableRows, TableChange}
 
 abbrev pub schemas_of : List TableRows → DbSchema
 schemas_of ts = map (λ (t : TableRows). t.schema) ts
@@ -23,13 +22,17 @@ schemas_of ts = map (λ (t : TableRows). t.schema) ts
 abbrev pub state_of : List TableRows → State
 state_of ts = map (λ (t : TableRows). t.rows) ts
 
+abbrev pub trees_of : List TableRows → List (List CellTree)
+trees_of ts = map (λ (t : TableRows). t.trees) ts
+
 -- a table that is being changed, as it stands
 abbrev pub standing : TableChange → TableRows
-standing t = record { schema = t.schema; rows = t.rows }
+standing t = record { schema = t.schema; rows = t.rows; trees = t.trees }
 
 -- a table that nobody has written to
 abbrev pub unwritten : TableRows → TableChange
-unwritten t = record { schema = t.schema; rows = t.rows; spoiled = false }
+unwritten t =
+    record { schema = t.schema; rows = t.rows; start = t.trees; trees = t.trees; spoiled = false }
 
 abbrev pub IsSound : TableChange → Type 0
 IsSound t = t.spoiled ≡ false
@@ -40,24 +43,47 @@ pub record StandFor (tables : List TableChange) (schema : DbSchema) (s : State) 
   pub rows : state_of (map standing tables) ≡ s
   pub sound : All IsSound tables
 
--- the answer of a table to a write that leaves these rows, or is refused so; after want of memory
--- its rows mean nothing
+-- ---- ids of cells
+
+-- all cells of the trees are of the counter's book and have ids that were drawn
+pub record AreWithin (ids : Counter) (trees : List CellTree) : Type 0 where
+  pub below : AreAllBelow ids.next trees
+  pub of : AreAllOf ids.book trees
+
+-- the same of a table that is being changed, before the change and now
+pub record IsWithin (ids : Counter) (t : TableChange) : Type 0 where
+  pub start : AreWithin ids t.start
+  pub trees : AreWithin ids t.trees
+
+-- the tables of a transaction, and the ids that come next
+pub record Tables : Type 0 where
+  pub tables : List TableChange
+  pub ids : Counter
+
+-- ---- writes
+
+-- the answer of a table to a write that leaves these rows, or is refused so, with the ids before and
+-- after it; after want of memory its rows mean nothing
 abbrev pub AnswersRows : {A : Type 0} → (Option Fields → A → Type 0) → Tested Changed
-    → Result A WriteError → TableChange → TableChange → Type 0
-AnswersRows gives (Ok c) result old new =
-    MatchResult result (λ x. gives c.1 x × (new ≡ record old { rows = c.0 })) (λ e. e ≡ Memory)
-AnswersRows gives (Err why) result old new =
-    MatchResult result (λ x. ⊥) (λ e. ((e ≡ write_error why) × (new ≡ old)) ⊎ (e ≡ Memory))
+    → Result A WriteError → Counter → Counter → TableChange → TableChange → Type 0
+AnswersRows gives (Ok c) result ids ids' old new =
+    MatchResult result
+    (λ x. gives c.1 x × IsChanged c.0 old new × (ids'.next ≤ ids.next + 2 ^ 26))
+    (λ e. (IsSpent ids.next 1 IdsSpent e old new × (ids' ≡ ids)) ⊎ (e ≡ Memory))
+AnswersRows gives (Err why) result ids ids' old new =
+    MatchResult result (λ x. ⊥)
+    (λ e. ((e ≡ write_error why) × (new ≡ old) × (ids' ≡ ids)) ⊎ (e ≡ Memory))
 
 -- the same of the table at a place of a list
 pub record AnswersAt {A : Type 0} (gives : Option Fields → A → Type 0)
     (change : TableChange → Tested Changed) (place : ℕ) (result : Result A WriteError)
-    (old new : List TableChange) : Type 0 where
+    (old new : Tables) : Type 0 where
   pub before : TableChange
   pub after : TableChange
-  pub there : slice_get old place ≡ Some before
-  pub answers : AnswersRows gives (change before) result before after
-  pub set : new ≡ slice_set old place after
+  pub there : slice_get old.tables place ≡ Some before
+  pub answers : AnswersRows gives (change before) result old.ids new.ids before after
+  pub set : new.tables ≡ slice_set old.tables place after
+  pub book : new.ids.book ≡ old.ids.book
 
 -- the answer to a question of the table at a place
 pub record AnswersAskAt (q : Query) (place : ℕ) (result : Result Answer AskError)
@@ -69,8 +95,7 @@ pub record AnswersAskAt (q : Query) (place : ℕ) (result : Result Answer AskErr
 -- a write to the table at a place, and to the list of the accepted writes, which it joins unless it
 -- is refused
 abbrev pub Joins : {A : Type 0} → (Option Fields → A → Type 0) → (TableChange → Tested Changed)
-    → ℕ → Write → Result A WriteError → List TableChange → List TableChange
-    → List Write → List Write → Type 0
+    → ℕ → Write → Result A WriteError → Tables → Tables → List Write → List Write → Type 0
 Joins gives change place w result tables tables' writes writes' =
     MatchResult result
     (λ x. AnswersAt gives change place (Ok x) tables tables' × (writes' ≡ writes ++ w ∷ []))

@@ -1,5 +1,5 @@
 -- What a contract sees of a database and its callers.
-use Rattle.std.specs.Prelude.{◌≡◌, ◌≤◌, ◌^◌, map}
+use Rattle.std.specs.Prelude.{◌≡◌, ◌≤◌, ◌^◌, All, map}
 use Rattle.std.specs.Arc.{arc_value}
 use Rattle.mdb_schema.specs.Write.{Write}
 use Rattle.mem_txn.specs.Database.{Caller, Callers, Database, View}
@@ -9,19 +9,22 @@ use Rattle.mem_txn.specs.declared.pass.Pass.TheInside as pass
 use Rattle.mem_txn.specs.declared.passes.Passes.TheInside as passes
 use Rattle.mem_txn.specs.declared.read_txn.ReadTxn.TheInside as read_txn
 use Rattle.mem_txn.specs.declared.turn.Turn.TheInside as turn
+use Rattle.mem_txn.specs.declared.txn_tables.TxnTables.TheInside as txn_tables
 use Rattle.mem_txn.specs.declared.version.Version.TheInside as version
 use Rattle.mem_txn.specs.declared.view.View.TheInside as view
 use Rattle.mem_txn.specs.inner.Accepted.{write_of}
-use Rattle.mem_txn.specs.inner.VersionTables.{schemas_of, state_of}
-use Rattle.mem_txn.specs.inner.Versions.{AreTokens, IsToken, StandsFor, Version, caller_of}
+use Rattle.mem_txn.specs.inner.VersionTables.{IsWithin, Tables, schemas_of, state_of, trees_of}
+use Rattle.mem_txn.specs.inner.Versions.{AreTokens, IsLogOf, IsToken, StandsFor, Turned, Version, ViewWithTrees, caller_of}
 
-abbrev pub state_view : view.Inside → View
-state_view v =
-    record {
-      schema = arc_value v.schema;
-      number = v.number;
-      state = state_of (map arc_value v.tables.items);
-    }
+abbrev pub state_view : view.Inside → ViewWithTrees
+state_view v = record {
+  view = record {
+    schema = arc_value v.schema;
+    number = v.number;
+    state = state_of (map arc_value v.tables.items);
+  };
+  trees = trees_of (map arc_value v.tables.items);
+}
 
 -- each table stands at its place in the schema
 pub record IsView (v : view.Inside) : Type 0 where
@@ -29,7 +32,8 @@ pub record IsView (v : view.Inside) : Type 0 where
   pub few : v.number ≤ 2 ^ 63
 
 abbrev pub version_view : version.Inside → Version
-version_view v = record { view = v.view; writes = v.writes.items }
+version_view v =
+    record { view = v.view.view; trees = v.view.trees; writes = v.writes.items; ids = v.ids }
 
 abbrev pub db_view : db.Inside → Database
 db_view d = record {
@@ -57,9 +61,18 @@ passes_view p = record { passes = map caller_of p.list.passes; made = p.list.roo
 abbrev pub AreIdle : passes.Inside → Type 0
 AreIdle p = AreTokens p.list.passes
 
-abbrev pub turn_view : turn.Inside → Caller
-turn_view t = caller_of t.token
+abbrev pub turn_view : turn.Inside → Turned
+turn_view t = record { caller = caller_of t.token; ids = (arc_value t.base).ids }
 
--- the value is the state after all commits
-abbrev pub IsTurn : turn.Inside → Type 0
-IsTurn t = IsToken 1 t.token × StandsFor t.token.seen (arc_value t.base)
+-- the value is the state after all commits, and the log is of the book of its cells
+pub record IsTurn (t : turn.Inside) : Type 0 where
+  pub token : IsToken 1 t.token
+  pub stands : StandsFor t.token.seen (arc_value t.base)
+  pub log : IsLogOf t.token.seen t.log
+
+abbrev pub tables_view : txn_tables.Inside → Tables
+tables_view t = record { tables = t.tables.items; ids = t.ids }
+
+-- all cells of the tables have ids that were drawn
+abbrev pub AreTables : txn_tables.Inside → Type 0
+AreTables t = All (IsWithin t.ids) t.tables.items

@@ -1,15 +1,16 @@
-//! Rows, edges and trees made by hand.
-ghost use Rattle.std.specs.Prelude.{◌≡◌, [], ◌∷◌, Some, None, IfOk};
+//! Rows, edges, cells and the empty tree.
+ghost use Rattle.std.specs.Prelude.{IfOk};
 ghost use Rattle.mdb_datum.specs.Datum as of;
 ghost use Rattle.mdb_datum.specs.Row.{IsCanonicalRow};
-ghost use Rattle.radix_node.specs.Edges.{EdgesRise, edge_put};
-ghost use Rattle.radix_node.specs.Node.{edge_node, edges_of, nodes_in};
-ghost use Rattle.radix_node.specs.Nodes.{no_nodes};
+ghost use Rattle.radix_node.specs.Edges.{EdgesRise};
+ghost use Rattle.radix_node.specs.Node.{edges_of, nodes_in};
 
-use crate::{Edge, Edges, Leaf, Node, Tree};
+use crate::{Edge, Edges, Ids, Node, Tree};
 use mdb_datum::{Datum, Members, Row, read_doc};
 use std::alloc::{AllocError, Global};
+use std::sync::Arc;
 use std::test::Fail;
+use watch_word::{WatchCell, open_book, open_cell};
 
 #[tactic(auto, using(mdb_datum::proofs::Variants::doc_of_members))]
 fn members(alloc: Global, text: &str) -> Result<Members, Fail>
@@ -26,9 +27,16 @@ pub fn row(alloc: Global, text: &str) -> Result<Row, Fail> {
     Ok(Row::of(alloc, members(alloc, text)?)?)
 }
 
+/// A cell with an id, of a book of its own.
+pub fn cell(alloc: Global, id: u64) -> Result<Arc<WatchCell>, AllocError> {
+    let (book, front) = open_book(alloc)?;
+    open_cell(alloc, &book, &front, id)
+}
+
 /// An edge to a node without leaf and edges.
 pub fn edge(alloc: Global, label: u8, prefix: &[u8]) -> Result<Edge, AllocError> {
-    Ok(Edge::of(label, Node::of(alloc, prefix, None, Edges::new(alloc))?))
+    let node = Node::of(alloc, prefix, None, Edges::new(alloc), cell(alloc, 1)?)?;
+    Ok(Edge::of(label, node))
 }
 
 /// Edges by these labels.
@@ -42,112 +50,18 @@ pub fn edges_by(alloc: Global, labels: &[u8]) -> Result<Edges, AllocError>
     Ok(edges)
 }
 
-/// An edge to a node with a leaf.
-fn leaf_edge(
-    alloc: Global,
-    label: u8,
-    prefix: &[u8],
-    key: &[u8],
-    row: &Row,
-    under: Edges,
-) -> Result<Edge, AllocError>
-    ensures { IfOk result (λ e. edge_node e ≡ record {
-      prefix = label ∷ prefix.now;
-      leaf = Some (key.now, row.now);
-      under = nodes_in (edges_of under);
-    }) }
-{
-    let leaf = Leaf::of(alloc, key, row)?;
-    Ok(Edge::of(label, Node::of(alloc, prefix, Some(leaf), under)?))
+/// A tree without keys, whose root's cell has the id 7.
+pub fn empty_tree(alloc: Global) -> Result<Tree, AllocError> {
+    let (book, front) = open_book(alloc)?;
+    Ok(Tree::empty(alloc, &front, &mut Ids::starting(book, 7))?)
 }
 
-/// An edge to a node with two edges and no leaf.
-fn fork(alloc: Global, label: u8, prefix: &[u8], low: Edge, high: Edge) -> Result<Edge, AllocError>
-    ensures { IfOk result (λ e. edge_node e ≡ record {
-      prefix = label ∷ prefix.now;
-      leaf = None;
-      under = nodes_in (edge_put (edge_node high) (edge_node low ∷ []));
-    }) }
-{
-    let mut edges = one(alloc, low)?;
-    edges.put(high)?;
-    Ok(Edge::of(label, Node::of(alloc, prefix, None, edges)?))
-}
-
-/// One edge.
-fn one(alloc: Global, edge: Edge) -> Result<Edges, AllocError>
-    ensures edges { IfOk result (λ e. edges_of e ≡ edge_node edge ∷ []) }
-    ensures rising { IfOk result (λ e. EdgesRise (nodes_in (edges_of e))) }
-{
-    let mut edges = Edges::new(alloc);
-    edges.put(edge)?;
-    Ok(edges)
-}
-
-/// An edge to a node with a leaf and no edges.
-fn tip(alloc: Global, label: u8, prefix: &[u8], key: &[u8], row: &Row) -> Result<Edge, AllocError>
-    ensures { IfOk result (λ e. edge_node e
-        ≡ record { prefix = label ∷ prefix.now; leaf = Some (key.now, row.now); under = no_nodes }) }
-{
-    leaf_edge(alloc, label, prefix, key, row, Edges::new(alloc))
-}
-
-/// The tree of `foo`, `foot` and `football`, each ended by a byte 00.
-pub fn forked_tree(alloc: Global, row: &Row) -> Result<Tree, AllocError> {
-    let foot = tip(alloc, 0, b"", b"foot\0", row)?;
-    let t = fork(
-        alloc,
-        b't',
-        b"",
-        foot,
-        tip(alloc, b'b', b"all\0", b"football\0", row)?,
-    )?;
-    let foo = tip(alloc, 0, b"", b"foo\0", row)?;
-    let f = fork(alloc, b'f', b"oo", foo, t)?;
-    Ok(Tree::of_root(Node::of(alloc, b"", None, one(alloc, f)?)?, 3))
-}
-
-/// The tree of ``, `a`, `ab` and `abc`, each under the one before, with their lengths for rows.
-pub fn nested_tree(alloc: Global) -> Result<Tree, Fail> {
-    let c = leaf_edge(
-        alloc,
-        b'c',
-        b"",
-        b"abc",
-        &row(alloc, "{\"n\":3}")?,
-        Edges::new(alloc),
-    )?;
-    let b = leaf_edge(
-        alloc,
-        b'b',
-        b"",
-        b"ab",
-        &row(alloc, "{\"n\":2}")?,
-        one(alloc, c)?,
-    )?;
-    let a = leaf_edge(
-        alloc,
-        b'a',
-        b"",
-        b"a",
-        &row(alloc, "{\"n\":1}")?,
-        one(alloc, b)?,
-    )?;
-    let leaf = Leaf::of(alloc, b"", &row(alloc, "{\"n\":0}")?)?;
-    Ok(Tree::of_root(Node::of(alloc, b"", Some(leaf), one(alloc, a)?)?, 4))
-}
-
-/// The tree of one key, which is `label` and then `prefix`.
-pub fn tree_of_one(alloc: Global, label: u8, prefix: &[u8], key: &[u8]) -> Result<Tree, Fail>
-    requires { key.now ≡ label ∷ prefix.now }
-{
-    let edge = leaf_edge(
-        alloc,
-        label,
-        prefix,
-        key,
-        &row(alloc, "{}")?,
-        Edges::new(alloc),
-    )?;
-    Ok(Tree::of_root(Node::of(alloc, b"", None, one(alloc, edge)?)?, 1))
+/// Whether two cells get ids one after the other, and a second counter goes on from there.
+pub fn draws_two(alloc: Global) -> Result<bool, AllocError> {
+    let (book, front) = open_book(alloc)?;
+    let mut ids = Ids::starting(book, 5);
+    let first = ids.draw(alloc, &front)?.id();
+    let mut more = ids.share()?;
+    let second = more.draw(alloc, &front)?.id();
+    Ok(first == 5 && second == 6 && ids.next() == 6 && more.left() == (1 << 63) - 7)
 }

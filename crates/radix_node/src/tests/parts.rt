@@ -3,7 +3,7 @@ ghost use Rattle.std.specs.Prelude.{◌≤◌, length};
 ghost use Rattle.radix_node.specs.Edges.{EdgesRise};
 ghost use Rattle.radix_node.specs.Node.{edges_of, nodes_in};
 
-use super::built::{edge, edges_by, row};
+use super::built::{cell, edge, edges_by, row};
 use super::{is_node, is_row, labels_are};
 use crate::{Edges, Leaf, Node};
 use mdb_datum::Row;
@@ -105,19 +105,33 @@ fn is_after(node: &Node, keys: &[(&[u8], Option<&[u8]>, usize)]) -> bool {
 
 #[test]
 fn what_a_key_has_after_a_prefix(rt: HostRuntime) -> Result<(), Fail> {
-    let foo = Node::of(rt.alloc(), b"foo", None, Edges::new(rt.alloc()))?;
+    let foo = Node::of(
+        rt.alloc(),
+        b"foo",
+        None,
+        Edges::new(rt.alloc()),
+        cell(rt.alloc(), 1)?,
+    )?;
     assert!(rt; is_after(foo.node(), &AFTER_FOO));
     Ok(())
 }
 
 fn copies_change_one_part(node: &Node, alloc: Global) -> Result<bool, AllocError> {
-    let moved = node.with_prefix(b"q")?;
-    let bare = node.with_edges(Edges::new(alloc))?;
-    Ok(is_node(moved.node(), b"q", true, b"ab") && is_node(bare.node(), b"p", true, b""))
+    let moved = node.with_prefix(b"q", cell(alloc, 3)?)?;
+    let bare = node.with_edges(Edges::new(alloc), cell(alloc, 4)?)?;
+    let ids = [moved.node().cell().id(), bare.node().cell().id()];
+    Ok(
+        ids == [3, 4]
+            && is_node(moved.node(), b"q", true, b"ab")
+            && is_node(bare.node(), b"p", true, b""),
+    )
 }
 
 fn copy_has_leaf(node: &Node, alloc: Global, row: &Row) -> Result<bool, AllocError> {
-    let keyed = node.with_leaf(Leaf::of(alloc, b"p", row)?)?;
+    let keyed = node.with_leaf(
+        Leaf::of(alloc, b"p", row, cell(alloc, 3)?)?,
+        cell(alloc, 4)?,
+    )?;
     let again = keyed.node().share_row()?;
     Ok(is_node(keyed.node(), b"p", true, b"ab") && is_row(again.as_ref(), 2))
 }
@@ -125,8 +139,14 @@ fn copy_has_leaf(node: &Node, alloc: Global, row: &Row) -> Result<bool, AllocErr
 #[test]
 fn a_copy_changes_one_part(rt: HostRuntime) -> Result<(), Fail> {
     let row = row(rt.alloc(), "{\"n\":1}")?;
-    let leaf = Leaf::of(rt.alloc(), b"p", &row)?;
-    let node = Node::of(rt.alloc(), b"p", Some(leaf), edges_by(rt.alloc(), b"ab")?)?;
+    let leaf = Leaf::of(rt.alloc(), b"p", &row, cell(rt.alloc(), 2)?)?;
+    let node = Node::of(
+        rt.alloc(),
+        b"p",
+        Some(leaf),
+        edges_by(rt.alloc(), b"ab")?,
+        cell(rt.alloc(), 1)?,
+    )?;
     assert!(rt; copies_change_one_part(node.node(), rt.alloc())?);
     Ok(())
 }
@@ -134,7 +154,31 @@ fn a_copy_changes_one_part(rt: HostRuntime) -> Result<(), Fail> {
 #[test]
 fn a_copy_has_another_leaf(rt: HostRuntime) -> Result<(), Fail> {
     let row = row(rt.alloc(), "{\"n\":2}")?;
-    let node = Node::of(rt.alloc(), b"p", None, edges_by(rt.alloc(), b"ab")?)?;
+    let node = Node::of(
+        rt.alloc(),
+        b"p",
+        None,
+        edges_by(rt.alloc(), b"ab")?,
+        cell(rt.alloc(), 1)?,
+    )?;
     assert!(rt; copy_has_leaf(node.node(), rt.alloc(), &row)?);
+    Ok(())
+}
+
+/// Which cells of a node are listed, where ids below a bound are.
+fn lists(node: &Node, below: u64, count: usize, alloc: Global) -> Result<bool, AllocError> {
+    let mut cells = Vec::new(alloc);
+    node.push_cells(below, &mut cells)?;
+    Ok(cells.len() == count)
+}
+
+#[test]
+fn cells_are_listed_below_a_bound(rt: HostRuntime) -> Result<(), Fail> {
+    let row = row(rt.alloc(), "{}")?;
+    let leaf = Leaf::of(rt.alloc(), b"p", &row, cell(rt.alloc(), 5)?)?;
+    let edges = edges_by(rt.alloc(), b"ab")?;
+    let node = Node::of(rt.alloc(), b"p", Some(leaf), edges, cell(rt.alloc(), 3)?)?;
+    assert!(rt; lists(node.node(), 6, 4, rt.alloc())? && lists(node.node(), 5, 3, rt.alloc())?);
+    assert!(rt; lists(node.node(), 3, 2, rt.alloc())? && lists(node.node(), 1, 0, rt.alloc())?);
     Ok(())
 }

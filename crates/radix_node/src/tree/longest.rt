@@ -1,6 +1,7 @@
 //! The longest stored prefix of a key.
-ghost use Rattle.std.specs.Prelude.{◌≡◌, option_copied};
+ghost use Rattle.std.specs.Prelude.{◌≡◌, option_copied, option_map};
 ghost use Rattle.radix_node.specs.Longest.{prefixes_of, longest_pair, longest};
+ghost use Rattle.radix_node.specs.Cells.{plain_of};
 ghost use Rattle.radix_node.specs.Nodes.{pairs_of};
 
 use crate::leaf::Leaf;
@@ -12,14 +13,14 @@ impl Tree {
     /// memory, and time in the length of `key`, with a binary search among the edges at each node
     /// on the way.
     pub fn longest(&self, key: &[u8]) -> Option<&Row>
-        ensures { option_copied result ≡ longest key.now (pairs_of self.now) }
+        ensures { option_copied result ≡ longest key.now (pairs_of (plain_of self.now)) }
     {
         Some(self.last_on_path(key)?.row())
     }
 
     /// The leaf of the longest key that is a prefix of `key`: the last one on the way down.
     fn last_on_path(&self, key: &[u8]) -> Option<&Leaf>
-        ensures { option_copied result ≡ longest_pair (prefixes_of key.now (pairs_of self.now)) }
+        ensures { option_map (λ l. l.now.pair) result ≡ longest_pair (prefixes_of key.now (pairs_of (plain_of self.now))) }
     {
         let mut node = self.root();
         let mut best = node.leaf();

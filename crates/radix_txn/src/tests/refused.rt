@@ -1,8 +1,7 @@
 //! Each allocation may fail: a write that is refused leaves the pairs that were there, and spoils
 //! the transaction.
-use crate::{Edit, TreeTxn};
+use super::written::Work;
 use mdb_datum::{Datum, Row, read_doc};
-use radix_node::Tree;
 use std::alloc::{AllocError, Global};
 use std::test::Fail;
 
@@ -16,27 +15,24 @@ fn bare_row(alloc: Global) -> Option<Row> {
 }
 
 /// One write of a mixed run: an insert, a delete or a delete by prefix of a key of few letters.
-fn write(txn: &mut TreeTxn, row: &Row, step: u8) -> Result<(), AllocError> {
-    if txn.spoiled() {
-        return Err(AllocError);
-    }
+fn write(work: &mut Work, row: &Row, step: u8) -> Result<(), AllocError> {
     let long: [u8; 40] = [step % 3; 40];
     let key = &long[..usize::from(step % 7) * 5];
     match step % 5 {
-        0..=2 => drop(txn.insert(key, row)?),
-        3 => drop(txn.delete(key)?),
-        _ => drop(txn.delete_prefix(key)?),
+        0..=2 => drop(work.put(key, row)?),
+        3 => drop(work.take(key)?),
+        _ => drop(work.take_all(key)?),
     }
     Ok(())
 }
 
 /// Makes writes until one is refused, and tells whether each left what it should.
 fn mixed_run(alloc: Global, row: &Row) -> Result<bool, AllocError> {
-    let mut txn = Tree::empty(alloc)?.txn()?;
+    let mut work = Work::new(alloc)?;
     for step in 0..60u8 {
-        let before = txn.len();
-        let refused = write(&mut txn, row, step).is_err();
-        if refused != txn.spoiled() || (refused && txn.len() != before) {
+        let before = work.txn().len();
+        let refused = write(&mut work, row, step).is_err();
+        if refused != work.txn().spoiled() || (refused && work.txn().len() != before) {
             return Ok(false);
         }
         if refused {

@@ -1,9 +1,7 @@
 //! A run of writes on a tree and on a sorted map.
 ghost use Rattle.std.specs.Prelude.{◌<◌};
 
-use super::written::{is_row, put, row, take, take_all};
-use crate::{Edit, TreeTxn};
-use radix_node::Tree;
+use super::written::{Work, is_row, row};
 use std::alloc::Global;
 use std::collections::BTreeMap;
 use std::test::Fail;
@@ -47,33 +45,33 @@ impl Random {
 
 // Each write is made on both, and tells whether both answered the same.
 
-fn put_both(txn: &mut TreeTxn, plain: &mut Plain, key: Vec<u8>, number: u64) -> Result<bool, Fail> {
+fn put_both(work: &mut Work, plain: &mut Plain, key: Vec<u8>, number: u64) -> Result<bool, Fail> {
     let row = row(*key.allocator(), number)?;
-    let old = put(txn, &key, &row)?;
+    let old = work.put(&key, &row)?;
     match plain.insert(key, number)? {
         None => Ok(old.is_none()),
         Some(number) => Ok(is_row(old.as_ref(), number)),
     }
 }
 
-fn take_both(txn: &mut TreeTxn, plain: &mut Plain, key: &Vec<u8>) -> Result<bool, Fail> {
-    let old = take(txn, key)?;
+fn take_both(work: &mut Work, plain: &mut Plain, key: &Vec<u8>) -> Result<bool, Fail> {
+    let old = work.take(key)?;
     match plain.remove(key) {
         None => Ok(old.is_none()),
         Some(number) => Ok(is_row(old.as_ref(), number)),
     }
 }
 
-fn take_all_both(txn: &mut TreeTxn, plain: &mut Plain, prefix: &[u8]) -> Result<bool, Fail> {
+fn take_all_both(work: &mut Work, plain: &mut Plain, prefix: &[u8]) -> Result<bool, Fail> {
     let before = plain.len() as u64;
     plain.retain(|key, _| !key.starts_with(prefix));
-    let gone = take_all(txn, prefix)?;
+    let gone = work.take_all(prefix)?;
     Ok(gone == before.saturating_sub(plain.len() as u64))
 }
 
 fn write_both(
     random: &mut Random,
-    txn: &mut TreeTxn,
+    work: &mut Work,
     plain: &mut Plain,
     alloc: Global,
     number: u64,
@@ -81,13 +79,14 @@ fn write_both(
     let kind = random.below(20);
     let key = random.key(alloc, if kind == 0 { 4 } else { 6 })?;
     match kind {
-        0 => Ok(take_all_both(txn, plain, &key)?),
-        1..=6 => Ok(take_both(txn, plain, &key)?),
-        _ => Ok(put_both(txn, plain, key, number)?),
+        0 => Ok(take_all_both(work, plain, &key)?),
+        1..=6 => Ok(take_both(work, plain, &key)?),
+        _ => Ok(put_both(work, plain, key, number)?),
     }
 }
 
-fn is_same(txn: &TreeTxn, plain: &Plain) -> bool {
+fn is_same(work: &Work, plain: &Plain) -> bool {
+    let txn = work.txn();
     if txn.spoiled() || txn.len() != plain.len() as u64 {
         return false;
     }
@@ -103,11 +102,11 @@ fn is_same(txn: &TreeTxn, plain: &Plain) -> bool {
 fn a_long_run_of_writes_is_as_on_a_sorted_map(rt: HostRuntime) -> Result<(), Fail> {
     let alloc = rt.alloc();
     let mut random = Random(0x9e37_79b9_7f4a_7c15);
-    let mut txn = Tree::empty(alloc)?.txn()?;
+    let mut work = Work::new(alloc)?;
     let mut plain = BTreeMap::new(alloc);
     for number in 0..1_000u64 {
-        let same = write_both(&mut random, &mut txn, &mut plain, alloc, number)?;
-        assert!(rt; same && is_same(&txn, &plain), "{number}");
+        let same = write_both(&mut random, &mut work, &mut plain, alloc, number)?;
+        assert!(rt; same && is_same(&work, &plain), "{number}");
     }
     Ok(())
 }

@@ -1,16 +1,18 @@
 //! Writes that are in order, and what is read of a tree.
-ghost use Rattle.std.specs.Prelude.{◌≤◌, IfOk, length};
+ghost use Rattle.std.specs.Prelude.{◌≡◌, ◌≤◌, true, false, IfOk, length};
 ghost use Rattle.std.specs.List.{All};
 ghost use Rattle.mdb_datum.specs.Datum as of;
 ghost use Rattle.mdb_datum.specs.Row.{IsCanonicalRow};
 ghost use Rattle.radix_txn.specs.Write.{IsShort};
 
 use super::Line;
-use crate::{Edit, TreeTxn, Write};
+use crate::{Edit, Notice, TreeTxn, Write};
 use mdb_datum::{Datum, Members, Row, read_doc};
-use radix_node::{Edges, Tree};
+use radix_node::{Edges, Ids, Tree};
 use std::alloc::{AllocError, Global};
+use std::marker::Model;
 use std::test::Fail;
+use watch_word::{Front, open_book};
 
 #[tactic(auto, using(mdb_datum::proofs::Variants::doc_of_members))]
 fn members(alloc: Global, text: &str) -> Result<Members, Fail>
@@ -41,54 +43,116 @@ pub fn is_row(row: Option<&Row>, number: u64) -> bool {
 
 // ---- writes, each an error where it would be out of order
 
-pub fn put(txn: &mut TreeTxn, key: &[u8], row: &Row) -> Result<Option<Row>, AllocError> {
-    if txn.spoiled() || key.len() > 2_048 {
-        return Err(AllocError);
-    }
-    txn.insert(key, row)
+/// A transaction, with what its writes draw cells from.
+#[derive(Drop)]
+pub struct Work {
+    txn: TreeTxn,
+    front: Front,
+    ids: Ids,
 }
 
-pub fn take(txn: &mut TreeTxn, key: &[u8]) -> Result<Option<Row>, AllocError> {
-    if txn.spoiled() || key.len() > 2_048 {
-        return Err(AllocError);
-    }
-    txn.delete(key)
+impl Model for Work {
+    ghost use Rattle.std.specs.Prelude.{◌≡◌};
+    ghost use Rattle.radix_node.specs.Cells.{AreBelow, AreOf};
+    ghost use Rattle.radix_txn.specs.Txn.{Txn};
+    ghost use Rattle.radix_txn.specs.inner.Stored.{txn_code};
+
+    ghost Value = { Txn };
+
+    ghost coded = { txn_code };
+
+    ghost view = { λ w. w.txn };
+
+    ghost invariant = { λ w. (w.front.book ≡ w.ids.book)
+        × AreBelow w.ids.next w.txn.tree × AreBelow w.ids.next w.txn.start
+        × AreOf w.ids.book w.txn.tree };
 }
 
-pub fn take_all(txn: &mut TreeTxn, prefix: &[u8]) -> Result<u64, AllocError> {
-    if txn.spoiled() || prefix.len() > 2_048 {
-        return Err(AllocError);
+impl Work {
+    /// A transaction on an empty tree.
+    pub fn new(alloc: Global) -> Result<Work, AllocError> {
+        let (book, front) = open_book(alloc)?;
+        let mut ids = Ids::starting(book, 0);
+        let txn = Tree::empty(alloc, &front, &mut ids)?.txn()?;
+        Ok(Work { txn, front, ids })
     }
-    txn.delete_prefix(prefix)
-}
 
-pub fn stand(txn: &mut TreeTxn) -> Result<Tree, AllocError> {
-    if txn.spoiled() {
-        return Err(AllocError);
+    pub fn txn(&self) -> &TreeTxn
+        ensures { result.now ≡ self.now }
+    {
+        &self.txn
     }
-    txn.stand()
-}
 
-pub fn freeze(txn: TreeTxn) -> Result<Tree, AllocError> {
-    if txn.spoiled() {
-        return Err(AllocError);
+    fn is_ready(&self, key: &[u8]) -> bool
+        ensures { result ≡ true → (length key.now ≤ 2048) × (self.now.spoiled ≡ false) }
+    {
+        key.len() <= 2_048 && !self.txn.spoiled()
     }
-    txn.freeze()
+
+    pub fn put(&mut self, key: &[u8], row: &Row) -> Result<Option<Row>, AllocError> {
+        if !self.is_ready(key) || self.ids.left() < 4_096 {
+            return Err(AllocError);
+        }
+        self.txn.insert(&self.front, &mut self.ids, key, row)
+    }
+
+    pub fn take(&mut self, key: &[u8]) -> Result<Option<Row>, AllocError> {
+        if !self.is_ready(key) || self.ids.left() < 4_096 {
+            return Err(AllocError);
+        }
+        self.txn.delete(&self.front, &mut self.ids, key)
+    }
+
+    pub fn take_all(&mut self, prefix: &[u8]) -> Result<u64, AllocError> {
+        if !self.is_ready(prefix) || self.ids.left() < 4_096 {
+            return Err(AllocError);
+        }
+        self.txn.delete_prefix(&self.front, &mut self.ids, prefix)
+    }
+
+    pub fn stand(&mut self) -> Result<Tree, AllocError> {
+        if self.txn.spoiled() {
+            return Err(AllocError);
+        }
+        self.txn.stand()
+    }
+
+    /// A transaction on the present tree, by the same ids.
+    pub fn next(self) -> Result<Work, AllocError> {
+        let Work {
+            mut txn,
+            front,
+            ids,
+        } = self;
+        if txn.spoiled() {
+            return Err(AllocError);
+        }
+        let txn = txn.stand()?.txn()?;
+        Ok(Work { txn, front, ids })
+    }
+
+    pub fn freeze(self) -> Result<(Tree, Notice), AllocError> {
+        let Work { txn, .. } = self;
+        if txn.spoiled() {
+            return Err(AllocError);
+        }
+        txn.freeze()
+    }
 }
 
 /// A transaction with these keys put in turn, each with its place for its number.
-pub fn txn_of(alloc: Global, keys: &[&[u8]]) -> Result<TreeTxn, Fail> {
-    let mut txn = Tree::empty(alloc)?.txn()?;
+pub fn work_of(alloc: Global, keys: &[&[u8]]) -> Result<Work, Fail> {
+    let mut work = Work::new(alloc)?;
     for (place, key) in keys.iter().enumerate() {
         let row = row(alloc, place as u64)?;
-        put(&mut txn, key, &row)?;
+        work.put(key, &row)?;
     }
-    Ok(txn)
+    Ok(work)
 }
 
 // ---- trees
 
-fn labels_are(edges: &Edges, labels: &[u8]) -> bool {
+pub fn labels_are(edges: &Edges, labels: &[u8]) -> bool {
     edges.len() == labels.len()
         && edges
             .iter()
@@ -115,7 +179,8 @@ pub fn nodes_are(tree: &Tree, nodes: &[Line]) -> bool {
 
 /// An insert of `ab`, one of `b`, and a delete of what begins with `a`.
 pub fn three_writes(alloc: Global, row: &Row) -> Result<Vec<Write>, AllocError>
-    ensures { IfOk result (λ v. All IsShort v.items) }
+    ensures short { IfOk result (λ v. All IsShort v.items) }
+    ensures few { IfOk result (λ v. length v.items ≤ 3) }
 {
     let mut writes = Vec::new(alloc);
     writes.push(insert_of(alloc, b"ab", row)?)?;
@@ -135,14 +200,14 @@ fn insert_of(alloc: Global, key: &[u8], row: &Row) -> Result<Write, AllocError>
     })
 }
 
-/// How many keys there are after these writes on an empty tree.
+/// How many keys there are after at most three writes on an empty tree.
 pub fn applied(alloc: Global, writes: &[Write]) -> Result<Option<u64>, AllocError>
-    requires { All IsShort writes.now }
+    requires short { All IsShort writes.now }
+    requires few { length writes.now ≤ 3 }
 {
-    let mut txn = Tree::empty(alloc)?.txn()?;
-    if txn.spoiled() {
-        return Ok(None);
-    }
-    txn.apply(writes)?;
+    let (book, front) = open_book(alloc)?;
+    let mut ids = Ids::starting(book, 0);
+    let mut txn = Tree::empty(alloc, &front, &mut ids)?.txn()?;
+    txn.apply(&front, &mut ids, writes)?;
     Ok(Some(txn.len()))
 }

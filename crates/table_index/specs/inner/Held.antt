@@ -5,6 +5,7 @@ use Rattle.mdb_datum.specs.Row.{Fields}
 use Rattle.mdb_schema.specs.Entries.{entries}
 use Rattle.mdb_schema.specs.Schema.{TableSchema, index_place}
 use Rattle.mdb_schema.specs.State.{AreLawfulRows}
+use Rattle.radix_node.specs.Cells.{CellTree, plain_of}
 use Rattle.radix_node.specs.Nodes.{Plain, pairs_of}
 use Rattle.radix_txn.specs.Txn.{Txn}
 
@@ -25,13 +26,25 @@ pub record AreTrees (t : TableSchema) (trees : List Plain) : Type 0 where
   pub lawful : AreLawfulRows t (rows_held t trees)
   pub held : Hold t (rows_held t trees) trees
 
--- the transaction that begins with a tree
-abbrev pub begun : Plain → Txn
-begun tree = record { tree = tree; spoiled = false }
+-- the trees without their cells
+abbrev pub plains : List CellTree → List Plain
+plains trees = map plain_of trees
 
--- the nodes of the trees
+-- the transaction that begins with a tree
+abbrev pub begun : CellTree → Txn
+begun tree = record { start = tree; tree = tree; spoiled = false }
+
+-- the trees that the transactions began with
+abbrev pub starts_of : List Txn → List CellTree
+starts_of txns = map (λ (x : Txn). x.start) txns
+
+-- the present trees
+abbrev pub trees_of : List Txn → List CellTree
+trees_of txns = map (λ (x : Txn). x.tree) txns
+
+-- the same without their cells
 abbrev pub nodes_of : List Txn → List Plain
-nodes_of txns = map (λ (x : Txn). x.tree) txns
+nodes_of txns = map (λ (x : Txn). plain_of x.tree) txns
 
 -- each may be written
 abbrev pub AreSound : List Txn → Type 0

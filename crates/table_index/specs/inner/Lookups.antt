@@ -10,6 +10,9 @@ use Rattle.mdb_schema.specs.Query.{Query}
 use Rattle.mdb_schema.specs.Refusals.{ask_error}
 use Rattle.mdb_schema.specs.Schema.{IndexSchema}
 use Rattle.mdb_schema.specs.declared.ask_error.AskError.{AskError}
+use Rattle.radix_node.specs.Cells.{CellTree}
+use Rattle.table_index.specs.Spot.{SpotOf}
+use Rattle.table_index.specs.Watched.{looks_up, watch_in}
 use Rattle.mdb_schema.specs.declared.ask_error.AskError.TheVariants as ask_errors
 
 -- the key of a question, empty where it has no argument
@@ -41,3 +44,10 @@ AnswersAskedKey (Err r) result = result ≡ Err (ask_error r)
 abbrev pub AnswersLookup : Asked Lookup → Result Lookup AskError → Type 0
 AnswersLookup (Ok at) result = MatchResult result (λ l. l ≡ at) (λ e. e ≡ ask_errors.Memory)
 AnswersLookup (Err r) result = result ≡ Err (ask_error r)
+
+-- a spot is that of a question that looks there, in the tree of the index
+pub record IsSpotIn (at : Lookup) (q : Query) (tree : CellTree) (s : SpotOf) : Type 0 where
+  pub index : s.index ≡ at.place
+  pub key : s.key ≡ at.key
+  pub exact : s.exact ≡ looks_up at.index q
+  pub watch : s.watch ≡ watch_in s.exact s.key tree

@@ -1,5 +1,5 @@
 -- What a write does to the trees of a table, one after another.
-use Rattle.std.specs.Prelude.{◌≡◌, ◌⊎◌, Bool, true, false, List, [], ◌∷◌, Option, is_some, Ok, Err}
+use Rattle.std.specs.Prelude.{◌≡◌, ◌⊎◌, ℕ, Bool, true, false, List, [], ◌∷◌, Option, is_some, Ok, Err}
 use Rattle.std.specs.List.{zip}
 use Rattle.mdb_datum.specs.Row.{Fields, Pair}
 use Rattle.mdb_encode.specs.Bytes.{Bytes}
@@ -8,8 +8,9 @@ use Rattle.mdb_schema.specs.Schema.{TableSchema}
 use Rattle.mdb_schema.specs.Write.{Tested, Changed, WriteRefusal}
 use Rattle.mdb_schema.specs.inner.Edits.{put_all, stale_keys, without_all}
 use Rattle.mdb_schema.specs.declared.write_error.WriteError.{WriteError}
-use Rattle.mdb_schema.specs.declared.write_error.WriteError.TheVariants.{Memory}
+use Rattle.mdb_schema.specs.declared.write_error.WriteError.TheVariants.{Memory, IdsSpent}
 use Rattle.radix_txn.specs.Txn.{Txn}
+use Rattle.table_index.specs.Table.{AreSpent}
 use Rattle.table_index.specs.inner.Held.{AreSound, AreTrees, nodes_of, rows_held}
 
 -- each tree edited by what stands at its place
@@ -55,8 +56,17 @@ abbrev pub IsPut : TableSchema → Tested Changed → Bool → List Txn → Type
 IsPut t told replaced after =
     (old : Option Fields) × (replaced ≡ is_some old) × IsWritten t told old after
 
--- the error is want of memory; or it tells the refusal, and nothing has changed
-abbrev pub IsRefused : Tested Changed → WriteError → List Txn → List Txn → Type 0
-IsRefused told e before after =
-    (e ≡ Memory)
-    ⊎ ((why : WriteRefusal) × (told ≡ Err why) × (e ≡ write_error why) × (after ≡ before))
+-- no rule refuses the write of a row, but there are too few ids for it, and nothing has changed
+pub record IsShortOfIds (next : ℕ) (told : Tested Changed) (e : WriteError)
+    (before after : List Txn) : Type 0 where
+  pub changed : Changed
+  pub done : told ≡ Ok changed
+  pub few : AreSpent next 1
+  pub error : e ≡ IdsSpent
+  pub same : after ≡ before
+
+-- the error is want of memory, or of ids; or it tells the refusal, and nothing has changed
+abbrev pub IsRefused : ℕ → Tested Changed → WriteError → List Txn → List Txn → Type 0
+IsRefused next told e before after =
+    (e ≡ Memory) ⊎ (IsShortOfIds next told e before after
+    ⊎ ((why : WriteRefusal) × (told ≡ Err why) × (e ≡ write_error why) × (after ≡ before)))

@@ -1,6 +1,6 @@
 -- What a wipe does to the trees of a table.
 use Rattle.std.specs.Prelude.{◌≡◌, ◌⊎◌, ◌||◌, ◌++◌, ℕ, zero, suc, Bool, true, false, List, [], ◌∷◌}
-use Rattle.std.specs.Prelude.{if◌then◌else◌, Contains, map, slice_get, codes, nat_eq}
+use Rattle.std.specs.Prelude.{if◌then◌else◌, Contains, map, slice_get, codes, nat_eq, length}
 use Rattle.std.specs.Prelude.{Option, Some, None, is_some, Result, Ok, Err, MatchResult}
 use Rattle.mdb_datum.specs.Pairs.{rows_of, with_prefix}
 use Rattle.mdb_datum.specs.Row.{Fields, Pair}
@@ -10,13 +10,14 @@ use Rattle.mdb_schema.specs.Entries.{entries}
 use Rattle.mdb_schema.specs.Refusals.{ask_error}
 use Rattle.mdb_schema.specs.Schema.{IndexSchema, TableSchema, index_place}
 use Rattle.mdb_schema.specs.State.{full_keys, id_key, Takes}
-use Rattle.mdb_schema.specs.Wipe.{without_rows}
+use Rattle.mdb_schema.specs.Wipe.{once, without_rows}
 use Rattle.mdb_schema.specs.declared.ask_error.AskError.{AskError}
 use Rattle.mdb_schema.specs.declared.ask_error.AskError.TheVariants as ask_errors
 use Rattle.radix_node.specs.Pairs.{find, without_prefix}
 use Rattle.radix_txn.specs.Txn.{Txn, txn_pairs}
+use Rattle.table_index.specs.Table.{AreLeft, AreSpent}
 use Rattle.table_index.specs.declared.wipe_error.WipeError.{WipeError}
-use Rattle.table_index.specs.declared.wipe_error.WipeError.TheVariants.{Memory, Refused}
+use Rattle.table_index.specs.declared.wipe_error.WipeError.TheVariants.{IdsSpent, Memory, Refused}
 use Rattle.table_index.specs.inner.Held.{AreSound, AreTrees, nodes_of, rows_held}
 use Rattle.table_index.specs.inner.TreeEdits.{without_each}
 
@@ -24,6 +25,11 @@ use Rattle.table_index.specs.inner.TreeEdits.{without_each}
 abbrev pub listed_at : TableSchema → List Fields → Option IndexSchema → Bytes → List Fields
 listed_at t rows None key = []
 listed_at t rows (Some i) key = rows_of (with_prefix key (entries t i rows))
+
+-- the rows that a tree, if there is one, lists under a key
+abbrev pub listed_from : Bytes → Option Txn → List Fields
+listed_from key None = []
+listed_from key (Some x) = rows_of (with_prefix key (txn_pairs x))
 
 -- the pairs of the trees, that of one place without those whose key begins with a key
 abbrev pub cut_at : Bytes → List (List Pair) → ℕ → List (List Pair)
@@ -71,6 +77,33 @@ pub record IsMoved (t : TableSchema) (cut : ℕ) (row : Fields) (before after : 
   pub taking : IsTaking t cut row taken before after
   pub gone : new ≡ (if taken then old ++ row ∷ [] else old)
 
+-- the rows are all that the tree of an index lists under a key, there are ids for them, and the tree is
+-- without its keys that begin with the key
+pub record IsCut (t : TableSchema) (place : ℕ) (key : Bytes) (listed : List Fields) (next : ℕ)
+    (before after : List Txn) : Type 0 where
+  pub rows : listed ≡ listed_from key (slice_get before place)
+  pub left : AreLeft next (length (once t listed))
+  pub pairs : map txn_pairs after ≡ cut_at key (map txn_pairs before) place
+  pub sound : AreSound after
+
+-- the tree lists no row, and nothing has changed
+pub record IsUncut (key : Bytes) (place next : ℕ) (before after : List Txn) : Type 0 where
+  pub none : listed_from key (slice_get before place) ≡ []
+  pub left : AreLeft next 0
+  pub same : after ≡ before
+
+-- the beginning of a wipe
+abbrev pub BeginsWipe : TableSchema → ℕ → Bytes → ℕ → List Txn → List Txn → Option (List Fields)
+    → Type 0
+BeginsWipe t place key next before after None = IsUncut key place next before after
+BeginsWipe t place key next before after (Some listed) =
+    IsCut t place key listed next before after
+
+-- a wipe of so many rows finds no memory; or too few ids, and nothing has changed
+abbrev pub GivesUp : ℕ → ℕ → WipeError → List Txn → List Txn → Type 0
+GivesUp next rows e before after =
+    (e ≡ Memory) ⊎ (AreSpent next rows × (e ≡ IdsSpent) × (after ≡ before))
+
 -- the rows of a list are out of the trees, which hold the entries of the others
 pub record IsWiped (t : TableSchema) (gone taken : List Fields) (before after : List Txn)
     : Type 0 where
@@ -94,9 +127,9 @@ abbrev pub wants_memory : WipeError → Bool
 wants_memory Memory = true
 wants_memory e = false
 
--- the error is want of memory, where the question isn't refused; or it tells the refusal, and
--- nothing has changed
-abbrev pub IsRefusedWipe : Asked (List Fields) → WipeError → List Txn → List Txn → Type 0
-IsRefusedWipe told e before after =
-    ((gone : List Fields) × (told ≡ Ok gone) × (e ≡ Memory))
+-- the error is want of memory or of ids, where the question isn't refused; or it tells the refusal,
+-- and nothing has changed
+abbrev pub IsRefusedWipe : ℕ → Asked (List Fields) → WipeError → List Txn → List Txn → Type 0
+IsRefusedWipe next told e before after =
+    ((gone : List Fields) × (told ≡ Ok gone) × GivesUp next (length gone) e before after)
     ⊎ ((why : AskRefusal) × (told ≡ Err why) × (e ≡ Refused (ask_error why)) × (after ≡ before))

@@ -1,6 +1,6 @@
 // Questions of a table without rows: what each is answered, and each refusal.
+use super::work::Base;
 use super::{right, table_of};
-use crate::Table;
 use mdb_datum::{Datum, Items, Text, read_doc};
 use mdb_schema::{Answer, Ask, AskError, Query};
 use std::alloc::Global;
@@ -59,7 +59,7 @@ pub fn asked(alloc: Global, ask: Ask, index: &str, args: &str) -> Result<Query, 
 }
 
 /// Whether a question is refused so.
-fn is_refused(table: &Table, query: &Query, want: AskError) -> bool {
+fn is_refused(table: &Base, query: &Query, want: AskError) -> bool {
     match table.ask(query) {
         Ok(_) => false,
         Err(error) => error == want,
@@ -67,7 +67,7 @@ fn is_refused(table: &Table, query: &Query, want: AskError) -> bool {
 }
 
 /// Whether a question is answered by no row, and whether by a list.
-fn is_empty(table: &Table, query: &Query, by_list: bool) -> bool {
+fn is_empty(table: &Base, query: &Query, by_list: bool) -> bool {
     match table.ask(query) {
         Ok(Answer::One(row)) => row.is_none() && !by_list,
         Ok(Answer::Many(rows)) => rows.len() == 0 && by_list,
@@ -87,7 +87,7 @@ fn letters(alloc: Global, count: usize) -> Result<Items, Fail> {
 }
 
 /// Whether a question for so many letters is refused as too long.
-fn is_too_long(alloc: Global, table: &Table, count: usize) -> Result<bool, Fail> {
+fn is_too_long(alloc: Global, table: &Base, count: usize) -> Result<bool, Fail> {
     let query = query_of(alloc, Ask::Get, "id", letters(alloc, count)?)?;
     Ok(matches!(table.ask(&query), Err(AskError::TooLong)))
 }

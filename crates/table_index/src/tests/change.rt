@@ -4,7 +4,7 @@ use super::mixed::stand;
 use super::played::{play, table_named, tell_answer};
 use super::right;
 use super::words::ask_of;
-use crate::{Table, TableTxn};
+use super::work::{Base, Work};
 use mdb_schema::{Answer, Ask, AskError, Query};
 use std::alloc::Global;
 use std::test::Fail;
@@ -75,7 +75,7 @@ const CASES: [Case; 6] = [
 ];
 
 /// Plays a script that answers as it says.
-fn write(alloc: Global, txn: &mut TableTxn, script: &str) -> Result<(), Fail> {
+fn write(alloc: Global, txn: &mut Work, script: &str) -> Result<(), Fail> {
     let answers = play(alloc, txn, script)?;
     if answers.as_str() == script {
         Ok(())
@@ -85,7 +85,7 @@ fn write(alloc: Global, txn: &mut TableTxn, script: &str) -> Result<(), Fail> {
 }
 
 /// A table with the rows.
-fn filled(alloc: Global) -> Result<Table, Fail> {
+fn filled(alloc: Global) -> Result<Base, Fail> {
     let mut txn = table_named(alloc, "rules")?.txn()?;
     write(alloc, &mut txn, ROWS)?;
     stand(&mut txn)
@@ -99,7 +99,7 @@ fn is_told(alloc: Global, answer: Result<Answer, AskError>, want: &str) -> Resul
 }
 
 /// Whether a change answers a question so.
-fn is_told_by(alloc: Global, txn: &mut TableTxn, query: &Query, want: &str) -> Result<bool, Fail> {
+fn is_told_by(alloc: Global, txn: &mut Work, query: &Query, want: &str) -> Result<bool, Fail> {
     if txn.spoiled() {
         return Err(Fail::from("no memory"));
     }
@@ -107,7 +107,7 @@ fn is_told_by(alloc: Global, txn: &mut TableTxn, query: &Query, want: &str) -> R
 }
 
 /// Asks a table and a change of it.
-fn ask_both(alloc: Global, table: &Table, txn: &mut TableTxn, case: &Case) -> Result<(), Fail> {
+fn ask_both(alloc: Global, table: &Base, txn: &mut Work, case: &Case) -> Result<(), Fail> {
     let query = asked(alloc, ask_of(case.0).unwrap_or(Ask::Lower), case.1, case.2)?;
     right(is_told(alloc, table.ask(&query), case.3)?, case.3)?;
     right(is_told_by(alloc, txn, &query, case.4)?, case.4)

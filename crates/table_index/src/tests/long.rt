@@ -1,7 +1,7 @@
 //! Rows of the longest keys and of the most, and of one too many.
 use super::played::{play, table_named};
 use super::right;
-use crate::TableTxn;
+use super::work::Work;
 use std::alloc::{AllocError, Global};
 use std::test::Fail;
 
@@ -38,12 +38,12 @@ fn with_tags(alloc: Global, count: usize, last: &str) -> Result<String, AllocErr
 }
 
 /// A change of an empty table with four indexes.
-fn begun(alloc: Global) -> Result<TableTxn, AllocError> {
+fn begun(alloc: Global) -> Result<Work, AllocError> {
     table_named(alloc, "users")?.txn()
 }
 
 /// Whether a command is answered so.
-fn is_told(alloc: Global, txn: &mut TableTxn, command: &str, answer: &str) -> Result<bool, Fail> {
+fn is_told(alloc: Global, txn: &mut Work, command: &str, answer: &str) -> Result<bool, Fail> {
     let told = play(alloc, txn, command)?;
     Ok(told.as_str().ends_with(answer))
 }
@@ -79,13 +79,13 @@ get tags [] => rows 1 {"age":1,"name":"z\u0000n","tags":["last"]}
 "#;
 
 /// Whether a row is refused for the last of its 256 tags.
-fn is_refused_for_the_last(alloc: Global, txn: &mut TableTxn) -> Result<bool, Fail> {
+fn is_refused_for_the_last(alloc: Global, txn: &mut Work) -> Result<bool, Fail> {
     let command = with_tags(alloc, 256, "last\\u0000z")?;
     is_told(alloc, txn, &command, " => refused key-taken tags\n")
 }
 
 /// Whether none of its tags is stored.
-fn is_left(alloc: Global, txn: &mut TableTxn) -> Result<bool, Fail> {
+fn is_left(alloc: Global, txn: &mut Work) -> Result<bool, Fail> {
     let left = play(alloc, txn, LEFT)?;
     Ok(left.as_str() == LEFT)
 }

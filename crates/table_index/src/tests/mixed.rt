@@ -4,8 +4,9 @@ ghost use Rattle.std.specs.Prelude.{◌≡◌, false};
 
 use super::drawn::{NAMES, Question, Random, SCHEMA, Write, whole};
 use super::plain::PlainTable;
+use super::work::{Base, Work};
 use super::{def_of, right, table_of};
-use crate::{Table, TableTxn, WipeError};
+use crate::WipeError;
 use mdb_datum::Row;
 use mdb_schema::{Answer, AskError, Rows, WriteError};
 use std::alloc::{AllocError, Global};
@@ -22,7 +23,7 @@ fn text_of(alloc: Global, rows: &Rows) -> Result<Vec<u8>, AllocError> {
 }
 
 /// The texts of the rows of an answer.
-pub fn told(alloc: Global, table: &Table, question: &Question) -> Result<Vec<u8>, AskError> {
+pub fn told(alloc: Global, table: &Base, question: &Question) -> Result<Vec<u8>, AskError> {
     let mut rows = Rows::new(alloc);
     match table.ask(&question.query)? {
         Answer::One(Some(row)) => rows.push(row)?,
@@ -35,7 +36,7 @@ pub fn told(alloc: Global, table: &Table, question: &Question) -> Result<Vec<u8>
 /// Whether both answer a question the same.
 pub fn is_answered_alike(
     alloc: Global,
-    table: &Table,
+    table: &Base,
     plain: &PlainTable,
     question: &Question,
 ) -> Result<bool, Fail> {
@@ -48,7 +49,7 @@ pub fn is_answered_alike(
 }
 
 /// Whether each index lists the same rows in the same order.
-fn are_listed_alike(alloc: Global, table: &Table, plain: &PlainTable) -> Result<bool, Fail> {
+fn are_listed_alike(alloc: Global, table: &Base, plain: &PlainTable) -> Result<bool, Fail> {
     for name in &NAMES {
         if !is_answered_alike(alloc, table, plain, &whole(alloc, name)?)? {
             return Ok(false);
@@ -57,12 +58,7 @@ fn are_listed_alike(alloc: Global, table: &Table, plain: &PlainTable) -> Result<
     Ok(true)
 }
 
-fn put_both(
-    txn: &mut TableTxn,
-    plain: &mut PlainTable,
-    alloc: Global,
-    row: &Row,
-) -> Result<bool, Fail>
+fn put_both(txn: &mut Work, plain: &mut PlainTable, alloc: Global, row: &Row) -> Result<bool, Fail>
     requires sound { txn.old.spoiled ≡ false }
 {
     let told = txn.put(row);
@@ -74,7 +70,7 @@ fn put_both(
 }
 
 fn remove_both(
-    txn: &mut TableTxn,
+    txn: &mut Work,
     plain: &mut PlainTable,
     alloc: Global,
     row: &Row,
@@ -108,7 +104,7 @@ fn is_wiped_alike(
 }
 
 fn write_both(
-    txn: &mut TableTxn,
+    txn: &mut Work,
     plain: &mut PlainTable,
     alloc: Global,
     write: &Write,
@@ -138,7 +134,7 @@ fn write_both(
 }
 
 /// The present table.
-pub fn stand(txn: &mut TableTxn) -> Result<Table, Fail> {
+pub fn stand(txn: &mut Work) -> Result<Base, Fail> {
     if txn.spoiled() {
         return Err(Fail::from("no memory"));
     }
@@ -149,7 +145,7 @@ pub fn stand(txn: &mut TableTxn) -> Result<Table, Fail> {
 fn are_drawn_alike(
     alloc: Global,
     random: &mut Random,
-    table: &Table,
+    table: &Base,
     plain: &PlainTable,
 ) -> Result<bool, Fail> {
     for _ in 0..4 {
@@ -165,7 +161,7 @@ fn are_drawn_alike(
 fn write_drawn(
     alloc: Global,
     random: &mut Random,
-    txn: &mut TableTxn,
+    txn: &mut Work,
     plain: &mut PlainTable,
 ) -> Result<bool, Fail> {
     let write = random.write(alloc)?;
@@ -176,7 +172,7 @@ fn write_drawn(
 fn are_alike(
     alloc: Global,
     random: &mut Random,
-    txn: &mut TableTxn,
+    txn: &mut Work,
     plain: &PlainTable,
 ) -> Result<bool, Fail> {
     let table = stand(txn)?;
@@ -187,7 +183,7 @@ fn are_alike(
 fn step_both(
     alloc: Global,
     random: &mut Random,
-    txn: &mut TableTxn,
+    txn: &mut Work,
     plain: &mut PlainTable,
 ) -> Result<bool, Fail> {
     Ok(write_drawn(alloc, random, txn, plain)? && are_alike(alloc, random, txn, plain)?)
@@ -196,7 +192,7 @@ fn step_both(
 /// Makes drawn writes in both, until one is told otherwise.
 fn run_both(
     alloc: Global,
-    txn: &mut TableTxn,
+    txn: &mut Work,
     plain: &mut PlainTable,
     steps: u64,
 ) -> Result<bool, Fail> {

@@ -9,7 +9,8 @@ ghost use Rattle.std.specs.Prelude.{◌≡◌, false};
 use super::ask::asked;
 use super::row_of;
 use super::words::{ask_of, ask_word, told_index, write_word};
-use crate::{Table, TableTxn, WipeError};
+use super::work::{Base, Work};
+use crate::WipeError;
 use mdb_datum::Row;
 use mdb_schema::{Answer, Ask, AskError, Query, Rows, WriteError, read_schema};
 use std::alloc::{AllocError, Global};
@@ -29,12 +30,12 @@ const SCHEMA: &str = r#"{"memdb":1,"tables":{
     "tags":{"allow_missing":true,"indexer":{"kind":"text_list","field":"tags"}}}}}}"#;
 
 /// The table of a name, without rows. It takes one of the names above.
-pub fn table_named(alloc: Global, name: &str) -> Result<Table, AllocError> {
+pub fn table_named(alloc: Global, name: &str) -> Result<Base, AllocError> {
     let Ok(schema) = read_schema(alloc, SCHEMA.as_bytes()) else {
         return Err(AllocError);
     };
     match schema.find(name).and_then(|at| schema.table(at)) {
-        Some(def) => Table::empty(alloc, def),
+        Some(def) => Base::empty(alloc, def),
         None => Err(AllocError),
     }
 }
@@ -52,7 +53,7 @@ pub fn show(alloc: Global, table: &str, script: &str) -> Result<(), Fail> {
 }
 
 /// The lines of a script with the answers that come. A line without an answer gets one.
-pub fn play(alloc: Global, txn: &mut TableTxn, script: &str) -> Result<String, Fail> {
+pub fn play(alloc: Global, txn: &mut Work, script: &str) -> Result<String, Fail> {
     let mut out = String::new(alloc);
     for line in script.lines() {
         tell_line(alloc, txn, line, &mut out)?;
@@ -61,7 +62,7 @@ pub fn play(alloc: Global, txn: &mut TableTxn, script: &str) -> Result<String, F
 }
 
 /// Adds a line's command, with the answer that comes.
-fn tell_line(alloc: Global, txn: &mut TableTxn, line: &str, out: &mut String) -> Result<(), Fail> {
+fn tell_line(alloc: Global, txn: &mut Work, line: &str, out: &mut String) -> Result<(), Fail> {
     let command = match line.split_once(" => ") {
         Some((command, _)) => command,
         None => line,
@@ -73,7 +74,7 @@ fn tell_line(alloc: Global, txn: &mut TableTxn, line: &str, out: &mut String) ->
 }
 
 /// Adds what a command answers.
-fn tell(alloc: Global, txn: &mut TableTxn, command: &str, out: &mut String) -> Result<(), Fail> {
+fn tell(alloc: Global, txn: &mut Work, command: &str, out: &mut String) -> Result<(), Fail> {
     if txn.spoiled() {
         return Err(Fail::from("no memory"));
     }
@@ -85,7 +86,7 @@ fn tell(alloc: Global, txn: &mut TableTxn, command: &str, out: &mut String) -> R
     }
 }
 
-fn tell_insert(txn: &mut TableTxn, row: &Row, out: &mut String) -> Result<(), Fail>
+fn tell_insert(txn: &mut Work, row: &Row, out: &mut String) -> Result<(), Fail>
     requires sound { txn.old.spoiled ≡ false }
 {
     match txn.put(row) {
@@ -95,7 +96,7 @@ fn tell_insert(txn: &mut TableTxn, row: &Row, out: &mut String) -> Result<(), Fa
     }
 }
 
-fn tell_delete(txn: &mut TableTxn, row: &Row, out: &mut String) -> Result<(), Fail>
+fn tell_delete(txn: &mut Work, row: &Row, out: &mut String) -> Result<(), Fail>
     requires sound { txn.old.spoiled ≡ false }
 {
     match txn.remove(row) {
@@ -105,7 +106,7 @@ fn tell_delete(txn: &mut TableTxn, row: &Row, out: &mut String) -> Result<(), Fa
 }
 
 /// Adds a refusal of a write, with the name of its index.
-fn tell_refused_write(txn: &TableTxn, error: WriteError, out: &mut String) -> Result<(), Fail> {
+fn tell_refused_write(txn: &Work, error: WriteError, out: &mut String) -> Result<(), Fail> {
     let Some(word) = write_word(error) else {
         return Err(Fail::from("no memory"));
     };
@@ -118,8 +119,8 @@ fn tell_refused_write(txn: &TableTxn, error: WriteError, out: &mut String) -> Re
     Ok(())
 }
 
-fn index_name(txn: &TableTxn, place: u32) -> &str {
-    match txn.def.index(place as usize) {
+fn index_name(txn: &Work, place: u32) -> &str {
+    match txn.def().index(place as usize) {
         Some(index) => index.name().as_str(),
         None => "no index",
     }
@@ -128,7 +129,7 @@ fn index_name(txn: &TableTxn, place: u32) -> &str {
 /// Adds what a wipe or a question answers, of an index and arguments.
 fn tell_listed(
     alloc: Global,
-    txn: &mut TableTxn,
+    txn: &mut Work,
     word: &str,
     rest: &str,
     out: &mut String,
@@ -144,7 +145,7 @@ fn tell_listed(
 }
 
 /// Adds what a wipe or a question answers.
-fn tell_query(txn: &mut TableTxn, word: &str, query: &Query, out: &mut String) -> Result<(), Fail>
+fn tell_query(txn: &mut Work, word: &str, query: &Query, out: &mut String) -> Result<(), Fail>
     requires sound { txn.old.spoiled ≡ false }
 {
     match word {

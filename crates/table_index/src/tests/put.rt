@@ -1,8 +1,8 @@
 //! Rows put, replaced and refused, told by the writes that come after them.
 ghost use Rattle.std.specs.Prelude.{◌≡◌, false, IfOk, OnOk};
 
+use super::work::Work;
 use super::{right, row_of, table_of};
-use crate::TableTxn;
 use mdb_datum::Row;
 use mdb_schema::WriteError;
 use std::alloc::Global;
@@ -31,7 +31,7 @@ fn refusal(error: &WriteError) -> &'static str {
 }
 
 /// What a write of this word answers, as a word.
-fn answer(txn: &mut TableTxn, write: &str, row: &Row) -> &'static str
+fn answer(txn: &mut Work, write: &str, row: &Row) -> &'static str
     requires sound { txn.old.spoiled ≡ false }
 {
     if write == "remove" {
@@ -48,7 +48,7 @@ fn answer(txn: &mut TableTxn, write: &str, row: &Row) -> &'static str
 }
 
 /// Whether a write answers as it should. Another one may come after it.
-fn is_answered(alloc: Global, txn: &mut TableTxn, step: &Step) -> Result<bool, Fail>
+fn is_answered(alloc: Global, txn: &mut Work, step: &Step) -> Result<bool, Fail>
     requires sound { txn.old.spoiled ≡ false }
     ensures sound { OnOk result (txn.new.spoiled ≡ false) }
 {
@@ -61,14 +61,14 @@ fn is_answered(alloc: Global, txn: &mut TableTxn, step: &Step) -> Result<bool, F
 }
 
 /// A change of an empty table.
-fn begun(alloc: Global) -> Result<TableTxn, Fail>
+fn begun(alloc: Global) -> Result<Work, Fail>
     ensures { IfOk result (λ txn. txn.spoiled ≡ false) }
 {
     Ok(table_of(alloc, SCHEMA)?.txn()?)
 }
 
 /// Whether each write answers as it should, one after another.
-fn are_answered_by(alloc: Global, txn: &mut TableTxn, steps: &[Step]) -> Result<bool, Fail>
+fn are_answered_by(alloc: Global, txn: &mut Work, steps: &[Step]) -> Result<bool, Fail>
     requires sound { txn.old.spoiled ≡ false }
     ensures sound { OnOk result (txn.new.spoiled ≡ false) }
 {

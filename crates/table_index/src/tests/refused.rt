@@ -1,7 +1,7 @@
 //! A refused write leaves what each index lists.
 use super::played::{play, table_named};
 use super::right;
-use crate::TableTxn;
+use super::work::Work;
 use std::alloc::Global;
 use std::test::Fail;
 
@@ -36,7 +36,7 @@ delete-prefix id ["a"] => refused no-prefix-name
 delete-prefix age_prefix [1] => refused no-prefix-form"#;
 
 /// A change of a table with rows.
-fn filled(alloc: Global) -> Result<TableTxn, Fail> {
+fn filled(alloc: Global) -> Result<Work, Fail> {
     let mut txn = table_named(alloc, "users")?.txn()?;
     let answers = play(alloc, &mut txn, ROWS)?;
     if answers.as_str() == ROWS {
@@ -47,7 +47,7 @@ fn filled(alloc: Global) -> Result<TableTxn, Fail> {
 }
 
 /// Whether a line is answered as it says, and each index lists the same after it.
-fn leaves_all(alloc: Global, txn: &mut TableTxn, line: &str) -> Result<bool, Fail> {
+fn leaves_all(alloc: Global, txn: &mut Work, line: &str) -> Result<bool, Fail> {
     let before = play(alloc, txn, EACH_INDEX)?;
     let same = is_answered(alloc, txn, line)?;
     let after = play(alloc, txn, EACH_INDEX)?;
@@ -55,7 +55,7 @@ fn leaves_all(alloc: Global, txn: &mut TableTxn, line: &str) -> Result<bool, Fai
 }
 
 /// Whether a line is answered as it says.
-fn is_answered(alloc: Global, txn: &mut TableTxn, line: &str) -> Result<bool, Fail> {
+fn is_answered(alloc: Global, txn: &mut Work, line: &str) -> Result<bool, Fail> {
     let answer = play(alloc, txn, line)?;
     Ok(answer.as_str().strip_suffix('\n') == Some(line))
 }

@@ -2,8 +2,9 @@
 ghost use Rattle.std.specs.Prelude.{◌≡◌, false, IfOk, OnOk};
 
 use super::ask::asked;
+use super::work::{Base, Work};
 use super::{SCHEMA, right, row_of, table_of};
-use crate::{Table, TableTxn, WipeError};
+use crate::WipeError;
 use mdb_schema::{Ask, AskError, Query};
 use std::alloc::Global;
 use std::test::Fail;
@@ -17,7 +18,7 @@ const ROWS: [&str; 4] = [
 ];
 
 /// Puts a row into a table.
-fn put(alloc: Global, txn: &mut TableTxn, text: &str) -> Result<(), Fail>
+fn put(alloc: Global, txn: &mut Work, text: &str) -> Result<(), Fail>
     requires sound { txn.old.spoiled ≡ false }
     ensures sound { OnOk result (txn.new.spoiled ≡ false) }
 {
@@ -30,7 +31,7 @@ fn put(alloc: Global, txn: &mut TableTxn, text: &str) -> Result<(), Fail>
 }
 
 /// A change of a table of these rows.
-fn filled(alloc: Global, rows: &[&str]) -> Result<TableTxn, Fail>
+fn filled(alloc: Global, rows: &[&str]) -> Result<Work, Fail>
     ensures { IfOk result (λ txn. txn.spoiled ≡ false) }
 {
     let mut txn = table_of(alloc, SCHEMA)?.txn()?;
@@ -43,7 +44,7 @@ fn filled(alloc: Global, rows: &[&str]) -> Result<TableTxn, Fail>
 /// How many rows a wipe takes out.
 fn wiped(
     alloc: Global,
-    txn: &mut TableTxn,
+    txn: &mut Work,
     by_prefix: bool,
     index: &str,
     args: &str,
@@ -103,16 +104,16 @@ const REFUSED: [(bool, &'static str, &str, AskError); 5] = [
 ];
 
 /// Why a wipe is refused, as a table tells it before a change.
-fn checked(table: &Table, by_prefix: bool, query: &Query) -> Option<WipeError> {
+fn checked(table: &Base, by_prefix: bool, query: &Query) -> Option<WipeError> {
     if by_prefix {
-        table.check_take_prefix(query).err()
+        table.table().check_take_prefix(query).err()
     } else {
-        table.check_take_all(query).err()
+        table.table().check_take_all(query).err()
     }
 }
 
 /// Why a wipe is refused.
-fn taken(txn: &mut TableTxn, by_prefix: bool, query: &Query) -> Option<WipeError>
+fn taken(txn: &mut Work, by_prefix: bool, query: &Query) -> Option<WipeError>
     requires sound { txn.old.spoiled ≡ false }
 {
     if by_prefix {
@@ -125,7 +126,7 @@ fn taken(txn: &mut TableTxn, by_prefix: bool, query: &Query) -> Option<WipeError
 /// Whether a wipe is refused so, before a change and in one, which isn't spoiled.
 fn is_refused(
     alloc: Global,
-    table: &Table,
+    table: &Base,
     case: &(bool, &str, &str, AskError),
 ) -> Result<bool, Fail> {
     let query = asked(alloc, Ask::Longest, case.1, case.2)?;
@@ -145,7 +146,7 @@ fn a_broken_rule_is_told_before_a_change(rt: HostRuntime) -> Result<(), Fail> {
 }
 
 /// Whether a wipe of a whole index breaks no rule.
-fn is_allowed(alloc: Global, table: &Table, by_prefix: bool, index: &str) -> Result<bool, Fail> {
+fn is_allowed(alloc: Global, table: &Base, by_prefix: bool, index: &str) -> Result<bool, Fail> {
     let query = asked(alloc, Ask::Longest, index, "[]")?;
     Ok(checked(table, by_prefix, &query).is_none())
 }

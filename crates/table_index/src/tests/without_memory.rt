@@ -5,7 +5,8 @@ ghost use Rattle.std.specs.Prelude.{◌≡◌, false};
 use super::drawn::{NAMES, Question, Random, SCHEMA, Write, whole};
 use super::mixed::told;
 use super::table_of;
-use crate::{Table, TableTxn, WipeError};
+use super::work::{Base, Work};
+use crate::WipeError;
 use mdb_schema::WriteError;
 use std::alloc::{AllocError, Global};
 use std::test::Fail;
@@ -28,11 +29,7 @@ fn wholes(alloc: Global) -> Result<Vec<Question>, Fail> {
 }
 
 /// The texts of the rows of each index.
-fn listed(
-    alloc: Global,
-    table: &Table,
-    questions: &[Question],
-) -> Result<Vec<Vec<u8>>, AllocError> {
+fn listed(alloc: Global, table: &Base, questions: &[Question]) -> Result<Vec<Vec<u8>>, AllocError> {
     let mut lists = Vec::new(alloc);
     for question in questions {
         match told(alloc, table, question) {
@@ -44,7 +41,7 @@ fn listed(
 }
 
 /// Makes a write, and tells whether it found no memory.
-fn finds_no_memory(txn: &mut TableTxn, write: &Write) -> bool
+fn finds_no_memory(txn: &mut Work, write: &Write) -> bool
     requires sound { txn.old.spoiled ≡ false }
 {
     match write {
@@ -58,7 +55,7 @@ fn finds_no_memory(txn: &mut TableTxn, write: &Write) -> bool
 }
 
 /// Makes writes until one finds no memory, and tells whether that one alone spoils the change.
-fn one_spoils(txn: &mut TableTxn, writes: &[Write]) -> bool {
+fn one_spoils(txn: &mut Work, writes: &[Write]) -> bool {
     for write in writes {
         if txn.spoiled() {
             return false;
@@ -74,10 +71,10 @@ fn one_spoils(txn: &mut TableTxn, writes: &[Write]) -> bool {
 /// A change by these writes, and whether the table stays as it was.
 fn is_kept(
     alloc: Global,
-    table: &Table,
+    table: &Base,
     questions: &[Question],
     writes: &[Write],
-) -> Result<(TableTxn, bool), AllocError> {
+) -> Result<(Work, bool), AllocError> {
     let before = listed(alloc, table, questions)?;
     let mut txn = table.txn()?;
     let right = one_spoils(&mut txn, writes);
@@ -89,7 +86,7 @@ fn is_kept(
 fn are_kept(
     alloc: Global,
     questions: &[Question],
-    table: &Table,
+    table: &Base,
     writes: &[Write],
     later: &[Write],
 ) -> Result<bool, AllocError> {

@@ -4,11 +4,11 @@ use Rattle.std.proofs.lemmas.Option.{slice_get-get_or}
 use Rattle.client_script.specs.declared.line.Line.{Line}
 use Rattle.client_session.specs.inner.OpenView.{caller_of}
 use Rattle.client_script.specs.declared.command.Command.TheVariants as command
-use Rattle.client_session.proofs.Carrying.{first, next, kept_some, known_at, own_later, was_err, was_ok}
+use Rattle.client_session.proofs.Carrying.{next, kept_some, known_at, own_later, was_err, was_ok}
 use Rattle.client_session.proofs.run.answer_lines.Goals as goal
 
 pub loop-at-init : goal.loop-at-init
-loop-at-init g c = first c.args.pass c.new.result c.args.text.now.items c.new.ensures
+loop-at-init g c = c.new-desk.ensures c.args.text.now.items
 
 pub unreachable-requires : goal.unreachable-requires
 unreachable-requires g c =

@@ -1,10 +1,15 @@
-use Rattle.std.proofs.Common.{map, refl, sym}
+use Rattle.std.proofs.Common.{◌∙◌, sym, arith}
 use Rattle.std.specs.Arc.{arc_value}
-use Rattle.mem_txn.specs.inner.VersionTables.{empty_table}
-use Rattle.mem_txn.proofs.Gathered.{gathered_more}
+use Rattle.std.proofs.Common.{map}
+use Rattle.mem_txn.proofs.EmptyTables.{none_empty, one_more}
 use Rattle.mem_txn.proofs.view.empty_tables.Goals as goal
 
 pub loop-at-preserved : goal.loop-at-preserved
 loop-at-preserved c =
-    gathered_more empty_table c.args.schema.now (map arc_value c.loop-at.tables.items) (map arc_value c.push_empty.new.tables.items) c.loop-at.at c.in-Some.def.now (empty_table c.in-Some.def.now) c.loop-at.invariant
-    (sym c.in-Some.ensures.found) refl c.in_ok-push_empty.ensures
+    let t = c.in_ok-push_empty.ensures.table in
+    record {
+      empty = one_more c.args.schema.now c.loop-at.at c.in-Some.def.now c.loop-at.ids c.push_empty.new.ids (map arc_value c.loop-at.tables.items) (map arc_value c.push_empty.new.tables.items) t.0 (sym c.in-Some.ensures.found)
+          c.loop-at.invariant.empty c.push_empty.ensures.book c.in_ok-push_empty.ensures.few.0 t.1 t.2;
+      book = c.push_empty.ensures.book ∙ c.loop-at.invariant.book;
+      few = omega (arith, c.loop-at.invariant.few, c.in_ok-push_empty.ensures.few);
+    }

@@ -6,21 +6,21 @@ use Rattle.radix_iter.proofs.edges.edges_above.Goals as goal
 
 pub overflow_add-at : goal.overflow_add-at
 overflow_add-at c =
-    let within = found_within c.args.label c.as_slice-all.result.now (edges_of c.edges-edges.result.now) (ap (map edge_node) c.as_slice-all.ensures.value ∙ c.iter.ensures) c.in-Ok.at c.in-Ok.ensures in
+    let within = found_within c.args.label c.as_slice-all.result.now (edges_of c.edges-edges.result.now) (ap (map edge_node) c.as_slice-all.ensures.value ∙ c.iter.ensures.edges) c.in-Ok.at c.in-Ok.ensures in
     omega arith
 
 pub split_at-requires : goal.split_at-requires
 split_at-requires c =
-    let within = found_within c.args.label c.as_slice-all.result.now (edges_of c.edges-edges.result.now) (ap (map edge_node) c.as_slice-all.ensures.value ∙ c.iter.ensures) c.in-Ok.at c.in-Ok.ensures in
+    let within = found_within c.args.label c.as_slice-all.result.now (edges_of c.edges-edges.result.now) (ap (map edge_node) c.as_slice-all.ensures.value ∙ c.iter.ensures.edges) c.in-Ok.at c.in-Ok.ensures in
     omega arith
 
 pub split_at-requires-in-Err : goal.split_at-requires-in-Err
-split_at-requires-in-Err c = gap_within c.args.label c.as_slice-all.result.now (edges_of c.edges-edges.result.now) (ap (map edge_node) c.as_slice-all.ensures.value ∙ c.iter.ensures) c.in-Err.at c.in-Err.ensures
+split_at-requires-in-Err c = gap_within c.args.label c.as_slice-all.result.now (edges_of c.edges-edges.result.now) (ap (map edge_node) c.as_slice-all.ensures.value ∙ c.iter.ensures.edges) c.in-Err.at c.in-Err.ensures
 
 pub returns-in-Ok : goal.returns-in-Ok
 returns-in-Ok c =
-    edges_past c.args.label c.as_slice-all.result.now (edges_of c.edges-edges.result.now) (ap (map edge_node) c.as_slice-all.ensures.value ∙ c.iter.ensures) _ c.edges-edges.ensures (Ok c.in-Ok.at) c.in-Ok.ensures c.split_at.result.1.now c.split_at.ensures.back
+    edges_past c.args.label c.as_slice-all.result.now (edges_of c.edges-edges.result.now) (ap (map edge_node) c.as_slice-all.ensures.value ∙ c.iter.ensures.edges) _ c.edges-edges.ensures.edges (Ok c.in-Ok.at) c.in-Ok.ensures c.split_at.result.1.now c.split_at.ensures.back
 
 pub returns-in-Err : goal.returns-in-Err
 returns-in-Err c =
-    edges_past c.args.label c.as_slice-all.result.now (edges_of c.edges-edges.result.now) (ap (map edge_node) c.as_slice-all.ensures.value ∙ c.iter.ensures) _ c.edges-edges.ensures (Err c.in-Err.at) c.in-Err.ensures c.split_at-in-Err.result.1.now c.split_at-in-Err.ensures.back
+    edges_past c.args.label c.as_slice-all.result.now (edges_of c.edges-edges.result.now) (ap (map edge_node) c.as_slice-all.ensures.value ∙ c.iter.ensures.edges) _ c.edges-edges.ensures.edges (Err c.in-Err.at) c.in-Err.ensures c.split_at-in-Err.result.1.now c.split_at-in-Err.ensures.back

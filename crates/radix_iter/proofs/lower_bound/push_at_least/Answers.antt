@@ -1,5 +1,6 @@
 -- The steps down along the key, each of which adds the rows of higher keys beside it.
 use Rattle.std.proofs.lemmas.Result.{IfOk-equal}
+use Rattle.radix_node.specs.Cells.{plain_of}
 use Rattle.radix_node.specs.Node.{plain_node}
 use Rattle.radix_node.proofs.EdgeSearch.{rise_from_shape}
 use Rattle.radix_node.proofs.LookupSteps.{left_shorter}
@@ -7,7 +8,7 @@ use Rattle.radix_iter.proofs.WalkSteps.{up_root, up_no_edge, up_parted, up_edge}
 use Rattle.radix_iter.proofs.lower_bound.push_at_least.Goals as goal
 
 pub loop-first-init : goal.loop-first-init
-loop-first-init c = up_root c.args.key.now c.args.tree.now (plain_node c.root-node.result.now) c.args.rows.now.items c.root-node.ensures.shape c.root-node.ensures.root
+loop-first-init c = up_root c.args.key.now (plain_of c.args.tree.now) (plain_node c.root-node.result.now) c.args.rows.now.items c.root-node.ensures.shape c.root-node.ensures.root
 
 pub edges_above-requires : goal.edges_above-requires
 edges_above-requires c = rise_from_shape c.loop-first.invariant.path _ c.loop-first.invariant.shaped
@@ -18,14 +19,14 @@ child-requires c = rise_from_shape c.loop-first.invariant.path _ c.loop-first.in
 pub returns-in_default-child : goal.returns-in_default-child
 returns-in_default-child c =
     up_no_edge _ c.loop-first.rows.items c.loop-first.rest.now (plain_node c.loop-first.node.now) c.loop-first.invariant c.in-Some.first.now c.in-Some.after.now c.in-Some.ensures.cases.0
-    c.push_falling.new.rows.items _ c.edges_above.ensures c.in_ok-push_falling.ensures c.in_default-child.ensures
+    c.push_falling.new.rows.items _ c.edges_above.ensures c.in_ok-push_falling.ensures c.in_default-child.ensures.child
 
 pub returns-in_default-strip_prefix : goal.returns-in_default-strip_prefix
 returns-in_default-strip_prefix c =
     IfOk-equal c.push_if_higher.result c.push_if_higher.new.rows.items _ _ c.push_if_higher.ensures
     (up_parted _ c.loop-first.rows.items c.loop-first.rest.now (plain_node c.loop-first.node.now) c.loop-first.invariant c.in-Some.first.now c.in-Some.after.now c.in-Some.ensures.cases.0
     c.push_falling.new.rows.items _ c.edges_above.ensures c.in_ok-push_falling.ensures
-    (plain_node c.in-Some-child.child.now) c.in-Some-child.ensures c.in_default-strip_prefix.ensures)
+    (plain_node c.in-Some-child.child.now) c.in-Some-child.ensures.child c.in_default-strip_prefix.ensures)
 
 pub loop-first-smaller : goal.loop-first-smaller
 loop-first-smaller c = left_shorter c.in-Some.first.now _ c.loop-first.rest.now c.in-Some.after.now c.in-Some-strip_prefix.left.now c.in-Some.ensures.cases.0 c.in-Some-strip_prefix.ensures
@@ -34,4 +35,4 @@ pub loop-first-preserved : goal.loop-first-preserved
 loop-first-preserved c =
     up_edge _ c.loop-first.rows.items c.loop-first.rest.now (plain_node c.loop-first.node.now) c.loop-first.invariant c.in-Some.first.now c.in-Some.after.now c.in-Some.ensures.cases.0
     c.push_falling.new.rows.items _ c.edges_above.ensures c.in_ok-push_falling.ensures
-    (plain_node c.in-Some-child.child.now) c.in-Some-child.ensures c.in-Some-strip_prefix.left.now c.in-Some-strip_prefix.ensures
+    (plain_node c.in-Some-child.child.now) c.in-Some-child.ensures.child c.in-Some-strip_prefix.left.now c.in-Some-strip_prefix.ensures

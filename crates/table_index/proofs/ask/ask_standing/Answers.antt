@@ -4,6 +4,7 @@ use Rattle.std.proofs.lemmas.Option.{get_or_from_slice_get, slice_get-map, slice
 use Rattle.mdb_datum.specs.Row.{Pair}
 use Rattle.mdb_schema.specs.Answer.{answer, is_exact}
 use Rattle.mdb_schema.specs.declared.ask_error.AskError.TheVariants.{Memory}
+use Rattle.radix_node.specs.Cells.{plain_of}
 use Rattle.radix_txn.specs.Txn.{Txn}
 use Rattle.table_index.specs.inner.Held.{nodes_of}
 use Rattle.table_index.proofs.AskedRows.{answered, pairs_there, place_there, refused}
@@ -20,12 +21,12 @@ returns-in-Ok-clause-answers c =
     let at = c.in-Ok.at in
     let read = c.index-txns-place.result in
     let within : c.place.result < length txns = let less = place_there t (nodes_of txns) c.requires.held at.place at.index c.in-Ok.ensures.there in
-    let count = length-map txns (λ (x : Txn). x.tree) in omega (arith, less, count, c.place.ensures) in
+    let count = length-map txns (λ (x : Txn). plain_of x.tree) in omega (arith, less, count, c.place.ensures) in
     let there : slice_get txns c.place.result ≡ Some read = slice_get_read txns (length txns) c.place.result read refl within c.index-txns-place.is in
-    let tree_there : slice_get (nodes_of txns) at.place ≡ Some read.tree =
-    ap (slice_get (nodes_of txns)) (let same : at.place ≡ c.place.result = cc in same) ∙ slice_get-map (λ (x : Txn). x.tree) txns c.place.result ∙ ap (option_map (λ (x : Txn). x.tree)) there in
-    let tree = (get_or txns c.place.result read).tree in
-    let is : tree ≡ get_or (nodes_of txns) at.place tree = ap (λ (x : Txn). x.tree) (get_or_from_slice_get txns c.place.result read read there) ∙ sym (get_or_from_slice_get (nodes_of txns) at.place read.tree tree tree_there) in
+    let tree_there : slice_get (nodes_of txns) at.place ≡ Some (plain_of read.tree) =
+    ap (slice_get (nodes_of txns)) (let same : at.place ≡ c.place.result = cc in same) ∙ slice_get-map (λ (x : Txn). plain_of x.tree) txns c.place.result ∙ ap (option_map (λ (x : Txn). plain_of x.tree)) there in
+    let tree = plain_of (get_or txns c.place.result read).tree in
+    let is : tree ≡ get_or (nodes_of txns) at.place tree = ap (λ (x : Txn). plain_of x.tree) (get_or_from_slice_get txns c.place.result read read there) ∙ sym (get_or_from_slice_get (nodes_of txns) at.place (plain_of read.tree) tree tree_there) in
     let pairs = pairs_there t (nodes_of txns) c.requires.held at.place at.index c.in-Ok.ensures.there tree is in
     answered t (nodes_of txns) _ refl c.ask.result q c.ask.ensures at c.answer_standing.result c.in-Ok.ensures.answers
     (subst (λ (es : List Pair). MatchResult c.answer_standing.result (λ a. a ≡ answer q.ask (is_exact at.index q) at.key es) (λ e. e ≡ Memory)) pairs c.answer_standing.ensures.answers)

@@ -1,13 +1,23 @@
-use Rattle.std.proofs.Common.{◌≡◌, ◌∙◌, map, true, sym}
+use Rattle.std.proofs.Common.{map, ◌∷◌, []}
+use Rattle.mdb_schema.specs.State.{id_key}
 use Rattle.radix_txn.specs.Txn.{txn_pairs}
+use Rattle.table_index.specs.inner.Drawn.{ids_of_row}
 use Rattle.table_index.specs.inner.Wipes.{is_there}
-use Rattle.table_index.proofs.ListedKeys.{stored_id, taking_done}
+use Rattle.table_index.proofs.Drawn.{none_drawn}
+use Rattle.table_index.proofs.ListedKeys.{stored_id}
+use Rattle.table_index.specs.Written.{IsKeyOf}
+use Rattle.table_index.specs.inner.Writes.{InIndex}
+use Rattle.table_index.proofs.WrittenTrees.{trees_none}
 use Rattle.table_index.proofs.listed.take_listed.Goals as goal
 
 pub of_stored-requires : goal.of_stored-requires
 of_stored-requires c = stored_id c.args.def.now c.args.row.now c.requires.stored c.in-Err.error c.requires.lawful c.in-Err.ensures
 
-pub returns : goal.returns
-returns c =
-    let there : true ≡ is_there c.args.def.now c.args.cut c.in-Ok.id (map txn_pairs c.args.txns.now) = sym c.if-not-is_there.false ∙ c.is_there.ensures in
-    taking_done c.args.def.now c.args.row.now c.in-Ok.id c.in-Ok.ensures c.args.cut c.args.txns.now c.take_out.new.txns there c.in_ok-take_out.ensures
+pub returns-in-Err-clause-drawn : goal.returns-in-Err-clause-drawn
+returns-in-Err-clause-drawn c = none_drawn c.args.front.now (ids_of_row (is_there c.args.def.now c.args.cut (id_key c.args.def.now c.args.row.now) (map txn_pairs c.args.txns.now))) c.args.ids.now c.args.txns.now c.requires.ready.within
+
+pub returns-then-not-is_there-clause-drawn : goal.returns-then-not-is_there-clause-drawn
+returns-then-not-is_there-clause-drawn c = none_drawn c.args.front.now (ids_of_row (is_there c.args.def.now c.args.cut (id_key c.args.def.now c.args.row.now) (map txn_pairs c.args.txns.now))) c.args.ids.now c.args.txns.now c.requires.ready.within
+
+pub returns-then-not-is_there-clause-written : goal.returns-then-not-is_there-clause-written
+returns-then-not-is_there-clause-written c = trees_none (InIndex (IsKeyOf c.args.def.now (c.args.row.now ∷ [])) c.args.def.now.indexes) c.args.txns.now

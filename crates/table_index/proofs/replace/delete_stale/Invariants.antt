@@ -1,6 +1,8 @@
-use Rattle.std.proofs.Common.{◌≡◌, drop, false}
+use Rattle.std.proofs.Common.{◌≡◌, ◌*◌, drop, false, Contains}
 use Rattle.mdb_schema.specs.inner.Edits.{stale_keys, without_all}
 use Rattle.radix_txn.specs.Txn.{txn_pairs}
+use Rattle.table_index.specs.inner.Drawn.{HasDrawn}
+use Rattle.table_index.specs.inner.Writes.{Wrote}
 use Rattle.table_index.proofs.replace.delete_stale.Given as goal
 
 abbrev pub invariant-loop-key : goal.invariant-loop-key
@@ -8,4 +10,6 @@ invariant-loop-key l = record {
   sound : l.txn.spoiled ≡ false;
   pairs :
       without_all (stale_keys l.kept (drop l.key-index l.old)) (txn_pairs l.txn) ≡ without_all (stale_keys l.kept l.old) (txn_pairs l.initial.txn);
+  drawn : HasDrawn l.front (4096 * l.key-index) l.initial.ids l.ids l.initial.txn l.txn;
+  written : Wrote (λ k. Contains l.old k) l.initial.txn l.txn;
 }

@@ -1,10 +1,14 @@
-use Rattle.std.proofs.Common.{◌≡◌, drop, false}
+use Rattle.std.proofs.Common.{◌≡◌, ◌*◌, drop, false, Contains}
 use Rattle.mdb_schema.specs.inner.Edits.{put_all}
 use Rattle.radix_txn.specs.Txn.{txn_pairs}
+use Rattle.table_index.specs.inner.Drawn.{HasDrawn}
+use Rattle.table_index.specs.inner.Writes.{Wrote}
 use Rattle.table_index.proofs.replace.insert_all.Given as goal
 
 abbrev pub invariant-loop-key : goal.invariant-loop-key
 invariant-loop-key l = record {
   sound : l.txn.spoiled ≡ false;
   pairs : put_all (drop l.key-index l.keys) l.row (txn_pairs l.txn) ≡ put_all l.keys l.row (txn_pairs l.initial.txn);
+  drawn : HasDrawn l.front (4096 * l.key-index) l.initial.ids l.ids l.initial.txn l.txn;
+  written : Wrote (λ k. Contains l.keys k) l.initial.txn l.txn;
 }

@@ -1,8 +1,10 @@
-use Rattle.std.proofs.Common.{◌≡◌, ◌++◌, drop, take, map, length}
+use Rattle.std.proofs.Common.{◌≡◌, ◌⊎◌, ◌*◌, ◌^◌, ◌++◌, drop, take, map, length}
 use Rattle.std.specs.List.{zip}
 use Rattle.radix_txn.specs.Txn.{txn_pairs}
+use Rattle.table_index.specs.inner.Drawn.{HaveDrawn}
 use Rattle.table_index.specs.inner.Held.{AreSound}
 use Rattle.table_index.specs.inner.TreeEdits.{edited_each, replaced_each, replaced_in}
+use Rattle.table_index.specs.inner.Writes.{TreesWrote, IsAt}
 use Rattle.table_index.proofs.replace.replace_each.Given as goal
 
 abbrev pub invariant-loop-at : goal.invariant-loop-at
@@ -12,4 +14,6 @@ invariant-loop-at l = record {
   pairs :
       take l.at (map txn_pairs l.txns) ++ edited_each (replaced_in l.row) (drop l.at (zip l.keys l.old)) (drop l.at (map txn_pairs l.txns))
       ≡ replaced_each l.row l.keys l.old (map txn_pairs l.initial.txns);
+  drawn : HaveDrawn l.front (2 ^ 21 * l.at) l.initial.ids l.ids l.initial.txns l.txns;
+  written : TreesWrote (λ place k. IsAt l.keys place k ⊎ IsAt l.old place k) l.initial.txns l.txns;
 }

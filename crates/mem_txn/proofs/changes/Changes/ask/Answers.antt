@@ -15,17 +15,17 @@ use Rattle.mem_txn.proofs.changes.Changes.ask.Goals as goal
 pub ask-requires-clause-within : goal.ask-requires-clause-within
 ask-requires-clause-within c =
     let t = c.self.inside in
-    let found : table_place c.args.query.now.table t.pass.schema ≡ Some c.in-Some.place = cc in
-    stand_within t.tables t.pass.schema (present (changes_view t)) (c.self.invariant.tables c.if-self.false) c.in-Some.place c.args.query.now.table found
+    let found : table_place c.args.query.now.table t.pass.caller.schema ≡ Some c.in-Some.place = cc in
+    stand_within t.tables.tables t.pass.caller.schema (present (changes_view t)) (c.self.invariant.tables c.if-self.false) c.in-Some.place c.args.query.now.table found
 
 pub returns-clause-answers : goal.returns-clause-answers
 returns-clause-answers c =
     let t = c.self.inside in
     let q = c.args.query.now in
-    let found : table_place q.table t.pass.schema ≡ Some c.in-Some.place = cc in
-    let told : Asked Answer = ask t.pass.schema (present (changes_view t)) q in
+    let found : table_place q.table t.pass.caller.schema ≡ Some c.in-Some.place = cc in
+    let told : Asked Answer = ask t.pass.caller.schema (present (changes_view t)) q in
     let all : AnswersAsk told c.ask.result =
-    stand_answers t.tables t.pass.schema (present (changes_view t)) (c.self.invariant.tables c.if-self.false) c.in-Some.place q found c.ask.result c.ask.ensures.answers in
+    stand_answers t.tables.tables t.pass.caller.schema (present (changes_view t)) (c.self.invariant.tables c.if-self.false) c.in-Some.place q found c.ask.result c.ask.ensures.answers in
     subst (λ (o : Changes). AnswersTxnAsk o.spoiled (ask o.caller.schema (present o) q) c.match-ask.result) c.self.view_is
     (subst (λ (b : Bool). AnswersTxnAsk b told c.match-ask.result) (sym c.if-self.false)
     (elim c.match-ask.branch [

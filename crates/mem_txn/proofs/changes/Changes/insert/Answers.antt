@@ -9,27 +9,28 @@ use Rattle.mem_txn.specs.Database.{state_seen}
 use Rattle.mem_txn.specs.declared.txn_error.TxnWriteError.TheVariants.{Refused}
 use Rattle.mem_txn.specs.inner.ChangesView.{changes_view}
 use Rattle.mem_txn.specs.inner.VersionTables.{StandFor, is_memory}
+use Rattle.mem_txn.proofs.IdsCounted.{counted_more, counted_same}
 use Rattle.mem_txn.proofs.TablesFound.{stand_within, table_place_named, table_place_within}
-use Rattle.mem_txn.proofs.WritesAnswered.{joins_answer, joins_stand, refuses_answer, refuses_stand}
+use Rattle.mem_txn.proofs.WritesAnswered.{joins_answer, joins_few, joins_stand, refuses_answer, refuses_same, refuses_stand}
 use Rattle.mem_txn.proofs.changes.Changes.insert.Goals as goal
 
 pub def_at-def-requires : goal.def_at-def-requires
 def_at-def-requires c =
-    let found : table_place c.args.table.now c.self.inside.pass.schema ≡ Some c.in-Some.place = cc in
-    table_place_within c.args.table.now c.self.inside.pass.schema c.in-Some.place found
+    let found : table_place c.args.table.now c.self.inside.pass.caller.schema ≡ Some c.in-Some.place = cc in
+    table_place_within c.args.table.now c.self.inside.pass.caller.schema c.in-Some.place found
 
 pub put_in-requires-clause-within : goal.put_in-requires-clause-within
 put_in-requires-clause-within c =
     let t = c.self.inside in
-    let found : table_place c.args.table.now t.pass.schema ≡ Some c.in-Some.place = cc in
-    stand_within t.tables t.pass.schema (present (changes_view t)) (c.self.invariant.tables c.if-self.false) c.in-Some.place c.args.table.now found
+    let found : table_place c.args.table.now t.pass.caller.schema ≡ Some c.in-Some.place = cc in
+    stand_within t.tables.tables t.pass.caller.schema (present (changes_view t)) (c.self.invariant.tables c.if-self.false) c.in-Some.place c.args.table.now found
 
 pub invariant_of-self : goal.invariant_of-self
 invariant_of-self c =
     let t = c.self.inside in
     let name = c.args.table.now in
-    let found : table_place name t.pass.schema ≡ Some c.in-Some.place = cc in
-    let named = table_place_named name t.pass.schema c.in-Some.place c.def_at-def.result.now found c.def_at-def.ensures.there in
+    let found : table_place name t.pass.caller.schema ≡ Some c.in-Some.place = cc in
+    let named = table_place_named name t.pass.caller.schema c.in-Some.place c.def_at-def.result.now found c.def_at-def.ensures.there in
     let joined : c.put_in.new.writes.items ≡ t.writes.items ++ put name c.args.row.now ∷ [] =
     c.in-Ok.ensures.1 ∙ ap (λ (n : Bytes). t.writes.items ++ put n c.args.row.now ∷ []) named in
     record {
@@ -37,6 +38,8 @@ invariant_of-self c =
       number = c.self.invariant.number;
       tables = λ sound. joins_stand gives_replaced (put name c.args.row.now) (λ (s : TableSchema) (rows : List Fields). put_row s c.args.row.now rows) (λ schema s. refl) (changes_view t) c.if-self.false c.in-Some.place found t.tables c.put_in.new.tables
           (c.self.invariant.tables c.if-self.false) c.in-Ok.replaced c.in-Ok.ensures.0 c.put_in.new.writes.items joined;
+      ids = λ sound. counted_more t.pass t.tables.ids c.put_in.new.tables.ids t.writes.items c.put_in.new.writes.items (c.self.invariant.ids c.if-self.false) (put name c.args.row.now ∷ []) c.in-Ok.ensures.0.book
+          (joins_few gives_replaced (put name c.args.row.now) (λ (s : TableSchema) (rows : List Fields). put_row s c.args.row.now rows) (λ schema s. refl) (changes_view t) c.if-self.false c.in-Some.place found t.tables c.put_in.new.tables (c.self.invariant.tables c.if-self.false) c.in-Ok.replaced c.in-Ok.ensures.0) joined;
     }
 
 pub invariant_of-self-in-Err : goal.invariant_of-self-in-Err
@@ -44,17 +47,22 @@ invariant_of-self-in-Err c =
     let t = c.self.inside in
     let name = c.args.table.now in
     let w : Write = put name c.args.row.now in
-    let found : table_place name t.pass.schema ≡ Some c.in-Some.place = cc in
-    let named = table_place_named name t.pass.schema c.in-Some.place c.def_at-def.result.now found c.def_at-def.ensures.there in
+    let found : table_place name t.pass.caller.schema ≡ Some c.in-Some.place = cc in
+    let named = table_place_named name t.pass.caller.schema c.in-Some.place c.def_at-def.result.now found c.def_at-def.ensures.there in
     let same : c.put_in.new.writes.items ≡ t.writes.items = c.in-Err.ensures.1 in
     record {
       few = c.self.invariant.few;
       number = c.self.invariant.number;
       tables = λ sound.
           let quiet : is_memory c.in-Err.error ≡ false = sym c.is_memory-self-inside.ensures ∙ sound in
-          subst (λ (ws : List Write). StandFor c.put_in.new.tables t.pass.schema (after_writes t.pass.schema (state_seen t.pass) ws)) (sym same)
+          subst (λ (ws : List Write). StandFor c.put_in.new.tables.tables t.pass.caller.schema (after_writes t.pass.caller.schema (state_seen t.pass.caller) ws)) (sym same)
           (refuses_stand gives_replaced w (λ (s : TableSchema) (rows : List Fields). put_row s c.args.row.now rows) (λ schema s. refl) (changes_view t) c.if-self.false c.in-Some.place found t.tables c.put_in.new.tables
           (c.self.invariant.tables c.if-self.false) c.in-Err.error (record (changes_view t) { spoiled = is_memory c.in-Err.error }) refl c.in-Err.ensures.0 quiet);
+      ids = λ sound.
+          let quiet : is_memory c.in-Err.error ≡ false = sym c.is_memory-self-inside.ensures ∙ sound in
+          let unchanged = refuses_same gives_replaced w (λ (s : TableSchema) (rows : List Fields). put_row s c.args.row.now rows) (λ schema s. refl) (changes_view t) c.if-self.false c.in-Some.place found t.tables c.put_in.new.tables
+          (c.self.invariant.tables c.if-self.false) c.in-Err.error (record (changes_view t) { spoiled = is_memory c.in-Err.error }) refl c.in-Err.ensures.0 quiet in
+          counted_same t.pass t.tables.ids c.put_in.new.tables.ids t.writes.items c.put_in.new.writes.items (c.self.invariant.ids c.if-self.false) unchanged.1 same;
     }
 
 pub returns-in-Ok : goal.returns-in-Ok
@@ -62,12 +70,12 @@ returns-in-Ok c =
     let t = c.self.inside in
     let name = c.args.table.now in
     let w : Write = put name c.args.row.now in
-    let found : table_place name t.pass.schema ≡ Some c.in-Some.place = cc in
-    let named = table_place_named name t.pass.schema c.in-Some.place c.def_at-def.result.now found c.def_at-def.ensures.there in
+    let found : table_place name t.pass.caller.schema ≡ Some c.in-Some.place = cc in
+    let named = table_place_named name t.pass.caller.schema c.in-Some.place c.def_at-def.result.now found c.def_at-def.ensures.there in
     let joined : c.put_in.new.writes.items ≡ t.writes.items ++ w ∷ [] =
     c.in-Ok.ensures.1 ∙ ap (λ (n : Bytes). t.writes.items ++ put n c.args.row.now ∷ []) named in
-    let new : Changes = record { caller = t.pass; writes = c.put_in.new.writes.items; spoiled = t.spoiled } in
-    let is : new ≡ with_writes (changes_view t) (w ∷ []) = ap (λ (ws : List Write). let r : Changes = record { caller = t.pass; writes = ws; spoiled = t.spoiled } in r) joined in
+    let new : Changes = record { caller = t.pass.caller; writes = c.put_in.new.writes.items; spoiled = t.spoiled } in
+    let is : new ≡ with_writes (changes_view t) (w ∷ []) = ap (λ (ws : List Write). let r : Changes = record { caller = t.pass.caller; writes = ws; spoiled = t.spoiled } in r) joined in
     subst (λ (o : Changes). AnswersTxnWrite gives_replaced w o.spoiled (Ok c.in-Ok.replaced) o new) c.self.view_is
     (joins_answer gives_replaced w (λ (s : TableSchema) (rows : List Fields). put_row s c.args.row.now rows) (λ schema s. refl) (changes_view t) c.if-self.false c.in-Some.place found t.tables c.put_in.new.tables
     (c.self.invariant.tables c.if-self.false) c.in-Ok.replaced c.in-Ok.ensures.0 new is)
@@ -78,12 +86,12 @@ returns-in-Err c =
     let name = c.args.table.now in
     let w : Write = put name c.args.row.now in
     let e = c.in-Err.error in
-    let found : table_place name t.pass.schema ≡ Some c.in-Some.place = cc in
-    let within = stand_within t.tables t.pass.schema (present (changes_view t)) (c.self.invariant.tables c.if-self.false) c.in-Some.place name found in
-    let new : Changes = record { caller = t.pass; writes = c.put_in.new.writes.items; spoiled = c.is_memory-self-inside.result } in
+    let found : table_place name t.pass.caller.schema ≡ Some c.in-Some.place = cc in
+    let within = stand_within t.tables.tables t.pass.caller.schema (present (changes_view t)) (c.self.invariant.tables c.if-self.false) c.in-Some.place name found in
+    let new : Changes = record { caller = t.pass.caller; writes = c.put_in.new.writes.items; spoiled = c.is_memory-self-inside.result } in
     let is : new ≡ record (changes_view t) { spoiled = is_memory e } =
-    ap (λ (ws : List Write). let r : Changes = record { caller = t.pass; writes = ws; spoiled = c.is_memory-self-inside.result } in r) c.in-Err.ensures.1
-    ∙ ap (λ (b : Bool). let r : Changes = record { caller = t.pass; writes = t.writes.items; spoiled = b } in r) c.is_memory-self-inside.ensures in
+    ap (λ (ws : List Write). let r : Changes = record { caller = t.pass.caller; writes = ws; spoiled = c.is_memory-self-inside.result } in r) c.in-Err.ensures.1
+    ∙ ap (λ (b : Bool). let r : Changes = record { caller = t.pass.caller; writes = t.writes.items; spoiled = b } in r) c.is_memory-self-inside.ensures in
     subst (λ (o : Changes). AnswersTxnWrite gives_replaced w o.spoiled (Err (Refused e)) o new) c.self.view_is
     (refuses_answer gives_replaced w (λ (s : TableSchema) (rows : List Fields). put_row s c.args.row.now rows) (λ schema s. refl) (changes_view t) c.if-self.false c.in-Some.place found t.tables c.put_in.new.tables
-    (c.self.invariant.tables c.if-self.false) e new is within c.in-Err.ensures.0)
+    (c.self.invariant.tables c.if-self.false) e new is t.pass refl (c.self.invariant.ids c.if-self.false) within c.in-Err.ensures.0)

@@ -14,10 +14,10 @@ returns-in-Ok g c =
     let here = c.in-Ok-Some in
     let won = (some_has here.field-0 here.shown _ here.field-0-is here.ensures.won).0 in
     let number = some_has here.field-0 here.shown _ here.field-0-is here.ensures.number in
-    let seen : HasSeen c.args.pass c.of.result = subst (λ (p : Caller). HasSeen p c.of.result) c.pass.view_is (subst (HasSeen (caller_of old)) (sym c.of.ensures) (turned old new c.pass.invariant e.pass e.seen (number_room old new here.shown.number number) e.counts (0 ∷ [], sym won))) in
-    let read : HasRead c.args.pass c.of.result (length c.of.result.seen) = subst (λ (p : Caller). HasRead p c.of.result (length c.of.result.seen)) c.pass.view_is (subst (λ (q : Caller). HasRead (caller_of old) q (length q.seen)) (sym c.of.ensures) (numbered old new c.in-Ok-Some.shown.number c.pass.invariant e.seen number)) in
-    let first : HasWon c.args.pass c.of.result = subst (λ (p : Caller). HasWon p c.of.result) c.pass.view_is (subst (HasWon (caller_of old)) (sym c.of.ensures) won) in
-    try_begins c.args.pass c.of.result seen read (won_at_last c.args.pass c.of.result first) first c.in-Ok.txn c.in-Ok.ensures
+    let seen : HasSeen c.args.pass c.of.result.caller = subst (λ (p : Caller). HasSeen p c.of.result.caller) c.pass.view_is (subst (HasSeen (caller_of old)) (sym c.of.ensures) (turned old new c.pass.invariant e.pass e.seen (number_room old new here.shown.number number) e.counts (0 ∷ [], sym won))) in
+    let read : HasRead c.args.pass c.of.result.caller (length c.of.result.caller.seen) = subst (λ (p : Caller). HasRead p c.of.result.caller (length c.of.result.caller.seen)) c.pass.view_is (subst (λ (q : Caller). HasRead (caller_of old) q (length q.seen)) (sym c.of.ensures) (numbered old new c.in-Ok-Some.shown.number c.pass.invariant e.seen number)) in
+    let first : HasWon c.args.pass c.of.result.caller = subst (λ (p : Caller). HasWon p c.of.result.caller) c.pass.view_is (subst (HasWon (caller_of old)) (sym c.of.ensures) won) in
+    try_begins c.args.pass c.of.result.caller seen read (won_at_last c.args.pass c.of.result.caller first) first c.in-Ok.txn c.in-Ok.ensures
 
 pub returns-in-Err-begun : goal.returns-in-Err-begun
 returns-in-Err-begun g c =
@@ -27,10 +27,10 @@ returns-in-Err-begun g c =
     let here = c.in-Ok-Some in
     let won = (some_has here.field-0 here.shown _ here.field-0-is here.ensures.won).0 in
     let number = some_has here.field-0 here.shown _ here.field-0-is here.ensures.number in
-    let seen : HasSeen c.args.pass c.of.result = subst (λ (p : Caller). HasSeen p c.of.result) c.pass.view_is (subst (HasSeen (caller_of old)) (sym c.of.ensures) (turned old new c.pass.invariant e.pass e.seen (number_room old new here.shown.number number) e.counts (0 ∷ [], sym won))) in
-    let read : HasRead c.args.pass c.of.result (length c.of.result.seen) = subst (λ (p : Caller). HasRead p c.of.result (length c.of.result.seen)) c.pass.view_is (subst (λ (q : Caller). HasRead (caller_of old) q (length q.seen)) (sym c.of.ensures) (numbered old new c.in-Ok-Some.shown.number c.pass.invariant e.seen number)) in
-    let first : HasWon c.args.pass c.of.result = subst (λ (p : Caller). HasWon p c.of.result) c.pass.view_is (subst (HasWon (caller_of old)) (sym c.of.ensures) won) in
-    try_refuses c.args.pass c.of.result seen read (won_at_last c.args.pass c.of.result first) first c.in-Err-begun.refused c.in-Err-begun.ensures
+    let seen : HasSeen c.args.pass c.of.result.caller = subst (λ (p : Caller). HasSeen p c.of.result.caller) c.pass.view_is (subst (HasSeen (caller_of old)) (sym c.of.ensures) (turned old new c.pass.invariant e.pass e.seen (number_room old new here.shown.number number) e.counts (0 ∷ [], sym won))) in
+    let read : HasRead c.args.pass c.of.result.caller (length c.of.result.caller.seen) = subst (λ (p : Caller). HasRead p c.of.result.caller (length c.of.result.caller.seen)) c.pass.view_is (subst (λ (q : Caller). HasRead (caller_of old) q (length q.seen)) (sym c.of.ensures) (numbered old new c.in-Ok-Some.shown.number c.pass.invariant e.seen number)) in
+    let first : HasWon c.args.pass c.of.result.caller = subst (λ (p : Caller). HasWon p c.of.result.caller) c.pass.view_is (subst (HasWon (caller_of old)) (sym c.of.ensures) won) in
+    try_refuses c.args.pass c.of.result.caller seen read (won_at_last c.args.pass c.of.result.caller first) first c.in-Err-begun.refused c.in-Err-begun.ensures
 
 pub returns-in-Err : goal.returns-in-Err
 returns-in-Err g c =

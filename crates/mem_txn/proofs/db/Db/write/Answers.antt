@@ -11,10 +11,10 @@ returns-in-Ok g c =
     let old = c.pass.inside.token in
     let new = c.begin.new.pass in
     let e = c.begin.ensures in
-    let seen : HasSeen c.args.pass c.of.result = subst (λ (p : Caller). HasSeen p c.of.result) c.pass.view_is (subst (HasSeen (caller_of old)) (sym c.of.ensures) (turned old new c.pass.invariant e.pass e.seen e.room e.counts e.tries)) in
-    let read : HasRead c.args.pass c.of.result (length c.of.result.seen) = subst (λ (p : Caller). HasRead p c.of.result (length c.of.result.seen)) c.pass.view_is (subst (λ (q : Caller). HasRead (caller_of old) q (length q.seen)) (sym c.of.ensures) (numbered old new c.in-Ok.shown.number c.pass.invariant e.seen c.in-Ok.ensures.number)) in
-    let last : HasWonAtLast c.args.pass c.of.result = subst (λ (p : Caller). HasWonAtLast p c.of.result) c.pass.view_is (subst (HasWonAtLast (caller_of old)) (sym c.of.ensures) e.won) in
-    begin_answers c.args.pass c.of.result seen read last c.begun.result c.begun.ensures
+    let seen : HasSeen c.args.pass c.of.result.caller = subst (λ (p : Caller). HasSeen p c.of.result.caller) c.pass.view_is (subst (HasSeen (caller_of old)) (sym c.of.ensures) (turned old new c.pass.invariant e.pass e.seen e.room e.counts e.tries)) in
+    let read : HasRead c.args.pass c.of.result.caller (length c.of.result.caller.seen) = subst (λ (p : Caller). HasRead p c.of.result.caller (length c.of.result.caller.seen)) c.pass.view_is (subst (λ (q : Caller). HasRead (caller_of old) q (length q.seen)) (sym c.of.ensures) (numbered old new c.in-Ok.shown.number c.pass.invariant e.seen c.in-Ok.ensures.number)) in
+    let last : HasWonAtLast c.args.pass c.of.result.caller = subst (λ (p : Caller). HasWonAtLast p c.of.result.caller) c.pass.view_is (subst (HasWonAtLast (caller_of old)) (sym c.of.ensures) e.won) in
+    begin_answers c.args.pass c.of.result.caller seen read last c.begun.result c.begun.ensures
 
 pub returns-in-Err : goal.returns-in-Err
 returns-in-Err g c =

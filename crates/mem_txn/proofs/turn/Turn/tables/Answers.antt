@@ -1,12 +1,34 @@
-use Rattle.std.proofs.Common.{◌≡◌, ◌∙◌, map, ap}
+use Rattle.std.proofs.Common.{◌≡◌, ◌∙◌, map, sym, ap, subst}
+use Rattle.std.specs.Prelude.{All}
 use Rattle.std.specs.Arc.{arc_value}
+use Rattle.radix_node.specs.Ids.{Counter}
+use Rattle.mem_txn.specs.Changes.{writes_in}
 use Rattle.mem_txn.specs.Database.{View, state_seen, view_seen}
-use Rattle.mem_txn.specs.inner.Versions.{Version}
-use Rattle.mem_txn.proofs.BegunAnswers.{tables_stand}
+use Rattle.mem_txn.specs.inner.VersionTables.{AreWithin, trees_of}
+use Rattle.mem_txn.specs.inner.Versions.{AreFew, Forest, Turned, Version, ViewWithTrees}
+use Rattle.mem_txn.proofs.BegunAnswers.{begins_counted, tables_stand}
 use Rattle.mem_txn.proofs.turn.Turn.tables.Goals as goal
 
-pub returns : goal.returns
-returns c =
-    let p = c.args.self.now in
-    let shown : c.view.result.now ≡ view_seen p = c.view.ensures ∙ ap (λ (v : Version). v.view) c.deref.ensures ∙ c.self.invariant.1.1 ∙ ap view_seen c.self.view_is in
-    tables_stand (map arc_value c.tables.result.now) p.schema (state_seen p) c.of.result (c.tables.ensures.schemas ∙ ap (λ (v : View). v.schema) shown) (c.tables.ensures.state ∙ ap (λ (v : View). v.state) shown) c.of.ensures
+pub of-requires : goal.of-requires
+of-requires c =
+    let base : Version = arc_value c.self.inside.base in
+    let trees : trees_of (map arc_value c.tables.result.now) ≡ base.trees =
+    c.tables.ensures.trees ∙ ap (λ (v : ViewWithTrees). v.trees) c.view.ensures ∙ ap (λ (v : Version). v.trees) c.deref-2.ensures in
+    let ids : c.in_ok-ids.ids ≡ base.ids = c.in_ok-ids.ensures ∙ ap (λ (v : Version). v.ids) c.deref.ensures in
+    record {
+      within =
+          subst (λ (i : Counter). All (AreWithin i) (trees_of (map arc_value c.tables.result.now))) (sym ids)
+          (subst (λ (f : Forest). All (AreWithin base.ids) f) (sym trees) c.self.invariant.stands.within);
+    }
+
+pub returns-clause-tables : goal.returns-clause-tables
+returns-clause-tables c =
+    let p = c.args.self.now.caller in
+    let shown : c.view.result.now.view ≡ view_seen p =
+    ap (λ (v : ViewWithTrees). v.view) c.view.ensures ∙ ap (λ (v : Version). v.view) c.deref-2.ensures ∙ c.self.invariant.stands.view ∙ ap (λ (t : Turned). view_seen t.caller) c.self.view_is in
+    tables_stand (map arc_value c.tables.result.now) p.schema (state_seen p) c.of.result (c.tables.ensures.schemas ∙ ap (λ (v : View). v.schema) shown) (c.tables.ensures.state ∙ ap (λ (v : View). v.state) shown) c.of.ensures.tables
+
+pub returns-clause-ids : goal.returns-clause-ids
+returns-clause-ids c =
+    let ids : c.in_ok-ids.ids ≡ c.args.self.now.ids = c.in_ok-ids.ensures ∙ ap (λ (v : Version). v.ids) c.deref.ensures ∙ ap (λ (t : Turned). t.ids) c.self.view_is in
+    begins_counted c.args.self.now c.in_ok-ids.ids c.of.result ids (subst (λ (t : Turned). AreFew (writes_in t.caller.seen) t.ids) c.self.view_is c.self.invariant.stands.few) c.of.ensures.ids

@@ -5,8 +5,8 @@ use Rattle.std.proofs.lemmas.Option.{slice_get-map, slice_get_read}
 use Rattle.mdb_schema.specs.Answer.{ask}
 use Rattle.mdb_schema.specs.Refusals.{AnswersAsk}
 use Rattle.mdb_schema.specs.Schema.{table_place}
-use Rattle.mem_txn.specs.Database.{View}
 use Rattle.mem_txn.specs.inner.VersionTables.{state_of}
+use Rattle.mem_txn.specs.inner.Versions.{ViewWithTrees}
 use Rattle.mem_txn.proofs.TablesFound.{answers-found, found_within}
 use Rattle.mem_txn.proofs.view.View.ask.Goals as goal
 
@@ -33,5 +33,5 @@ returns-in-Some c =
     let there : slice_get items place ≡ Some c.index-table.result.now = slice_get_read items (length items) place c.index-table.result.now refl within c.index-table.ensures in
     let table = c.deref-in-Some.result.now in
     let shown : slice_get shared place ≡ Some table = slice_get-map arc_value items place ∙ ap (option_map arc_value) there ∙ ap Some (sym c.deref-in-Some.ensures) in
-    subst (λ (v : View). AnswersAsk (ask v.schema v.state q) c.ask.result) c.self.view_is
+    subst (λ (v : ViewWithTrees). AnswersAsk (ask v.view.schema v.view.state q) c.ask.result) c.self.view_is
     (answers-found shared schema (state_of shared) c.self.invariant.schemas refl q place found table shown c.ask.result c.ask.ensures)

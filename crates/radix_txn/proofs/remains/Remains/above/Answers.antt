@@ -1,20 +1,29 @@
 -- The edges around the place, and what the child is settled to.
-use Rattle.std.proofs.Common.{◌∙◌, ap}
-use Rattle.radix_node.specs.Node.{PlainNode, edge_node, nodes_in, edges_of, labelled, node_of, plain_edge}
-use Rattle.radix_node.proofs.LookupSteps.{led}
-use Rattle.radix_txn.proofs.SettledNode.{next_fits, within, spliced_one}
+use Rattle.std.proofs.Common.{◌≡◌, ◌++◌, ◌∷◌, [], Option, List, sym, ap, subst}
+use Rattle.radix_node.specs.CellNode.{led as edge_led, cell_ref, led_node}
+use Rattle.radix_node.specs.Cells.{CellNode, Piece, cells_in, node_pieces}
+use Rattle.radix_node.specs.declared.node_ref.NodeRef.{NodeRef}
+use Rattle.radix_txn.specs.inner.Outside.{AllIn, inner_pieces}
+use Rattle.radix_txn.specs.inner.Pieces.{inside, led, ref_list}
+use Rattle.radix_txn.specs.inner.Remains.{pieces_left, stays_left}
+use Rattle.radix_txn.specs.inner.Steps.{Steps}
 use Rattle.radix_txn.proofs.remains.Remains.above.Goals as goal
 
-pub overflow_add-at : goal.overflow_add-at
-overflow_add-at c = next_fits c.args.at c.edges.result.now _ c.edges.ensures c.requires
+pub returns-in_ok-without_edge-in-None-clause-nodes : goal.returns-in_ok-without_edge-in-None-clause-nodes
+returns-in_ok-without_edge-in-None-clause-nodes c = (
+  [],
+  c.in_ok-without_edge-in-None.ensures.nodes,
+  subst (λ (o : Option NodeRef). Steps (pieces_left c.args.below) c.args.cells.now (node_pieces (cells_in (ref_list [] o))) c.settled.new.cells) c.in-None.is (c.in_ok-settled.ensures.cells []),
+  subst (λ (o : Option NodeRef). AllIn (stays_left c.args.below) (inner_pieces (cells_in (ref_list [] o)))) c.in-None.is c.in_ok-settled.ensures.stays,
+)
 
-pub spliced-requires-clause-in_range : goal.spliced-requires-clause-in_range
-spliced-requires-clause-in_range c = within c.args.at c.edges.result.now _ c.edges.ensures c.requires
-
-pub returns-in_ok-spliced-in-Some : goal.returns-in_ok-spliced-in-Some
-returns-in_ok-spliced-in-Some c =
-    let m = plain_edge c.args.edge.now in
-    λ i. record {
-      leaf = c.in_ok-share_leaf-in-Some.ensures i;
-      nodes = nodes_in ((c.in_ok-spliced-in-Some.ensures ∙ spliced_one c.args.at (edges_of c.edges.result.now) _ m.label c.prefix.result.now m.node.prefix _ _ c.in_ok-settled.field-0 c.in-Some.child (edge_node c.of.result) c.edges.ensures c.in_ok-settled.ensures c.in-Some.is (c.prefix.ensures ∙ ap (λ (n : PlainNode). n.prefix) c.node.ensures) (ap labelled c.of.ensures ∙ ap (λ z. led z (node_of c.in-Some.child)) c.label.ensures)) i);
-    }
+pub returns-in_ok-with_edge-in-Some-clause-nodes : goal.returns-in_ok-with_edge-in-Some-clause-nodes
+returns-in_ok-with_edge-in-Some-clause-nodes c =
+    let same : led (c.label.result ∷ []) (cell_ref c.in-Some.child) ≡ led_node c.of.result = sym (ap edge_led c.of.ensures.cells) in
+    let stays = subst (λ (o : Option NodeRef). AllIn (stays_left c.args.below) (inner_pieces (cells_in (ref_list [] o)))) c.in-Some.is c.in_ok-settled.ensures.stays in
+    let step = subst (λ (o : Option NodeRef). Steps (pieces_left c.args.below) c.args.cells.now (node_pieces (cells_in (ref_list (c.label.result ∷ []) o))) c.settled.new.cells) c.in-Some.is (c.in_ok-settled.ensures.cells (c.label.result ∷ [])) in (
+      led_node c.of.result ∷ [],
+      c.in_ok-with_edge-in-Some.ensures.nodes,
+      subst (λ (n : CellNode). Steps (pieces_left c.args.below) c.args.cells.now (node_pieces (cells_in (n ∷ []))) c.settled.new.cells) same step,
+      subst (λ (zs : List Piece). AllIn (stays_left c.args.below) (zs ++ [])) (ap inside same) stays,
+    )

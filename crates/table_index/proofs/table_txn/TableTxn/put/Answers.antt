@@ -1,28 +1,119 @@
-use Rattle.std.proofs.Common.{◌≡◌, ◌∙◌, List, Ok, false, sym, ap, subst, rules}
+use Rattle.std.proofs.Common.{◌≡◌, ◌∙◌, List, Ok, Err, false, sym, ap, subst, rules}
 use Rattle.std.specs.Vec.{with_items}
 use Rattle.std.proofs.lemmas.List.{with_items_is, places}
 use Rattle.mdb_schema.specs.Write.{put_row}
 use Rattle.radix_txn.specs.Txn.{Txn}
-use Rattle.table_index.specs.Table.{TableChange, AnswersPut}
-use Rattle.table_index.specs.inner.Held.{AreTrees, nodes_of, rows_held}
-use Rattle.table_index.specs.inner.TreeEdits.{IsPut}
-use Rattle.table_index.proofs.Answered.{change_of, put_answer}
+use Rattle.table_index.specs.Table.{TableChange, AnswersPut, AreLeft}
+use Rattle.table_index.specs.inner.Held.{AreTrees, nodes_of, rows_held, starts_of}
+use Rattle.table_index.specs.inner.TreeEdits.{IsPut, IsRefused}
+use Rattle.table_index.proofs.Answered.{change_of, put_answer, put_refused}
+use Rattle.table_index.proofs.Changes.{carried, change_ready, made_below, made_drawn, made_of, made_start}
+use Rattle.mdb_datum.specs.Row.{Fields}
+use Rattle.table_index.specs.inner.Writes.{WroteRows}
+use Rattle.table_index.proofs.WrittenRows.{change_wrote}
+use Rattle.table_index.specs.Written.{Writes, rows_put}
 use Rattle.table_index.proofs.table_txn.TableTxn.put.Goals as goal
+
+pub write_row-written-requires-clause-ready : goal.write_row-written-requires-clause-ready
+write_row-written-requires-clause-ready c =
+    let sound : c.self.inside.spoiled ≡ false = ap (λ (t : TableChange). t.spoiled) c.self.view_is ∙ c.requires.sound in
+    change_ready c.args.front.now c.args.ids.now c.self.inside.trees.items c.deref_mut.result.now c.args.self.now c.deref_mut.ensures.value (ap (λ (t : TableChange). t.trees) c.self.view_is)
+    (ap (λ (t : TableChange). t.start) c.self.view_is) (c.self.invariant.sound sound) c.requires.book c.requires.below c.requires.of c.requires.below_start
 
 pub write_row-written-requires-clause-held : goal.write_row-written-requires-clause-held
 write_row-written-requires-clause-held c =
     let sound : c.self.inside.spoiled ≡ false = ap (λ (t : TableChange). t.spoiled) c.self.view_is ∙ c.requires.sound in
     subst (λ (txns : List Txn). AreTrees c.self.inside.def (nodes_of txns)) (sym c.deref_mut.ensures.value) (c.self.invariant.trees sound)
 
-pub returns-in-Ok : goal.returns-in-Ok
-returns-in-Ok c =
+-- ---- a write that is made
+
+pub returns-in-Ok-clause-answers : goal.returns-in-Ok-clause-answers
+returns-in-Ok-clause-answers c =
     let t = c.self.inside.def in
     let before = c.self.inside.trees.items in
-    let made = (with_items c.self.inside.trees c.write_row-written.new.txns).items in
-    let after : made ≡ c.write_row-written.new.txns = with_items_is c.self.inside.trees c.write_row-written.new.txns (search (rules, places)) in
+    let read = c.deref_mut.result.now in
+    let new = c.write_row-written.new.txns in
+    let made = (with_items c.self.inside.trees new).items in
+    let after : made ≡ new = with_items_is c.self.inside.trees new (search (rules, places)) in
+    let next = c.args.ids.now.next in
     let told = λ (txns : List Txn). put_row t c.args.row.now (rows_held t (nodes_of txns)) in
-    let put : IsPut t (told before) c.in-Ok.replaced made =
-    subst (λ (txns : List Txn). IsPut t (told before) c.in-Ok.replaced txns) (sym after)
-    (subst (λ (txns : List Txn). IsPut t (told txns) c.in-Ok.replaced c.write_row-written.new.txns) c.deref_mut.ensures.value c.in-Ok.ensures) in
-    subst (λ (s : TableChange). AnswersPut (put_row s.schema c.args.row.now s.rows) (Ok c.in-Ok.replaced) s (change_of t made c.self.inside.spoiled)) c.self.view_is
-    (put_answer t before made c.self.inside.spoiled (told before) c.in-Ok.replaced put)
+    let P = λ (old now : List Txn). let r : Type 0 = AreLeft next 1 × IsPut t (told old) c.in-Ok.replaced now in r in
+    let written : P before made = carried P before read made new c.deref_mut.ensures.value after c.in-Ok.ensures.answers in
+    let S = λ (old now : List Txn). let r : Type 0 = starts_of now ≡ starts_of old in r in
+    let start : S before made = carried S before read made new c.deref_mut.ensures.value after c.in-Ok.ensures.drawn.start in
+    subst (λ (s : TableChange). AnswersPut next (put_row s.schema c.args.row.now s.rows) (Ok c.in-Ok.replaced) s (change_of t made c.self.inside.spoiled)) c.self.view_is
+    (put_answer next t before made c.self.inside.spoiled (told before) written.0 start c.in-Ok.replaced written.1)
+
+pub returns-in-Ok-clause-below : goal.returns-in-Ok-clause-below
+returns-in-Ok-clause-below c =
+    made_below c.write_row-written.new.ids (with_items c.self.inside.trees c.write_row-written.new.txns).items c.write_row-written.new.txns
+    (with_items_is c.self.inside.trees c.write_row-written.new.txns (search (rules, places))) c.write_row-written.ensures.drawn.within
+
+pub returns-in-Ok-clause-of : goal.returns-in-Ok-clause-of
+returns-in-Ok-clause-of c =
+    made_of c.write_row-written.new.ids (with_items c.self.inside.trees c.write_row-written.new.txns).items c.write_row-written.new.txns
+    (with_items_is c.self.inside.trees c.write_row-written.new.txns (search (rules, places))) c.write_row-written.ensures.drawn.within
+
+pub returns-in-Ok-clause-drawn : goal.returns-in-Ok-clause-drawn
+returns-in-Ok-clause-drawn c =
+    made_drawn c.args.front.now c.args.ids.now c.write_row-written.new.ids c.self.inside.trees.items c.deref_mut.result.now (with_items c.self.inside.trees c.write_row-written.new.txns).items
+    c.write_row-written.new.txns c.args.self.now.trees c.deref_mut.ensures.value (with_items_is c.self.inside.trees c.write_row-written.new.txns (search (rules, places)))
+    (ap (λ (t : TableChange). t.trees) c.self.view_is) c.write_row-written.ensures.drawn.drawn
+
+pub returns-in-Ok-clause-below_start : goal.returns-in-Ok-clause-below_start
+returns-in-Ok-clause-below_start c =
+    made_start c.write_row-written.new.ids (with_items c.self.inside.trees c.write_row-written.new.txns).items c.write_row-written.new.txns
+    (with_items_is c.self.inside.trees c.write_row-written.new.txns (search (rules, places))) c.write_row-written.ensures.drawn.within
+
+-- ---- a write that isn't
+
+pub returns-in-Err-clause-answers : goal.returns-in-Err-clause-answers
+returns-in-Err-clause-answers c =
+    let t = c.self.inside.def in
+    let before = c.self.inside.trees.items in
+    let read = c.deref_mut.result.now in
+    let new = c.write_row-written.new.txns in
+    let made = (with_items c.self.inside.trees new).items in
+    let after : made ≡ new = with_items_is c.self.inside.trees new (search (rules, places)) in
+    let next = c.args.ids.now.next in
+    let told = λ (txns : List Txn). put_row t c.args.row.now (rows_held t (nodes_of txns)) in
+    let sound : c.self.inside.spoiled ≡ false = ap (λ (s : TableChange). s.spoiled) c.self.view_is ∙ c.requires.sound in
+    let P = λ (old now : List Txn). let r : Type 0 = IsRefused next (told old) c.in-Err.error old now in r in
+    let refused : P before made = carried P before read made new c.deref_mut.ensures.value after c.in-Err.ensures.answers in
+    let S = λ (old now : List Txn). let r : Type 0 = starts_of now ≡ starts_of old in r in
+    let start : S before made = carried S before read made new c.deref_mut.ensures.value after c.in-Err.ensures.drawn.start in
+    subst (λ (s : TableChange). AnswersPut next (put_row s.schema c.args.row.now s.rows) (Err c.in-Err.error) s (change_of t made c.is_memory-self-inside.result)) c.self.view_is
+    (put_refused next t before made c.self.inside.spoiled c.is_memory-self-inside.result c.in-Err.error (told before) sound c.is_memory-self-inside.ensures start refused)
+
+pub returns-in-Err-clause-below : goal.returns-in-Err-clause-below
+returns-in-Err-clause-below c =
+    made_below c.write_row-written.new.ids (with_items c.self.inside.trees c.write_row-written.new.txns).items c.write_row-written.new.txns
+    (with_items_is c.self.inside.trees c.write_row-written.new.txns (search (rules, places))) c.write_row-written.ensures.drawn.within
+
+pub returns-in-Err-clause-of : goal.returns-in-Err-clause-of
+returns-in-Err-clause-of c =
+    made_of c.write_row-written.new.ids (with_items c.self.inside.trees c.write_row-written.new.txns).items c.write_row-written.new.txns
+    (with_items_is c.self.inside.trees c.write_row-written.new.txns (search (rules, places))) c.write_row-written.ensures.drawn.within
+
+pub returns-in-Err-clause-drawn : goal.returns-in-Err-clause-drawn
+returns-in-Err-clause-drawn c =
+    made_drawn c.args.front.now c.args.ids.now c.write_row-written.new.ids c.self.inside.trees.items c.deref_mut.result.now (with_items c.self.inside.trees c.write_row-written.new.txns).items
+    c.write_row-written.new.txns c.args.self.now.trees c.deref_mut.ensures.value (with_items_is c.self.inside.trees c.write_row-written.new.txns (search (rules, places)))
+    (ap (λ (t : TableChange). t.trees) c.self.view_is) c.write_row-written.ensures.drawn.drawn
+
+pub returns-in-Err-clause-below_start : goal.returns-in-Err-clause-below_start
+returns-in-Err-clause-below_start c =
+    made_start c.write_row-written.new.ids (with_items c.self.inside.trees c.write_row-written.new.txns).items c.write_row-written.new.txns
+    (with_items_is c.self.inside.trees c.write_row-written.new.txns (search (rules, places))) c.write_row-written.ensures.drawn.within
+
+pub returns-in-Ok-clause-written : goal.returns-in-Ok-clause-written
+returns-in-Ok-clause-written c =
+    let t = c.self.inside.def in
+    let before = c.self.inside.trees.items in
+    let new = c.write_row-written.new.txns in
+    let made = (with_items c.self.inside.trees new).items in
+    let after : made ≡ new = with_items_is c.self.inside.trees new (search (rules, places)) in
+    let told = λ (txns : List Txn). let r : List Fields = rows_put t c.args.row.now (rows_held t (nodes_of txns)) in r in
+    let P = λ (old now : List Txn). let r : Type 0 = WroteRows t (told old) old now in r in
+    let wrote : P before made = carried P before c.deref_mut.result.now made new c.deref_mut.ensures.value after c.in-Ok.ensures.written in
+    subst (λ (s : TableChange). Writes (rows_put s.schema c.args.row.now s.rows) s (change_of t made c.self.inside.spoiled)) c.self.view_is (λ rows h. change_wrote t (told before) before made wrote rows h)

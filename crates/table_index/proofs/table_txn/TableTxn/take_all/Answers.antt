@@ -1,42 +1,129 @@
-use Rattle.std.proofs.Common.{◌≡◌, ◌∙◌, List, Ok, Err, false, sym, ap, subst, rules}
+use Rattle.std.proofs.Common.{◌≡◌, ◌∙◌, ◌+◌, ◌*◌, ◌^◌, ◌≤◌, List, Ok, Err, false, length, sym, ap, subst, rules}
 use Rattle.std.specs.Vec.{with_items}
 use Rattle.std.proofs.lemmas.List.{with_items_is, places}
 use Rattle.mdb_datum.specs.Row.{Fields}
 use Rattle.mdb_schema.specs.Answer.{Asked}
 use Rattle.mdb_schema.specs.Wipe.{wiped_rows}
 use Rattle.radix_txn.specs.Txn.{Txn}
-use Rattle.table_index.specs.Table.{TableChange, AnswersTake}
-use Rattle.table_index.specs.inner.Held.{AreTrees, nodes_of, rows_held}
+use Rattle.table_index.specs.Table.{TableChange, AnswersTake, AreLeft, rows_asked}
+use Rattle.table_index.specs.inner.Held.{AreTrees, nodes_of, rows_held, starts_of}
 use Rattle.table_index.specs.inner.Wipes.{IsRefusedWipe, IsWiped}
 use Rattle.table_index.proofs.Answered.{change_of}
+use Rattle.table_index.proofs.Changes.{carried, change_ready, made_below, made_drawn, made_of, made_start}
 use Rattle.table_index.proofs.WipeAnswers.{wiped_answer, refused_answer}
+use Rattle.table_index.specs.inner.Writes.{WroteRows}
+use Rattle.table_index.proofs.WrittenRows.{change_wrote}
+use Rattle.table_index.specs.Written.{Writes, rows_told}
 use Rattle.table_index.proofs.table_txn.TableTxn.take_all.Goals as goal
+
+pub wipe_rows-wiped-requires-clause-ready : goal.wipe_rows-wiped-requires-clause-ready
+wipe_rows-wiped-requires-clause-ready c =
+    let sound : c.self.inside.spoiled ≡ false = ap (λ (t : TableChange). t.spoiled) c.self.view_is ∙ c.requires.sound in
+    change_ready c.args.front.now c.args.ids.now c.self.inside.trees.items c.deref_mut.result.now c.args.self.now c.deref_mut.ensures.value (ap (λ (t : TableChange). t.trees) c.self.view_is)
+    (ap (λ (t : TableChange). t.start) c.self.view_is) (c.self.invariant.sound sound) c.requires.book c.requires.below c.requires.of c.requires.below_start
 
 pub wipe_rows-wiped-requires-clause-held : goal.wipe_rows-wiped-requires-clause-held
 wipe_rows-wiped-requires-clause-held c =
     let sound : c.self.inside.spoiled ≡ false = ap (λ (t : TableChange). t.spoiled) c.self.view_is ∙ c.requires.sound in
     subst (λ (txns : List Txn). AreTrees c.self.inside.def (nodes_of txns)) (sym c.deref_mut.ensures.value) (c.self.invariant.trees sound)
 
-pub returns-in-Ok : goal.returns-in-Ok
-returns-in-Ok c =
+pub returns-in-Ok-clause-answers : goal.returns-in-Ok-clause-answers
+returns-in-Ok-clause-answers c =
     let t = c.self.inside.def in
     let before = c.self.inside.trees.items in
-    let made = (with_items c.self.inside.trees c.wipe_rows-wiped.new.txns).items in
-    let after : made ≡ c.wipe_rows-wiped.new.txns = with_items_is c.self.inside.trees c.wipe_rows-wiped.new.txns (search (rules, places)) in
+    let read = c.deref_mut.result.now in
+    let new = c.wipe_rows-wiped.new.txns in
+    let made = (with_items c.self.inside.trees new).items in
+    let after : made ≡ new = with_items_is c.self.inside.trees new (search (rules, places)) in
+    let next = c.args.ids.now.next in
     let told = λ (txns : List Txn). let r : Asked (List Fields) = wiped_rows t (rows_held t (nodes_of txns)) c.args.query.now in r in
-    let W = λ (old new : List Txn). let r : Type 0 = (gone : List Fields) × (told old ≡ Ok gone) × IsWiped t gone c.in-Ok.gone old new in r in
-    let wiped : W before made = subst (λ (txns : List Txn). W before txns) (sym after) (subst (λ (txns : List Txn). W txns c.wipe_rows-wiped.new.txns) c.deref_mut.ensures.value c.in-Ok.ensures) in
-    subst (λ (s : TableChange). AnswersTake (wiped_rows s.schema s.rows c.args.query.now) (Ok c.in-Ok.gone) s (change_of t made c.self.inside.spoiled)) c.self.view_is
-    (wiped_answer t (told before) wiped.0 c.in-Ok.gone before made c.self.inside.spoiled wiped.1 wiped.2)
+    let W = λ (old now : List Txn). let r : Type 0 = (gone : List Fields) × (told old ≡ Ok gone) × AreLeft next (length gone) × IsWiped t gone c.in-Ok.gone old now in r in
+    let wiped : W before made = carried W before read made new c.deref_mut.ensures.value after c.in-Ok.ensures.answers in
+    let S = λ (old now : List Txn). let r : Type 0 = starts_of now ≡ starts_of old in r in
+    let start : S before made = carried S before read made new c.deref_mut.ensures.value after c.in-Ok.ensures.drawn.start in
+    subst (λ (s : TableChange). AnswersTake next (wiped_rows s.schema s.rows c.args.query.now) (Ok c.in-Ok.gone) s (change_of t made c.self.inside.spoiled)) c.self.view_is
+    (wiped_answer next t (told before) before made start wiped.0 c.in-Ok.gone c.self.inside.spoiled wiped.1 wiped.2 wiped.3)
 
-pub returns-in-Err : goal.returns-in-Err
-returns-in-Err c =
+pub returns-in-Ok-clause-below : goal.returns-in-Ok-clause-below
+returns-in-Ok-clause-below c =
+    made_below c.wipe_rows-wiped.new.ids (with_items c.self.inside.trees c.wipe_rows-wiped.new.txns).items c.wipe_rows-wiped.new.txns
+    (with_items_is c.self.inside.trees c.wipe_rows-wiped.new.txns (search (rules, places))) c.wipe_rows-wiped.ensures.drawn.within
+
+pub returns-in-Ok-clause-of : goal.returns-in-Ok-clause-of
+returns-in-Ok-clause-of c =
+    made_of c.wipe_rows-wiped.new.ids (with_items c.self.inside.trees c.wipe_rows-wiped.new.txns).items c.wipe_rows-wiped.new.txns
+    (with_items_is c.self.inside.trees c.wipe_rows-wiped.new.txns (search (rules, places))) c.wipe_rows-wiped.ensures.drawn.within
+
+pub returns-in-Ok-clause-drawn : goal.returns-in-Ok-clause-drawn
+returns-in-Ok-clause-drawn c =
+    made_drawn c.args.front.now c.args.ids.now c.wipe_rows-wiped.new.ids c.self.inside.trees.items c.deref_mut.result.now (with_items c.self.inside.trees c.wipe_rows-wiped.new.txns).items
+    c.wipe_rows-wiped.new.txns c.args.self.now.trees c.deref_mut.ensures.value (with_items_is c.self.inside.trees c.wipe_rows-wiped.new.txns (search (rules, places)))
+    (ap (λ (t : TableChange). t.trees) c.self.view_is) c.wipe_rows-wiped.ensures.drawn.drawn
+
+pub returns-in-Ok-clause-below_start : goal.returns-in-Ok-clause-below_start
+returns-in-Ok-clause-below_start c =
+    made_start c.wipe_rows-wiped.new.ids (with_items c.self.inside.trees c.wipe_rows-wiped.new.txns).items c.wipe_rows-wiped.new.txns
+    (with_items_is c.self.inside.trees c.wipe_rows-wiped.new.txns (search (rules, places))) c.wipe_rows-wiped.ensures.drawn.within
+
+pub returns-in-Err-clause-answers : goal.returns-in-Err-clause-answers
+returns-in-Err-clause-answers c =
     let t = c.self.inside.def in
     let before = c.self.inside.trees.items in
-    let made = (with_items c.self.inside.trees c.wipe_rows-wiped.new.txns).items in
-    let after : made ≡ c.wipe_rows-wiped.new.txns = with_items_is c.self.inside.trees c.wipe_rows-wiped.new.txns (search (rules, places)) in
+    let read = c.deref_mut.result.now in
+    let new = c.wipe_rows-wiped.new.txns in
+    let made = (with_items c.self.inside.trees new).items in
+    let after : made ≡ new = with_items_is c.self.inside.trees new (search (rules, places)) in
+    let next = c.args.ids.now.next in
     let sound : c.self.inside.spoiled ≡ false = ap (λ (s : TableChange). s.spoiled) c.self.view_is ∙ c.requires.sound in
-    let R = λ (old new : List Txn). let r : Type 0 = IsRefusedWipe (wiped_rows t (rows_held t (nodes_of old)) c.args.query.now) c.in-Err.error old new in r in
-    let refused : R before made = subst (λ (txns : List Txn). R before txns) (sym after) (subst (λ (txns : List Txn). R txns c.wipe_rows-wiped.new.txns) c.deref_mut.ensures.value c.in-Err.ensures) in
-    subst (λ (s : TableChange). AnswersTake (wiped_rows s.schema s.rows c.args.query.now) (Err c.in-Err.error) s (change_of t made c.wants_memory-self-inside.result)) c.self.view_is
-    (refused_answer t (wiped_rows t (rows_held t (nodes_of before)) c.args.query.now) c.in-Err.error before made c.self.inside.spoiled c.wants_memory-self-inside.result sound c.wants_memory-self-inside.ensures refused)
+    let R = λ (old now : List Txn). let r : Type 0 = IsRefusedWipe next (wiped_rows t (rows_held t (nodes_of old)) c.args.query.now) c.in-Err.error old now in r in
+    let refused : R before made = carried R before read made new c.deref_mut.ensures.value after c.in-Err.ensures.answers in
+    let S = λ (old now : List Txn). let r : Type 0 = starts_of now ≡ starts_of old in r in
+    let start : S before made = carried S before read made new c.deref_mut.ensures.value after c.in-Err.ensures.drawn.start in
+    subst (λ (s : TableChange). AnswersTake next (wiped_rows s.schema s.rows c.args.query.now) (Err c.in-Err.error) s (change_of t made c.wants_memory-self-inside.result)) c.self.view_is
+    (refused_answer next t (wiped_rows t (rows_held t (nodes_of before)) c.args.query.now) before made start c.in-Err.error c.self.inside.spoiled c.wants_memory-self-inside.result sound
+    c.wants_memory-self-inside.ensures refused)
+
+pub returns-in-Err-clause-below : goal.returns-in-Err-clause-below
+returns-in-Err-clause-below c =
+    made_below c.wipe_rows-wiped.new.ids (with_items c.self.inside.trees c.wipe_rows-wiped.new.txns).items c.wipe_rows-wiped.new.txns
+    (with_items_is c.self.inside.trees c.wipe_rows-wiped.new.txns (search (rules, places))) c.wipe_rows-wiped.ensures.drawn.within
+
+pub returns-in-Err-clause-of : goal.returns-in-Err-clause-of
+returns-in-Err-clause-of c =
+    made_of c.wipe_rows-wiped.new.ids (with_items c.self.inside.trees c.wipe_rows-wiped.new.txns).items c.wipe_rows-wiped.new.txns
+    (with_items_is c.self.inside.trees c.wipe_rows-wiped.new.txns (search (rules, places))) c.wipe_rows-wiped.ensures.drawn.within
+
+pub returns-in-Err-clause-drawn : goal.returns-in-Err-clause-drawn
+returns-in-Err-clause-drawn c =
+    made_drawn c.args.front.now c.args.ids.now c.wipe_rows-wiped.new.ids c.self.inside.trees.items c.deref_mut.result.now (with_items c.self.inside.trees c.wipe_rows-wiped.new.txns).items
+    c.wipe_rows-wiped.new.txns c.args.self.now.trees c.deref_mut.ensures.value (with_items_is c.self.inside.trees c.wipe_rows-wiped.new.txns (search (rules, places)))
+    (ap (λ (t : TableChange). t.trees) c.self.view_is) c.wipe_rows-wiped.ensures.drawn.drawn
+
+pub returns-in-Err-clause-below_start : goal.returns-in-Err-clause-below_start
+returns-in-Err-clause-below_start c =
+    made_start c.wipe_rows-wiped.new.ids (with_items c.self.inside.trees c.wipe_rows-wiped.new.txns).items c.wipe_rows-wiped.new.txns
+    (with_items_is c.self.inside.trees c.wipe_rows-wiped.new.txns (search (rules, places))) c.wipe_rows-wiped.ensures.drawn.within
+
+pub returns-in-Ok-clause-few : goal.returns-in-Ok-clause-few
+returns-in-Ok-clause-few c =
+    subst (λ (s : TableChange). c.wipe_rows-wiped.new.ids.next ≤ c.args.ids.now.next + 2 ^ 26 * rows_asked (wiped_rows s.schema s.rows c.args.query.now)) c.self.view_is
+    (subst (λ (txns : List Txn). c.wipe_rows-wiped.new.ids.next ≤ c.args.ids.now.next + 2 ^ 26 * rows_asked (wiped_rows c.self.inside.def (rows_held c.self.inside.def (nodes_of txns)) c.args.query.now)) c.deref_mut.ensures.value
+    c.wipe_rows-wiped.ensures.drawn.few)
+
+pub returns-in-Err-clause-few : goal.returns-in-Err-clause-few
+returns-in-Err-clause-few c =
+    subst (λ (s : TableChange). c.wipe_rows-wiped.new.ids.next ≤ c.args.ids.now.next + 2 ^ 26 * rows_asked (wiped_rows s.schema s.rows c.args.query.now)) c.self.view_is
+    (subst (λ (txns : List Txn). c.wipe_rows-wiped.new.ids.next ≤ c.args.ids.now.next + 2 ^ 26 * rows_asked (wiped_rows c.self.inside.def (rows_held c.self.inside.def (nodes_of txns)) c.args.query.now)) c.deref_mut.ensures.value
+    c.wipe_rows-wiped.ensures.drawn.few)
+
+pub returns-in-Ok-clause-written : goal.returns-in-Ok-clause-written
+returns-in-Ok-clause-written c =
+    let t = c.self.inside.def in
+    let before = c.self.inside.trees.items in
+    let new = c.wipe_rows-wiped.new.txns in
+    let made = (with_items c.self.inside.trees new).items in
+    let after : made ≡ new = with_items_is c.self.inside.trees new (search (rules, places)) in
+    let told = λ (txns : List Txn). let r : List Fields = rows_told (wiped_rows t (rows_held t (nodes_of txns)) c.args.query.now) in r in
+    let P = λ (old now : List Txn). let r : Type 0 = WroteRows t (told old) old now in r in
+    let wrote : P before made = carried P before c.deref_mut.result.now made new c.deref_mut.ensures.value after c.in-Ok.ensures.written in
+    subst (λ (s : TableChange). Writes (rows_told (wiped_rows s.schema s.rows c.args.query.now)) s (change_of t made c.self.inside.spoiled)) c.self.view_is (λ rows h. change_wrote t (told before) before made wrote rows h)

@@ -1,0 +1,60 @@
+-- What a line may be told in place of its turn: that there are too few ids for what it writes.
+use Rattle.std.specs.Prelude.{◌≡◌, ◌≢◌, ◌≤◌, ◌+◌, ◌^◌, ℕ, Bool, true, false, List, [], ◌∷◌, length, take, Ok, codes, ⊤}
+use Rattle.mdb_schema.specs.History.{History}
+use Rattle.mdb_schema.specs.Schema.{DbSchema}
+use Rattle.client_script.specs.Client.{Client, Writing, writing}
+use Rattle.client_script.specs.Reply.{Reply, refused}
+use Rattle.client_script.specs.Turn.{turn, outcome}
+use Rattle.client_script.specs.declared.command.Command.{Command}
+use Rattle.client_script.specs.declared.command.Command.TheVariants as command
+
+-- how many writes commits have
+abbrev pub writes_in : History → ℕ
+writes_in [] = 0
+writes_in (c ∷ H) = length c.writes + writes_in H
+
+-- a line that writes rows
+abbrev pub is_write : Command → Bool
+is_write (command.Insert table row) = true
+is_write (command.Delete table row) = true
+is_write (command.DeleteAll q) = true
+is_write (command.DeletePrefix q) = true
+is_write c = false
+
+abbrev pub ids_spent : Reply
+ids_spent = refused (codes "ids-spent")
+
+-- the writes of the commits on which a transaction stands, and its own, are together at least 2^36
+abbrev pub IsFull : History → Writing → Type 0
+IsFull H t = 2 ^ 36 ≤ writes_in (take t.number H) + length t.writes
+
+-- A line that writes rows and breaks no rule is told that there are too few ids, and changes nothing.
+-- It may be told so only where the transaction would be full with the writes of this line.
+pub record IsSpent (schema : DbSchema) (H : History) (now : ℕ) (v : Client) (c : Command)
+    (r : Reply) (next : Client) : Type 0 where
+  pub write : is_write c ≡ true
+  pub reply : r ≡ ids_spent
+  pub same : next ≡ v
+  -- its turn's reply, what the client would know then, and its transaction then
+  pub ruled : Reply
+  pub after : Client
+  pub allowed : turn schema H now v c ≡ Ok (ruled, after)
+  pub opened : Writing
+  pub transaction : after.transaction ≡ writing opened
+  pub full : IsFull H opened
+
+-- what a line is told: its turn, or that there are too few ids
+pub data IsTold (schema : DbSchema) (H : History) (now : ℕ) (v : Client) (c : Command) (r : Reply)
+    (next : Client) : Type 0 where
+  by_turn : outcome v (turn schema H now v c) ≡ (r, next) → IsTold schema H now v c r next
+  without_ids : IsSpent schema H now v c r next → IsTold schema H now v c r next
+
+-- no line is told that there are too few ids
+abbrev pub HaveIds : List Reply → Type 0
+HaveIds [] = ⊤
+HaveIds (r ∷ rs) = (r ≢ ids_spent) × HaveIds rs
+
+-- the same of all clients
+abbrev pub AllHaveIds : List (List Reply) → Type 0
+AllHaveIds [] = ⊤
+AllHaveIds (rs ∷ rss) = HaveIds rs × AllHaveIds rss

@@ -1,7 +1,0 @@
-use Rattle.std.proofs.Common.{◌≡◌, ◌++◌, drop}
-use Rattle.client_script.specs.Reply.{row_lines}
-use Rattle.client_session.proofs.reply.write_list.Given as goal
-
--- what was added so far, followed by the lines of the other rows, is the whole
-abbrev pub invariant-loop-at : goal.invariant-loop-at
-invariant-loop-at l = l.out.items ++ row_lines (drop l.at l.rows) ≡ l.initial.out.items ++ row_lines l.rows

@@ -1,0 +1,41 @@
+-- Tables without rows, one after another.
+use Rattle.std.proofs.Common.{◌≡◌, ◌∙◌, ◌+◌, ◌≤◌, ◌++◌, ℕ, List, [], ◌∷◌, map, slice_get, take, Some, refl, sym, ap, subst}
+use Rattle.std.specs.Prelude.{All}
+use Rattle.std.proofs.lemmas.List.{map-append}
+use Rattle.std.proofs.lemmas.List.Elements.{All-append, All-cons, All-nil}
+use Rattle.mdb_datum.specs.Row.{Fields}
+use Rattle.mdb_schema.specs.Schema.{TableSchema, DbSchema}
+use Rattle.mdb_schema.specs.State.{State, empty_state}
+use Rattle.radix_node.specs.Cells.{CellTree}
+use Rattle.radix_node.specs.Ids.{Counter}
+use Rattle.table_index.specs.Table.{TableRows}
+use Rattle.mem_txn.specs.inner.EmptyTables.{AreEmpty, IsEmptyOf}
+use Rattle.mem_txn.specs.inner.VersionTables.{AreWithin, schemas_of, state_of, trees_of}
+use Rattle.mem_txn.proofs.Gathered.{gathered_more}
+use Rattle.mem_txn.proofs.IdsCounted.{forest_more}
+
+pub none_empty : (ids : Counter) (ts : List TableRows) → ts ≡ [] → AreEmpty [] ids ts
+none_empty ids ts none = subst (AreEmpty [] ids) (sym none) (record { schemas = refl; state = refl; within = All-nil (AreWithin ids) })
+
+pub one_more : (schema : DbSchema) (at : ℕ) (def : TableSchema) (ids ids' : Counter) (ts ts' : List TableRows) (t : TableRows) → slice_get schema at ≡ Some def → AreEmpty (take at schema) ids ts → ids'.book ≡ ids.book → ids.next ≤ ids'.next → IsEmptyOf def ids' t
+    → ts' ≡ ts ++ t ∷ [] → AreEmpty (take (at + 1) schema) ids' ts'
+one_more schema at def ids ids' ts ts' t there before same later table joined =
+    let schemas : schemas_of ts' ≡ schemas_of ts ++ def ∷ [] =
+    ap schemas_of joined ∙ map-append (λ (r : TableRows). r.schema) ts (t ∷ []) ∙ ap (λ (d : TableSchema). schemas_of ts ++ d ∷ []) table.schema in
+    let rows : state_of ts' ≡ state_of ts ++ [] ∷ [] =
+    ap state_of joined ∙ map-append (λ (r : TableRows). r.rows) ts (t ∷ []) ∙ ap (λ (rs : List Fields). state_of ts ++ rs ∷ []) table.rows in
+    let trees : trees_of ts' ≡ trees_of ts ++ t.trees ∷ [] = ap trees_of joined ∙ map-append (λ (r : TableRows). r.trees) ts (t ∷ []) in
+    record {
+      schemas = gathered_more (λ (d : TableSchema). d) schema (schemas_of ts) (schemas_of ts') at def def (before.schemas ∙ sym (map-same (take at schema))) there refl schemas ∙ map-same (take (at + 1) schema);
+      state = gathered_more no_rows schema (state_of ts) (state_of ts') at def [] before.state there refl rows;
+      within = subst (All (AreWithin ids')) (sym trees)
+          (All-append (AreWithin ids') (trees_of ts) (t.trees ∷ []) (forest_more ids ids' ts same later before.within)
+          (All-cons (AreWithin ids') t.trees [] table.within (All-nil (AreWithin ids'))));
+    }
+  where
+    no_rows : TableSchema → List Fields
+    no_rows d = []
+
+    map-same : (ds : DbSchema) → map (λ (d : TableSchema). d) ds ≡ ds
+    map-same [] = refl
+    map-same (d ∷ ds) = ap (λ (es : DbSchema). d ∷ es) (map-same ds)

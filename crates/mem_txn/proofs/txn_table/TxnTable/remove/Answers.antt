@@ -1,0 +1,15 @@
+use Rattle.std.proofs.Common.{sym, subst}
+use Rattle.mdb_schema.specs.Write.{remove_row}
+use Rattle.table_index.specs.Table.{TableChange}
+use Rattle.mem_txn.specs.inner.VersionTables.{IsWithin}
+use Rattle.mem_txn.proofs.IdsCounted.{write_within}
+use Rattle.mem_txn.proofs.TableAnswers.{removed_start}
+use Rattle.mem_txn.proofs.txn_table.TxnTable.remove.Goals as goal
+
+pub returns-clause-within : goal.returns-clause-within
+returns-clause-within c =
+    let old : TableChange = c.in_ok-txn.txn in
+    let new : TableChange = c.remove-told.new.self in
+    let e = c.remove-told.ensures in
+    write_within c.args.ids.now c.remove-told.new.ids old new (subst (IsWithin c.args.ids.now) (sym c.in_ok-txn.ensures.open) c.requires.within) e.book e.below_start
+    (removed_start c.args.ids.now.next old new (remove_row old.schema c.args.row.now old.rows) c.remove-told.result e.answers) e.below e.of

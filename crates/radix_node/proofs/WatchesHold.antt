@@ -1,0 +1,69 @@
+-- The watches of a key and of a prefix hold between two trees in which an id tells its piece.
+use Rattle.std.proofs.Common.{◌≡◌, inl, inr, ◌∙◌, Some, None, sym, ap, subst}
+use Rattle.mdb_datum.specs.Bytes.{Bytes}
+use Rattle.watch_word.specs.Logs.{Cell}
+use Rattle.radix_node.specs.Cells.{CellLeaf, CellTree, plain_leaf, plain_of}
+use Rattle.radix_node.specs.Nodes.{pairs_of}
+use Rattle.radix_node.specs.Pairs.{find, with_prefix}
+use Rattle.radix_node.specs.Shape.{HasShape}
+use Rattle.radix_node.specs.Watches.{Fires, TellTheSame, HoldsGet, HoldsSeek, WatchesHold, leaf_cell_or, get_watch, seek_watch}
+use Rattle.radix_node.specs.inner.Walk.{End, walk_tree, end_leaf, end_pairs}
+use Rattle.radix_node.proofs.LeafWatch.{leaf_with_end}
+use Rattle.radix_node.proofs.Lookup.{row_of_pair}
+use Rattle.radix_node.proofs.NearPlaces.{near_end_cell}
+use Rattle.radix_node.proofs.PrefixSeek.{with_prefix_plain}
+use Rattle.radix_node.proofs.TwoTrees.{end_cell, holds_at, walk_or_fires}
+use Rattle.radix_node.proofs.Walks.{get_end, scan_end}
+use Rattle.radix_node.proofs.WholeTree.{find_plain}
+
+module _ (t : CellTree) (s : HasShape (plain_of t)) where
+  -- the watches are those of the walk
+  pub get_watch_end : (key : Bytes) → get_watch key t ≡ end_cell (walk_tree key t)
+  get_watch_end key = λ i. leaf_cell_or (near_end_cell key t s i) (leaf_with_end key t s i)
+
+  pub seek_watch_end : (prefix : Bytes) → seek_watch prefix t ≡ (walk_tree prefix t).node.cell
+  seek_watch_end prefix = near_end_cell prefix t s
+
+  -- and so is what is found
+  pub find_end : (key : Bytes) → find key (pairs_of (plain_of t)) ≡ row_of_pair (plain_leaf (end_leaf (walk_tree key t)))
+  find_end key = find_plain key (plain_of t) s ∙ ap row_of_pair (get_end key t)
+
+  pub prefix_end : (prefix : Bytes) → with_prefix prefix (pairs_of (plain_of t)) ≡ end_pairs (walk_tree prefix t)
+  prefix_end prefix = with_prefix_plain prefix (plain_of t) s ∙ scan_end prefix t
+
+  -- a leaf is found, or there is none
+  pub get_some : (key : Bytes) (l : CellLeaf) → end_leaf (walk_tree key t) ≡ Some l → (l.cell ≡ get_watch key t) × (Some l.pair.1 ≡ find key (pairs_of (plain_of t)))
+  get_some key l e = (
+    sym (get_watch_end key ∙ ap (leaf_cell_or (walk_tree key t).node.cell) e),
+    sym (find_end key ∙ ap (λ o. row_of_pair (plain_leaf o)) e),
+  )
+
+  pub get_none : (key : Bytes) → end_leaf (walk_tree key t) ≡ None → ((walk_tree key t).node.cell ≡ get_watch key t) × (None ≡ find key (pairs_of (plain_of t)))
+  get_none key e = (
+    sym (get_watch_end key ∙ ap (leaf_cell_or (walk_tree key t).node.cell) e),
+    sym (find_end key ∙ ap (λ o. row_of_pair (plain_leaf o)) e),
+  )
+
+module _ (old new : CellTree) (s : HasShape (plain_of old)) (t : HasShape (plain_of new)) (agree : TellTheSame old new) where
+  holds_get : (key : Bytes) → HoldsGet old new key
+  holds_get key =
+      elim (holds_at old new s t agree key) [
+        | inl f ↦ inl (subst (λ (c : Cell). Fires c old new) (sym (get_watch_end old s key)) f)
+        | inr same ↦ inr (
+          get_watch_end new t key ∙ same.0 ∙ sym (get_watch_end old s key),
+          find_end new t key ∙ ap (λ o. row_of_pair (plain_leaf o)) same.1 ∙ sym (find_end old s key),
+        )
+      ]
+
+  holds_seek : (prefix : Bytes) → HoldsSeek old new prefix
+  holds_seek prefix =
+      elim (walk_or_fires old new s t agree prefix) [
+        | inl same ↦ inr (
+          seek_watch_end new t prefix ∙ ap (λ (e : End). e.node.cell) same ∙ sym (seek_watch_end old s prefix),
+          prefix_end new t prefix ∙ ap end_pairs same ∙ sym (prefix_end old s prefix),
+        )
+        | inr f ↦ inl (subst (λ (c : Cell). Fires c old new) (sym (seek_watch_end old s prefix)) f)
+      ]
+
+  pub watches_hold : WatchesHold old new
+  watches_hold = record { get = holds_get; seek = holds_seek }

@@ -1,0 +1,71 @@
+//! The cells that a write draws, and those that leave.
+ghost use Rattle.std.specs.Prelude.{◌≡◌, ◌≤◌, ◌<◌, ◌^◌, IfOk, OnOk};
+ghost use Rattle.std.specs.Arc.{arc_value};
+ghost use Rattle.radix_node.specs.CellNode.{cell_node};
+ghost use Rattle.radix_node.specs.Left.{all_cells};
+ghost use Rattle.radix_txn.specs.inner.Steps.{IsNextOf, leaf_left, many_left, one_drawn, one_left};
+
+use radix_node::{Ids, Node, push_cell};
+use std::alloc::{AllocError, Global};
+use std::marker::Model;
+use std::sync::Arc;
+use watch_word::{Front, WatchCell};
+
+/// Where a write gets its cells, and the list of the old tree's cells that are gone. An id below
+/// `first` is one of the old tree's.
+#[derive(Drop)]
+pub struct Cells {
+    pub front: Front,
+    pub ids: Ids,
+    pub first: u64,
+    pub left: Vec<Arc<WatchCell>>,
+}
+
+impl Model for Cells {
+    ghost use Rattle.std.specs.Prelude.{◌≡◌, ◌≤◌, map};
+    ghost use Rattle.std.specs.Arc.{arc_value};
+    ghost use Rattle.radix_txn.specs.inner.Steps.{Ledger};
+
+    ghost Value = { Ledger };
+
+    ghost view = { λ c. record { log = c.front; first = c.first; next = c.ids.next; left = map arc_value c.left.items } };
+
+    ghost invariant = { λ c. (c.front.book ≡ c.ids.book) × (c.first ≤ c.ids.next) };
+}
+
+impl Cells {
+    /// A new cell.
+    pub fn draw(&mut self, alloc: Global) -> Result<Arc<WatchCell>, AllocError>
+        requires left { self.old.next < 2 ^ 63 }
+        ensures next { IfOk result (λ c. IsNextOf self.old (arc_value c)) }
+        ensures drawn { OnOk result (self.new ≡ one_drawn self.old) }
+        ensures begun { self.old.first ≤ self.old.next }
+    {
+        Ok(self.ids.draw(alloc, &self.front)?)
+    }
+
+    /// A cell is in the tree no longer.
+    pub fn leave(&mut self, cell: &Arc<WatchCell>) -> Result<(), AllocError>
+        ensures left { OnOk result (self.new ≡ one_left (arc_value cell.now) self.old) }
+        ensures begun { self.old.first ≤ self.old.next }
+    {
+        Ok(push_cell(self.first, cell, &mut self.left)?)
+    }
+
+    /// The cell of a node's leaf, if it has one, is in the tree no longer.
+    pub fn leave_leaf(&mut self, node: &Node) -> Result<(), AllocError>
+        ensures left { let n = cell_node node.now in
+            OnOk result (self.new ≡ leaf_left n.leaf self.old) }
+        ensures begun { self.old.first ≤ self.old.next }
+    {
+        Ok(node.push_leaf(self.first, &mut self.left)?)
+    }
+
+    /// The cells of a node and of all under it are in the tree no longer.
+    pub fn leave_all(&mut self, node: &Node) -> Result<(), AllocError>
+        ensures left { OnOk result (self.new ≡ many_left (all_cells (cell_node node.now)) self.old) }
+        ensures begun { self.old.first ≤ self.old.next }
+    {
+        Ok(node.push_cells(self.first, &mut self.left)?)
+    }
+}

@@ -1,0 +1,132 @@
+//! Look-ups in trees that were written. What is asked of one stands in tables, which small functions
+//! walk.
+use super::written::{is_row, labels_are, work_of};
+use radix_node::{Node, Tree};
+use std::test::Fail;
+
+/// The words `foo`, `foot` and `football`, each ended by a byte 00.
+const FORKED: [&[u8]; 3] = [b"foo\0", b"foot\0", b"football\0"];
+
+/// Each begins the next one, and has its length for its number.
+const NESTED: [&[u8]; 4] = [b"", b"a", b"ab", b"abc"];
+
+fn is_node(node: &Node, prefix: &[u8], has_leaf: bool, labels: &[u8]) -> bool {
+    node.prefix() == prefix && node.leaf().is_some() == has_leaf && labels_are(node.edges(), labels)
+}
+
+// ---- the node of a prefix
+
+/// A prefix, and of the node that it leads to the own prefix, whether it has a leaf, and the labels.
+type Line = (&'static [u8], &'static [u8], bool, &'static [u8]);
+
+/// In the forked tree.
+const NODES: [Line; 9] = [
+    (b"", b"", false, b"f"),
+    (b"f", b"oo", false, b"\0t"),
+    (b"foo", b"oo", false, b"\0t"),
+    (b"foo\0", b"", true, b""),
+    (b"foot", b"", false, b"\0b"),
+    (b"foot\0", b"", true, b""),
+    (b"footb", b"all\0", true, b""),
+    (b"footba", b"all\0", true, b""),
+    (b"football\0", b"all\0", true, b""),
+];
+
+fn leads_to(tree: &Tree, nodes: &[Line]) -> bool {
+    for (path, prefix, has_leaf, labels) in nodes {
+        match tree.seek(path) {
+            Some(node) if is_node(node, prefix, *has_leaf, labels) => {}
+            _ => return false,
+        }
+    }
+    true
+}
+
+#[test]
+fn a_prefix_leads_to_the_node_of_its_keys(rt: HostRuntime) -> Result<(), Fail> {
+    let (tree, _) = work_of(rt.alloc(), &FORKED)?.freeze()?;
+    assert!(rt; leads_to(&tree, &NODES));
+    Ok(())
+}
+
+const NOWHERE: [&[u8]; 6] = [b"g", b"fa", b"foo\0\0", b"fooz", b"footbz", b"football\0x"];
+
+#[test]
+fn a_prefix_of_no_key_leads_nowhere(rt: HostRuntime) -> Result<(), Fail> {
+    let (tree, _) = work_of(rt.alloc(), &FORKED)?.freeze()?;
+    assert!(rt; NOWHERE.iter().all(|prefix| tree.seek(prefix).is_none()));
+    Ok(())
+}
+
+// ---- look-ups
+
+const THERE: [(&[u8], bool); 10] = [
+    (b"foo\0", true),
+    (b"foot\0", true),
+    (b"football\0", true),
+    (b"", false),
+    (b"f", false),
+    (b"foo", false),
+    (b"foot", false),
+    (b"football", false),
+    (b"foo\0\0", false),
+    (b"footballs\0", false),
+];
+
+fn finds(tree: &Tree, keys: &[(&[u8], bool)]) -> bool {
+    for (key, there) in keys {
+        if tree.get(key).is_some() != *there {
+            return false;
+        }
+    }
+    true
+}
+
+#[test]
+fn whole_keys_alone_are_found(rt: HostRuntime) -> Result<(), Fail> {
+    let (tree, _) = work_of(rt.alloc(), &FORKED)?.freeze()?;
+    assert!(rt; finds(&tree, &THERE) && tree.len() == 3);
+    Ok(())
+}
+
+/// A key, and the number of the row under the longest key that is a prefix of it.
+const LONGEST: [(&[u8], u64); 6] = [
+    (b"", 0),
+    (b"x", 0),
+    (b"ax", 1),
+    (b"ab", 2),
+    (b"abc", 3),
+    (b"abcd", 3),
+];
+
+fn finds_longest(tree: &Tree, keys: &[(&[u8], u64)]) -> bool {
+    for (key, number) in keys {
+        if !is_row(tree.longest(key), *number) {
+            return false;
+        }
+    }
+    true
+}
+
+#[test]
+fn the_longest_key_that_is_a_prefix_is_found(rt: HostRuntime) -> Result<(), Fail> {
+    let (tree, _) = work_of(rt.alloc(), &NESTED)?.freeze()?;
+    assert!(rt; finds_longest(&tree, &LONGEST));
+    Ok(())
+}
+
+#[test]
+fn keys_that_begin_each_other_are_told_apart(rt: HostRuntime) -> Result<(), Fail> {
+    let (tree, _) = work_of(rt.alloc(), &NESTED)?.freeze()?;
+    assert!(rt; is_row(tree.get(b""), 0) && is_row(tree.get(b"ab"), 2));
+    assert!(rt; tree.get(b"abcd").is_none() && tree.get(b"ac").is_none());
+    Ok(())
+}
+
+#[test]
+fn a_key_of_2048_bytes_is_found(rt: HostRuntime) -> Result<(), Fail> {
+    let key = [b'k'; 2048];
+    let (tree, _) = work_of(rt.alloc(), &[&key])?.freeze()?;
+    assert!(rt; tree.get(&key).is_some() && tree.get(&key[..2047]).is_none());
+    Ok(())
+}

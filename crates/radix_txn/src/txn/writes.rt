@@ -1,0 +1,370 @@
+//! The writes of a transaction.
+ghost use Rattle.std.specs.Prelude.{◌≡◌, ◌∷◌, List, ◌+◌, ◌*◌, ◌≤◌, ◌<◌, ◌↔◌, ◌^◌, ℕ, IfOk, IfNone, IsSome, OnErr, OnOk, true, false, if◌then◌else◌, is_err, length, map, take};
+ghost use Rattle.std.specs.Arc.{arc_value};
+ghost use Rattle.std.specs.List.{All};
+ghost use Rattle.mdb_datum.specs.Bytes.{Bytes};
+ghost use Rattle.radix_node.specs.Cells.{AreBelow, AreOf, plain_of};
+ghost use Rattle.radix_node.specs.Pairs.{find, put, without, without_prefix};
+ghost use Rattle.radix_node.specs.Paths.{Has, IsPath, paths_of_plain};
+ghost use Rattle.radix_txn.specs.Kept.{AreWritten, deleted_key, deleted_keys};
+ghost use Rattle.radix_txn.specs.Notice.{IsDrawn};
+ghost use Rattle.radix_txn.specs.Txn.{txn_pairs};
+ghost use Rattle.radix_txn.specs.Write.{IsShort, after_write, after_writes, all_keys, write_keys};
+
+use crate::cells::Cells;
+use crate::insert::tree_with;
+use crate::remove::{self, Taken};
+use crate::target::Target;
+use crate::txn::{State, TreeTxn};
+use crate::write::Write;
+use mdb_datum::Row;
+use radix_node::tree_laws::paths_are_told_by_the_keys;
+use radix_node::{Ids, Tree};
+use std::alloc::AllocError;
+use std::mem;
+use watch_word::Front;
+
+impl TreeTxn {
+    /// Puts a row under a key, and gives the old row, if there was one. It takes memory for a copy
+    /// of the key and of each node on its path, each with a new cell. It is refused for want of
+    /// memory, of room to count one more owner of a node or row, or where there are 2^64 - 1 keys
+    /// already, and then it spoils the transaction.
+    pub fn insert(
+        &mut self,
+        front: &Front,
+        ids: &mut Ids,
+        key: &[u8],
+        row: &Row,
+    ) -> Result<Option<Row>, AllocError>
+        requires short { length key.now ≤ 2048 }
+        requires sound { self.old.spoiled ≡ false }
+        requires book { front.now.book ≡ ids.old.book }
+        requires left { ids.old.next + 4096 ≤ 2 ^ 63 }
+        requires below { AreBelow ids.old.next self.old.tree }
+        requires of { AreOf ids.old.book self.old.tree }
+        requires below_start { AreBelow ids.old.next self.old.start }
+
+        ensures pairs { OnOk result
+            (txn_pairs self.new ≡ put key.now row.now (txn_pairs self.old)) }
+        ensures old { IfOk result (λ r. r ≡ find key.now (txn_pairs self.old)) }
+        ensures start { self.new.start ≡ self.old.start }
+        ensures below { AreBelow ids.new.next self.new.tree }
+        ensures of { AreOf ids.new.book self.new.tree }
+        ensures drawn { IsDrawn front.now ids.old ids.new self.old.tree self.new.tree }
+        ensures below_start { AreBelow ids.new.next self.new.start }
+        ensures ids { (ids.old.next ≤ ids.new.next) × (ids.new.next ≤ ids.old.next + 4096) }
+        ensures book { ids.new.book ≡ ids.old.book }
+
+        ensures written { OnOk result ((keys : List Bytes)
+            → AreWritten self.old.start self.old.tree keys
+            → AreWritten self.new.start self.new.tree (key.now ∷ keys)) }
+
+        ensures unchanged { OnErr result (self.new.tree ≡ self.old.tree) }
+        ensures spoiled { self.new.spoiled ≡ is_err result }
+    {
+        // Brings the first tree's shape into the proof of what is kept.
+        let _ = self.start.root();
+        self.spoiled = true;
+        let mut cells = begin(&mut self.state, front, ids)?;
+        let (tree, old) = tree_with(&self.state.tree, key, row, &mut cells)?;
+        settle(&mut self.state, ids, tree, cells);
+        self.spoiled = false;
+        Ok(old)
+    }
+
+    /// Takes out a key, and gives the old row; `None`, where the key isn't stored, and then nothing
+    /// is copied and no cell is made. Else it takes memory for a copy of each node on the key's path,
+    /// each with a new cell, and is refused only for want of it, or of room to count one more owner of
+    /// a node or row; that spoils the transaction.
+    pub fn delete(
+        &mut self,
+        front: &Front,
+        ids: &mut Ids,
+        key: &[u8],
+    ) -> Result<Option<Row>, AllocError>
+        requires short { length key.now ≤ 2048 }
+        requires sound { self.old.spoiled ≡ false }
+        requires book { front.now.book ≡ ids.old.book }
+        requires left { ids.old.next + 4096 ≤ 2 ^ 63 }
+        requires below { AreBelow ids.old.next self.old.tree }
+        requires of { AreOf ids.old.book self.old.tree }
+        requires below_start { AreBelow ids.old.next self.old.start }
+
+        ensures pairs { OnOk result (txn_pairs self.new ≡ without key.now (txn_pairs self.old)) }
+        ensures old { IfOk result (λ r. r ≡ find key.now (txn_pairs self.old)) }
+        ensures missing { IfOk result
+            (λ r. IfNone r ((self.new ≡ self.old) × (ids.new ≡ ids.old))) }
+        ensures start { self.new.start ≡ self.old.start }
+        ensures below { AreBelow ids.new.next self.new.tree }
+        ensures of { AreOf ids.new.book self.new.tree }
+        ensures drawn { IsDrawn front.now ids.old ids.new self.old.tree self.new.tree }
+        ensures below_start { AreBelow ids.new.next self.new.start }
+        ensures ids { (ids.old.next ≤ ids.new.next) × (ids.new.next ≤ ids.old.next + 4096) }
+        ensures book { ids.new.book ≡ ids.old.book }
+
+        ensures written { IfOk result (λ r. (keys : List Bytes)
+            → AreWritten self.old.start self.old.tree keys
+            → AreWritten self.new.start self.new.tree (deleted_key key.now r keys)) }
+
+        ensures unchanged { OnErr result (self.new.tree ≡ self.old.tree) }
+        ensures spoiled { self.new.spoiled ≡ is_err result }
+    {
+        // Brings the first tree's shape into the proof of what is kept.
+        let _ = self.start.root();
+        self.spoiled = true;
+        let mut cells = begin(&mut self.state, front, ids)?;
+        let taken = remove::take(&self.state.tree, key, Target::Key, &mut cells)?;
+        let Some(taken) = taken else {
+            restore(&mut self.state, cells);
+            self.spoiled = false;
+            return Ok(None);
+        };
+        let Taken {
+            tree,
+            row,
+            count: _,
+        } = taken;
+        settle(&mut self.state, ids, tree, cells);
+        self.spoiled = false;
+        Ok(row)
+    }
+
+    /// Takes out the keys that begin with a prefix, and says how many they were; 0, where there is
+    /// no such key, and then nothing is copied and no cell is made. Else it takes memory for a copy of
+    /// each node on the prefix's path, each with a new cell, and is refused as [`TreeTxn::delete`] is.
+    /// It takes time in the number of keys that go.
+    pub fn delete_prefix(
+        &mut self,
+        front: &Front,
+        ids: &mut Ids,
+        prefix: &[u8],
+    ) -> Result<u64, AllocError>
+        requires short { length prefix.now ≤ 2048 }
+        requires sound { self.old.spoiled ≡ false }
+        requires book { front.now.book ≡ ids.old.book }
+        requires left { ids.old.next + 4096 ≤ 2 ^ 63 }
+        requires below { AreBelow ids.old.next self.old.tree }
+        requires of { AreOf ids.old.book self.old.tree }
+        requires below_start { AreBelow ids.old.next self.old.start }
+
+        ensures pairs { OnOk result
+            (txn_pairs self.new ≡ without_prefix prefix.now (txn_pairs self.old)) }
+        ensures count { IfOk result
+            (λ n. n + length (txn_pairs self.new) ≡ length (txn_pairs self.old)) }
+        ensures missing { IfOk result
+            (λ n. n ≡ 0 → (self.new ≡ self.old) × (ids.new ≡ ids.old)) }
+        ensures start { self.new.start ≡ self.old.start }
+        ensures below { AreBelow ids.new.next self.new.tree }
+        ensures of { AreOf ids.new.book self.new.tree }
+        ensures drawn { IsDrawn front.now ids.old ids.new self.old.tree self.new.tree }
+        ensures below_start { AreBelow ids.new.next self.new.start }
+        ensures ids { (ids.old.next ≤ ids.new.next) × (ids.new.next ≤ ids.old.next + 4096) }
+        ensures book { ids.new.book ≡ ids.old.book }
+
+        ensures written { OnOk result ((keys : List Bytes)
+            → AreWritten self.old.start self.old.tree keys
+            → AreWritten self.new.start self.new.tree
+            (deleted_keys prefix.now (txn_pairs self.old) keys)) }
+
+        ensures unchanged { OnErr result (self.new.tree ≡ self.old.tree) }
+        ensures spoiled { self.new.spoiled ≡ is_err result }
+    {
+        // Brings the first tree's shape into the proof of what is kept.
+        let _ = self.start.root();
+        self.spoiled = true;
+        let mut cells = begin(&mut self.state, front, ids)?;
+        let taken = remove::take(&self.state.tree, prefix, Target::Prefix, &mut cells)?;
+        let Some(taken) = taken else {
+            restore(&mut self.state, cells);
+            self.spoiled = false;
+            return Ok(0);
+        };
+        let Taken {
+            tree,
+            row: _,
+            count,
+        } = taken;
+        settle(&mut self.state, ids, tree, cells);
+        self.spoiled = false;
+        Ok(count)
+    }
+
+    /// Makes a write.
+    fn make(&mut self, front: &Front, ids: &mut Ids, write: &Write) -> Result<(), AllocError>
+        requires short { IsShort write.now }
+        requires sound { self.old.spoiled ≡ false }
+        requires book { front.now.book ≡ ids.old.book }
+        requires left { ids.old.next + 4096 ≤ 2 ^ 63 }
+        requires below { AreBelow ids.old.next self.old.tree }
+        requires of { AreOf ids.old.book self.old.tree }
+        requires below_start { AreBelow ids.old.next self.old.start }
+
+        ensures pairs { OnOk result
+            (txn_pairs self.new ≡ after_write write.now (txn_pairs self.old)) }
+        ensures start { self.new.start ≡ self.old.start }
+        ensures below { AreBelow ids.new.next self.new.tree }
+        ensures of { AreOf ids.new.book self.new.tree }
+        ensures drawn { IsDrawn front.now ids.old ids.new self.old.tree self.new.tree }
+        ensures below_start { AreBelow ids.new.next self.new.start }
+        ensures ids { (ids.old.next ≤ ids.new.next) × (ids.new.next ≤ ids.old.next + 4096) }
+        ensures book { ids.new.book ≡ ids.old.book }
+
+        ensures written { OnOk result ((keys : List Bytes)
+            → AreWritten self.old.start self.old.tree keys
+            → AreWritten self.new.start self.new.tree
+            (write_keys write.now (txn_pairs self.old) keys)) }
+
+        ensures unchanged { OnErr result (self.new.tree ≡ self.old.tree) }
+        ensures spoiled { self.new.spoiled ≡ is_err result }
+    {
+        match write {
+            Write::Insert { key, row } => drop(self.insert(front, ids, key, row)?),
+            Write::Delete { key } => drop(self.delete(front, ids, key)?),
+            Write::DeletePrefix { prefix } => drop(self.delete_prefix(front, ids, prefix)?),
+        }
+        Ok(())
+    }
+
+    /// Makes the writes one after another, and leaves what a plain sorted map has after them. It is
+    /// refused where one of them is, and then those before it are made.
+    pub fn apply(
+        &mut self,
+        front: &Front,
+        ids: &mut Ids,
+        writes: &[Write],
+    ) -> Result<(), AllocError>
+        requires short { All IsShort writes.now }
+        requires sound { self.old.spoiled ≡ false }
+        requires book { front.now.book ≡ ids.old.book }
+        requires left { ids.old.next + 4096 * length writes.now ≤ 2 ^ 63 }
+        requires below { AreBelow ids.old.next self.old.tree }
+        requires of { AreOf ids.old.book self.old.tree }
+        requires below_start { AreBelow ids.old.next self.old.start }
+
+        ensures pairs { OnOk result
+            (txn_pairs self.new ≡ after_writes writes.now (txn_pairs self.old)) }
+        ensures paths { (path : Bytes) → Has path (paths_of_plain (plain_of self.new.tree))
+            ↔ IsPath (txn_pairs self.new) path }
+        ensures start { self.new.start ≡ self.old.start }
+
+        ensures below { AreBelow ids.new.next self.new.tree }
+        ensures below_start { AreBelow ids.new.next self.new.start }
+        ensures of { AreOf ids.new.book self.new.tree }
+        ensures drawn { IsDrawn front.now ids.old ids.new self.old.tree self.new.tree }
+        ensures ids { (ids.old.next ≤ ids.new.next)
+            × (ids.new.next ≤ ids.old.next + 4096 * length writes.now) }
+        ensures book { ids.new.book ≡ ids.old.book }
+        ensures written { OnOk result ((keys : List Bytes)
+            → AreWritten self.old.start self.old.tree keys
+            → AreWritten self.new.start self.new.tree
+            (all_keys writes.now (txn_pairs self.old) keys)) }
+
+        ensures made { OnErr result ((n : ℕ) × (n < length writes.now)
+            × (txn_pairs self.new ≡ after_writes (take n writes.now) (txn_pairs self.old))) }
+        ensures spoiled { self.new.spoiled ≡ is_err result }
+    {
+        let made = self.make_all(front, ids, writes);
+        // By this law of all trees the nodes lie where the keys tell, also after an error.
+        paths_are_told_by_the_keys(&self.state.tree);
+        made
+    }
+
+    /// Makes the writes one after another.
+    fn make_all(&mut self, front: &Front, ids: &mut Ids, writes: &[Write]) -> Result<(), AllocError>
+        requires short { All IsShort writes.now }
+        requires sound { self.old.spoiled ≡ false }
+        requires book { front.now.book ≡ ids.old.book }
+        requires left { ids.old.next + 4096 * length writes.now ≤ 2 ^ 63 }
+        requires below { AreBelow ids.old.next self.old.tree }
+        requires of { AreOf ids.old.book self.old.tree }
+        requires below_start { AreBelow ids.old.next self.old.start }
+
+        ensures pairs { OnOk result
+            (txn_pairs self.new ≡ after_writes writes.now (txn_pairs self.old)) }
+        ensures start { self.new.start ≡ self.old.start }
+
+        ensures below { AreBelow ids.new.next self.new.tree }
+        ensures below_start { AreBelow ids.new.next self.new.start }
+        ensures of { AreOf ids.new.book self.new.tree }
+        ensures drawn { IsDrawn front.now ids.old ids.new self.old.tree self.new.tree }
+        ensures ids { (ids.old.next ≤ ids.new.next)
+            × (ids.new.next ≤ ids.old.next + 4096 * length writes.now) }
+        ensures book { ids.new.book ≡ ids.old.book }
+        ensures written { OnOk result ((keys : List Bytes)
+            → AreWritten self.old.start self.old.tree keys
+            → AreWritten self.new.start self.new.tree
+            (all_keys writes.now (txn_pairs self.old) keys)) }
+
+        ensures made { OnErr result ((n : ℕ) × (n < length writes.now)
+            × (txn_pairs self.new ≡ after_writes (take n writes.now) (txn_pairs self.old))) }
+        ensures spoiled { self.new.spoiled ≡ is_err result }
+    {
+        for write in writes {
+            self.make(front, ids, write)?;
+        }
+        Ok(())
+    }
+}
+
+/// Where a write gets its cells, and what has become of the first tree's so far.
+fn begin(state: &mut State, front: &Front, ids: &Ids) -> Result<Cells, AllocError>
+    requires book { front.now.book ≡ ids.now.book }
+    requires begun { state.old.changed ≡ true → state.old.first ≤ ids.now.next }
+    ensures tree { state.new.tree ≡ state.old.tree }
+    ensures changed { state.new.changed ≡ state.old.changed }
+    ensures first { state.new.first ≡ state.old.first }
+    ensures ledger { IfOk result (λ c. c ≡ record {
+      log = front.now;
+      first = if state.old.changed then state.old.first else ids.now.next;
+      next = ids.now.next;
+      left = map arc_value state.old.left.items;
+    }) }
+{
+    let front = front.share();
+    let ids = ids.share()?;
+    let first = if state.changed {
+        state.first
+    } else {
+        ids.next()
+    };
+    let alloc = state.tree.root().edges().allocator();
+    let left = mem::replace(&mut state.left, Vec::new(alloc));
+    Ok(Cells {
+        front,
+        ids,
+        first,
+        left,
+    })
+}
+
+/// What a write that changes nothing leaves.
+fn restore(state: &mut State, cells: Cells)
+    ensures tree { state.new.tree ≡ state.old.tree }
+    ensures changed { state.new.changed ≡ state.old.changed }
+    ensures first { state.new.first ≡ state.old.first }
+    ensures left { map arc_value state.new.left.items ≡ cells.left }
+{
+    let Cells { left, .. } = cells;
+    state.left = left;
+}
+
+/// What a write leaves.
+fn settle(state: &mut State, ids: &mut Ids, tree: Tree, cells: Cells)
+    ensures tree { state.new.tree ≡ tree }
+    ensures changed { state.new.changed ≡ true }
+    ensures first { state.new.first ≡ cells.first }
+    ensures left { map arc_value state.new.left.items ≡ cells.left }
+    ensures ids { ids.new ≡ record { book = cells.log.book; next = cells.next } }
+{
+    let Cells {
+        front: _,
+        ids: drawn,
+        first,
+        left,
+    } = cells;
+    *ids = drawn;
+    state.tree = tree;
+    state.changed = true;
+    state.first = first;
+    state.left = left;
+}

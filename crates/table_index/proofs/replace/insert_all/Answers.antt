@@ -1,0 +1,16 @@
+use Rattle.std.proofs.Common.{◌<◌, length, sym, arith, rules}
+use Rattle.std.proofs.lemmas.Grind.{common_steps}
+use Rattle.table_index.proofs.WrittenTrees.{wrote_key}
+use Rattle.table_index.proofs.replace.insert_all.Goals as goal
+
+pub loop-key-preserved : goal.loop-key-preserved
+loop-key-preserved c =
+    let within : c.loop-key.key-index < length c.args.keys.now = omega arith in
+    record {
+      sound = search rules;
+      pairs = grind (arith, common_steps);
+      drawn = search rules;
+      written =
+          wrote_key c.args.keys.now c.args.txn.now c.loop-key.txn c.insert.new.txn c.key-item.result c.loop-key.invariant.written c.in_ok-insert.ensures.written
+          (c.loop-key.key-index, within, sym c.key-item.is);
+    }

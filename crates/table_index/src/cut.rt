@@ -1,0 +1,170 @@
+//! The beginning of a wipe: the rows that it lists, and the cut of their index.
+ghost use Rattle.std.specs.Prelude.{◌≡◌, ◌⊎◌, ◌+◌, ◌*◌, ◌<◌, ◌≤◌, ◌^◌, true, false, IfErr, IfOk, MatchResult, OnOk};
+ghost use Rattle.std.specs.Prelude.{Contains, length, map, slice_get};
+ghost use Rattle.mdb_datum.specs.Row.{Fields};
+ghost use Rattle.mdb_schema.specs.LawfulSchema.{IsLawfulTable};
+ghost use Rattle.mdb_schema.specs.Wipe.{once};
+ghost use Rattle.mdb_schema.specs.Write.{is_among};
+ghost use Rattle.radix_txn.specs.Txn.{txn_pairs};
+ghost use Rattle.table_index.specs.Table.{AreLeft, AreSpent};
+ghost use Rattle.table_index.specs.declared.wipe_error.WipeError.TheVariants.{Memory};
+ghost use Rattle.table_index.specs.inner.Drawn.{AreReady, HaveDrawn};
+ghost use Rattle.table_index.specs.inner.Held.{AreSound, AreTrees, nodes_of};
+ghost use Rattle.table_index.specs.inner.Wipes.{BeginsWipe, GivesUp, IsStored, cut_at, listed_from};
+ghost use Rattle.table_index.specs.inner.Writes.{TreesWrote, IsCutAt};
+
+use crate::id_key::IdKey;
+use crate::ids_left::has_ids;
+use crate::refusal::of_stored;
+use crate::row_keys::id_key_of;
+use crate::tree_edit::delete_prefix;
+use crate::wipe_error::WipeError;
+use mdb_schema::TableDef;
+use radix_iter::{Walk, ascend};
+use radix_node::Ids;
+use radix_txn::TreeTxn;
+use std::alloc::{AllocError, Global};
+use watch_word::Front;
+
+/// A walk over the rows that the index at a place lists under a key, once the keys that begin with it
+/// are out of its tree; `None` where it lists no row, and then nothing has changed.
+pub(crate) fn cut_listed(
+    alloc: Global,
+    def: &TableDef,
+    txns: &mut [TreeTxn],
+    front: &Front,
+    ids: &mut Ids,
+    place: usize,
+    key: &[u8],
+) -> Result<Option<Walk>, WipeError>
+    requires lawful { IsLawfulTable def.now }
+    requires place { place < length txns.old }
+    requires short { length key.now ≤ 2048 }
+    requires ready { AreReady front.now ids.old txns.old }
+    requires held { AreTrees def.now (nodes_of txns.old) }
+    ensures answers { let rows = length (once def.now (listed_from key.now (slice_get txns.old place))) in
+        MatchResult result
+        (λ listed. BeginsWipe def.now place key.now ids.old.next txns.old txns.new listed)
+        (λ e. GivesUp ids.old.next rows e txns.old txns.new) }
+    ensures drawn { let rows = length (once def.now (listed_from key.now (slice_get txns.old place))) in
+        HaveDrawn front.now (4096 * rows) ids.old ids.new txns.old txns.new }
+    ensures refused { IfErr result (λ e. (e ≡ Memory) ⊎ (ids.new ≡ ids.old)) }
+    ensures written { OnOk result
+        (TreesWrote (IsCutAt place key.now txns.old) txns.old txns.new) }
+{
+    let listed = walk_at(alloc, txns, place, key)?;
+    let count = listed.len();
+    let enough = are_enough(alloc, def, txns, ids, place, key, count)?;
+    if !enough {
+        return Err(WipeError::IdsSpent);
+    }
+    if count == 0 {
+        return Ok(None);
+    }
+    cut_at(txns, front, ids, place, key)?;
+    Ok(Some(listed))
+}
+
+/// A walk over the rows that the index at a place lists under a key.
+fn walk_at(
+    alloc: Global,
+    txns: &mut [TreeTxn],
+    place: usize,
+    key: &[u8],
+) -> Result<Walk, AllocError>
+    requires place { place < length txns.old }
+    requires sound { AreSound txns.old }
+    ensures rows { IfOk result (λ w. w ≡ listed_from key.now (slice_get txns.old place)) }
+    ensures unchanged { txns.new ≡ txns.old }
+{
+    let txn = &mut txns[place];
+    let tree = txn.stand()?;
+    ascend(alloc, &tree, key)
+}
+
+/// Takes the keys that begin with a key out of the tree at a place.
+fn cut_at(
+    txns: &mut [TreeTxn],
+    front: &Front,
+    ids: &mut Ids,
+    place: usize,
+    key: &[u8],
+) -> Result<(), AllocError>
+    requires place { place < length txns.old }
+    requires short { length key.now ≤ 2048 }
+    requires ready { AreReady front.now ids.old txns.old }
+    requires left { ids.old.next + 4096 ≤ 2 ^ 63 }
+    ensures pairs { OnOk result
+        (map txn_pairs txns.new ≡ cut_at key.now (map txn_pairs txns.old) place) }
+    ensures sound { OnOk result (AreSound txns.new) }
+    ensures drawn { HaveDrawn front.now 4096 ids.old ids.new txns.old txns.new }
+    ensures written { OnOk result
+        (TreesWrote (IsCutAt place key.now txns.old) txns.old txns.new) }
+{
+    let txn = &mut txns[place];
+    delete_prefix(txn, front, ids, key)
+}
+
+/// Whether there are ids for the rows that the index at a place lists under a key so many times. Mostly
+/// there are enough for as many rows as entries are listed; else the rows are counted.
+fn are_enough(
+    alloc: Global,
+    def: &TableDef,
+    txns: &mut [TreeTxn],
+    ids: &Ids,
+    place: usize,
+    key: &[u8],
+    count: usize,
+) -> Result<bool, WipeError>
+    requires lawful { IsLawfulTable def.now }
+    requires place { place < length txns.old }
+    requires sound { AreSound txns.old }
+    requires held { AreTrees def.now (nodes_of txns.old) }
+    requires counted { count ≡ length (listed_from key.now (slice_get txns.old place)) }
+    ensures answers { let rows = length (once def.now (listed_from key.now (slice_get txns.old place))) in
+        MatchResult result
+        (λ enough. (enough ≡ true → AreLeft ids.now.next rows)
+        × (enough ≡ false → AreSpent ids.now.next rows))
+        (λ e. e ≡ Memory) }
+    ensures unchanged { txns.new ≡ txns.old }
+{
+    if has_ids(ids, count) {
+        return Ok(true);
+    }
+    let listed = walk_at(alloc, txns, place, key)?;
+    let rows = count_once(alloc, def, listed)?;
+    Ok(has_ids(ids, rows))
+}
+
+/// How many rows a walk gives, each counted once. It takes memory for their `id` keys, and time in the
+/// square of their number.
+fn count_once(alloc: Global, def: &TableDef, mut listed: Walk) -> Result<usize, WipeError>
+    requires lawful { IsLawfulTable def.now }
+    requires stored { (r : Fields) → Contains listed r → IsStored def.now r }
+    ensures { MatchResult result
+        (λ count. count ≡ length (once def.now listed)) (λ e. e ≡ Memory) }
+{
+    let mut seen: Vec<IdKey> = Vec::new(alloc);
+    'rows: while let Some(row) = listed.next()? {
+        let id = match id_key_of(alloc, def, &row) {
+            Ok(id) => id,
+            Err(error) => return Err(of_stored(error)),
+        };
+        if !is_among(&seen, &id) {
+            seen.push(id)?;
+        }
+    }
+    Ok(seen.len())
+}
+
+/// Whether a key is one of these.
+fn is_among(keys: &[IdKey], key: &IdKey) -> bool
+    ensures { result ≡ is_among keys.now key.now }
+{
+    for own in keys {
+        if key.bytes() == own.bytes() {
+            return true;
+        }
+    }
+    false
+}

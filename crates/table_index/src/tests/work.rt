@@ -1,0 +1,178 @@
+//! Tables and changes with what their writes draw cells from.
+ghost use Rattle.std.specs.Prelude.{◌≡◌, ◌+◌, ◌≤◌, ◌^◌, false, IfOk, MatchResult};
+ghost use Rattle.mdb_schema.specs.Answer.{ask_rows};
+ghost use Rattle.mdb_schema.specs.Refusals.{AnswersAsk};
+
+use crate::{Notices, Table, TableTxn, WipeError};
+use mdb_datum::Row;
+use mdb_schema::{Answer, AskError, Query, Rows, TableDef, WriteError};
+use radix_node::Ids;
+use std::alloc::{AllocError, Global};
+use std::marker::Model;
+use watch_word::{Front, open_book};
+
+/// A table.
+#[derive(Drop)]
+pub struct Base {
+    table: Table,
+    front: Front,
+    ids: Ids,
+}
+
+impl Model for Base {
+    ghost use Rattle.std.specs.Prelude.{◌≡◌};
+    ghost use Rattle.table_index.specs.Table.{AreAllBelow, AreAllOf, TableRows};
+    ghost use Rattle.table_index.specs.inner.Stored.{table_rows_code};
+
+    ghost Value = { TableRows };
+
+    ghost coded = { table_rows_code };
+
+    ghost view = { λ b. b.table };
+
+    ghost invariant = { λ b. (b.front.book ≡ b.ids.book)
+        × AreAllBelow b.ids.next b.table.trees × AreAllOf b.ids.book b.table.trees };
+}
+
+impl Base {
+    /// A table without rows, whose ids begin with 0.
+    pub fn empty(alloc: Global, def: &TableDef) -> Result<Base, AllocError> {
+        Base::from_id(alloc, def, 0)
+    }
+
+    /// A table without rows, whose ids begin here.
+    pub fn from_id(alloc: Global, def: &TableDef, next: u64) -> Result<Base, AllocError>
+        requires { next + 32 ≤ 2 ^ 63 }
+    {
+        let (book, front) = open_book(alloc)?;
+        let mut ids = Ids::starting(book, next);
+        let table = Table::empty(alloc, def, &front, &mut ids)?;
+        Ok(Base { table, front, ids })
+    }
+
+    pub fn share(&self) -> Result<Base, AllocError> {
+        Ok(Base {
+            table: self.table.share()?,
+            front: self.front.share(),
+            ids: self.ids.share()?,
+        })
+    }
+
+    pub fn table(&self) -> &Table
+        ensures { result.now ≡ self.now }
+    {
+        &self.table
+    }
+
+    pub fn ask(&self, query: &Query) -> Result<Answer, AskError> {
+        self.table.ask(query)
+    }
+
+    pub fn txn(&self) -> Result<Work, AllocError>
+        ensures { IfOk result (λ w. w.spoiled ≡ false) }
+    {
+        Ok(Work {
+            txn: self.table.txn()?,
+            front: self.front.share(),
+            ids: self.ids.share()?,
+        })
+    }
+}
+
+/// A change.
+#[derive(Drop)]
+pub struct Work {
+    txn: TableTxn,
+    front: Front,
+    ids: Ids,
+}
+
+impl Model for Work {
+    ghost use Rattle.std.specs.Prelude.{◌≡◌};
+    ghost use Rattle.table_index.specs.Table.{AreAllBelow, AreAllOf, TableChange};
+    ghost use Rattle.table_index.specs.inner.Stored.{table_change_code};
+
+    ghost Value = { TableChange };
+
+    ghost coded = { table_change_code };
+
+    ghost view = { λ w. w.txn };
+
+    ghost invariant = { λ w. (w.front.book ≡ w.ids.book)
+        × AreAllBelow w.ids.next w.txn.trees × AreAllOf w.ids.book w.txn.trees
+        × AreAllBelow w.ids.next w.txn.start };
+}
+
+impl Work {
+    pub fn spoiled(&self) -> bool
+        ensures { result ≡ self.now.spoiled }
+    {
+        self.txn.spoiled()
+    }
+
+    pub fn def(&self) -> &TableDef {
+        &self.txn.def
+    }
+
+    pub fn put(&mut self, row: &Row) -> Result<bool, WriteError>
+        requires sound { self.old.spoiled ≡ false }
+    {
+        self.txn.put(&self.front, &mut self.ids, row)
+    }
+
+    pub fn remove(&mut self, row: &Row) -> Result<Row, WriteError>
+        requires sound { self.old.spoiled ≡ false }
+    {
+        self.txn.remove(&self.front, &mut self.ids, row)
+    }
+
+    pub fn take_all(&mut self, query: &Query) -> Result<Rows, WipeError>
+        requires sound { self.old.spoiled ≡ false }
+    {
+        self.txn.take_all(&self.front, &mut self.ids, query)
+    }
+
+    pub fn take_prefix(&mut self, query: &Query) -> Result<Rows, WipeError>
+        requires sound { self.old.spoiled ≡ false }
+    {
+        self.txn.take_prefix(&self.front, &mut self.ids, query)
+    }
+
+    pub fn remove_all(&mut self, query: &Query) -> Result<u64, WipeError>
+        requires sound { self.old.spoiled ≡ false }
+    {
+        self.txn.remove_all(&self.front, &mut self.ids, query)
+    }
+
+    pub fn remove_prefix(&mut self, query: &Query) -> Result<u64, WipeError>
+        requires sound { self.old.spoiled ≡ false }
+    {
+        self.txn.remove_prefix(&self.front, &mut self.ids, query)
+    }
+
+    pub fn ask(&mut self, query: &Query) -> Result<Answer, AskError>
+        requires sound { self.old.spoiled ≡ false }
+        ensures { self.new ≡ self.old }
+    {
+        self.txn.ask(query)
+    }
+
+    /// The present table, by the same ids.
+    pub fn stand(&mut self) -> Result<Base, AllocError>
+        requires sound { self.old.spoiled ≡ false }
+        ensures { self.new ≡ self.old }
+    {
+        Ok(Base {
+            table: self.txn.stand()?,
+            front: self.front.share(),
+            ids: self.ids.share()?,
+        })
+    }
+
+    pub fn freeze(self) -> Result<(Table, Notices), AllocError>
+        requires sound { self.spoiled ≡ false }
+    {
+        let Work { txn, .. } = self;
+        txn.freeze()
+    }
+}
