@@ -3,6 +3,7 @@ ghost use Rattle.std.specs.Prelude.{◌≡◌, ◌++◌, ◌∷◌, [], IfOk, On
 ghost use Rattle.client_script.specs.Refusal.{error_line, error_word};
 ghost use Rattle.mdb_datum.specs.Doc.{text};
 ghost use Rattle.mdb_datum.specs.Written.{compact};
+ghost use Rattle.mdb_schema.specs.RuleWord.{rule_word};
 ghost use Rattle.memdb.specs.Outcome.{name_line, name_part, line_part, broken_text, script_text, not_yet_text};
 ghost use Rattle.memdb.specs.Words.{usage_text};
 
@@ -41,10 +42,18 @@ pub fn broken_schema(
         × (output.text.items
         ≡ broken_text (record { rule = rule; table = table; index = index }))) }
 {
-    let mut text = Vec::from_slice(alloc, b"schema ")?;
-    text.extend_from_slice(rule.word().as_bytes())?;
+    let mut text = schema_rule(alloc, rule)?;
     write_names(alloc, table, index, &mut text)?;
     Ok(Output { status: 2, text })
+}
+
+/// `schema `, and the name of a rule of schemas.
+fn schema_rule(alloc: Global, rule: SchemaRule) -> Result<Vec<u8>, AllocError>
+    ensures { IfOk result (λ text. text.items ≡ codes "schema " ++ rule_word rule) }
+{
+    let mut text = Vec::from_slice(alloc, b"schema ")?;
+    text.extend_from_slice(rule.word().as_bytes())?;
+    Ok(text)
 }
 
 /// Adds the names of a table and an index, where they are there, and ends the line.
@@ -77,9 +86,16 @@ fn write_name(alloc: Global, name: Option<Text>, out: &mut Vec<u8>) -> Result<()
 fn write_quoted(alloc: Global, name: Text, out: &mut Vec<u8>) -> Result<(), AllocError>
     ensures { OnOk result (out.new.items ≡ out.old.items ++ (32 ∷ compact (text name))) }
 {
-    let quoted = write_doc(alloc, &Datum::Str(name))?;
+    let quoted = quoted(alloc, name)?;
     out.push(b' ')?;
     out.extend_from_slice(&quoted)
+}
+
+/// A name as a JSON text.
+fn quoted(alloc: Global, name: Text) -> Result<Vec<u8>, AllocError>
+    ensures { IfOk result (λ quoted. quoted.items ≡ compact (text name)) }
+{
+    write_doc(alloc, &Datum::Str(name))
 }
 
 /// The script of this client breaks a rule, perhaps in a line.

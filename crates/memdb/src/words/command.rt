@@ -1,9 +1,9 @@
 //! The command line, read by `clap`.
-ghost use Rattle.std.specs.Prelude.{◌≡◌, IfOk, map, option_map, true};
+ghost use Rattle.std.specs.Prelude.{◌≡◌, IfOk, false, map, option_map, true};
 ghost use Rattle.std.specs.List.{list_all};
-ghost use Rattle.clap.specs.Words.{app_of, found_of, rows_of};
+ghost use Rattle.clap.specs.Words.{app_of, found_of, rows_of, rule_of};
 ghost use Rattle.memdb.specs.Words.{may_name_a_file, run_of};
-ghost use Rattle.memdb.specs.inner.CommandLine.{AreRead, files_in, files_of_matches, program};
+ghost use Rattle.memdb.specs.inner.CommandLine.{AreRead, bare, clients_rule, files_in, files_of_matches, program, schema_rule};
 ghost use Rattle.memdb.specs.inner.FilesOf.{files_of};
 
 use clap::error::ErrorKind;
@@ -25,8 +25,16 @@ pub fn read_command(alloc: Global, words: &[Text]) -> Result<Option<RunFiles>, A
     ensures { IfOk result (λ r. option_map files_of r ≡ run_of words.now) }
 {
     let texts = texts(alloc, words)?;
+    Ok(read_texts(alloc, &texts)?)
+}
+
+/// The same of words as `clap` takes them.
+fn read_texts<'a>(alloc: Global, words: &'a [&'a str]) -> Result<Option<RunFiles>, AllocError>
+    requires plain { list_all may_name_a_file (map (λ w. w.now) words.now) ≡ true }
+    ensures { IfOk result (λ r. option_map files_of r ≡ run_of (map (λ w. w.now) words.entry.now)) }
+{
     let command = program(alloc)?;
-    match parsed(command, &texts)? {
+    match parsed(command, words)? {
         Some(matches) => read_files(alloc, &matches),
         None => Ok(None),
     }
@@ -37,15 +45,37 @@ pub fn read_command(alloc: Global, words: &[Text]) -> Result<Option<RunFiles>, A
 fn program<'a>(alloc: Global) -> Result<Command<'a>, AllocError>
     ensures { IfOk result (λ c. app_of c ≡ program) }
 {
-    let schema = Arg::new(alloc, "schema").required(true);
-    let clients = Arg::new(alloc, "clients").required(true).num_args(1..=64);
-    let run = Command::new(alloc, "run").arg(schema)?.arg(clients)?;
-    let bare = Command::new(alloc, "memdb")
+    let run = Command::new(alloc, "run")
+        .arg(schema_word(alloc))?
+        .arg(client_words(alloc))?;
+    Ok(bare(alloc).subcommand(run)?)
+}
+
+/// The program with no command.
+fn bare<'a>(alloc: Global) -> Command<'a>
+    ensures { app_of result ≡ bare }
+{
+    Command::new(alloc, "memdb")
         .no_binary_name(true)
         .disable_help_flag(true)
         .disable_help_subcommand(true)
-        .subcommand_required(true);
-    Ok(bare.subcommand(run)?)
+        .subcommand_required(true)
+}
+
+/// The word that names the schema's file.
+fn schema_word<'a>(alloc: Global) -> Arg<'a>
+    ensures rule { rule_of result ≡ schema_rule }
+    ensures local { result.global ≡ false }
+{
+    Arg::new(alloc, "schema").required(true)
+}
+
+/// The words that name the clients' files.
+fn client_words<'a>(alloc: Global) -> Arg<'a>
+    ensures rule { rule_of result ≡ clients_rule }
+    ensures local { result.global ≡ false }
+{
+    Arg::new(alloc, "clients").required(true).num_args(1..=64)
 }
 
 /// What `clap` makes of the words.
