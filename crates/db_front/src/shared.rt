@@ -57,6 +57,7 @@ impl<V: Version> Shared<V> {
         ensures whole { 0 < pass.old.stage → pass.new.seen ≡ pass.old.seen }
         ensures counts { IsPrefix pass.old.counts pass.new.counts }
         ensures room { length pass.new.seen ≤ 2 ^ 63 + 1 }
+        ensures stood { (v : V) × V.stands pass.new.seen v }
         ensures value { IfOk result (λ s. V.stands pass.new.seen (arc_value s.value)) }
         ensures number { IfOk result (λ s. IsNumber pass.old pass.new s.number) }
         ensures finished { IfOk result (λ s. AllOrAllButLast s.finished s.number) }
@@ -95,6 +96,7 @@ impl<V: Version> Shared<V> {
         ensures tries { IsPrefix pass.old.tries pass.new.tries }
         ensures won { WonAtLast pass.old pass.new }
         ensures room { length pass.new.seen ≤ 2 ^ 63 + 1 }
+        ensures stood { (v : V) × V.stands pass.new.seen v }
         ensures value { IfOk result (λ s. V.stands pass.new.seen (arc_value s.value)) }
         ensures number { IfOk result (λ s. IsNumber pass.old pass.new s.number) }
         ensures finished { IfOk result (λ s. s.finished ≡ s.number) }
@@ -134,6 +136,7 @@ impl<V: Version> Shared<V> {
         } }
         ensures seen { IsPrefix pass.old.seen pass.new.seen }
         ensures counts { IsPrefix pass.old.counts pass.new.counts }
+        ensures stood { OnErr result ((v : V) × V.stands pass.new.seen v) }
         ensures value { IfBegun result (λ s. V.stands pass.new.seen (arc_value s.value)) }
         ensures number { IfBegun result (λ s. IsNumber pass.old pass.new s.number) }
         ensures finished { IfBegun result (λ s. s.finished ≡ s.number) }

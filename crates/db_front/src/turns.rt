@@ -103,6 +103,7 @@ pub(crate) fn see<V: Version, R: Wait>(
     requires free { IsFree place.old number }
     ensures seat { IsSame place.old place.new × (place.new.me.1 ≡ []) }
     ensures sees { Sees V.fired place.old.me.0 place.new.me.0 result.0 result.1 }
+    ensures stood { (v : V) × V.stands place.new.me.0.seen v }
     ensures value { IfOk result.2 (λ c. V.stands place.new.me.0.seen c.0) }
     ensures log { IfOk result.2 (λ c. c.1 ≡ place.new.me.0.log) }
 {
@@ -127,6 +128,7 @@ pub(crate) fn see_begun<V: Version, R: Wait>(
     requires free { IsFree place.old number × (place.old.me.0.stage ≡ 1) }
     ensures seat { IsSame place.old place.new }
     ensures view { SeesBegun place.old place.new result.0 }
+    ensures stood { (v : V) × V.stands place.old.me.0.seen v }
     ensures value { IfOk result.1 (λ c. V.stands place.old.me.0.seen c.0) }
     ensures log { IfOk result.1 (λ c. HasFirings V.fired result.0 place.old.me.0.seen c.1) }
     ensures held { OnOk result.1 (place.new.me.0.stage ≡ 1) }
