@@ -8,7 +8,7 @@ use Rattle.std.proofs.lemmas.List.{length-append}
 use Rattle.mdb_datum.specs.Bytes.{Bytes}
 use Rattle.mdb_datum.specs.Row.{Fields}
 use Rattle.mdb_schema.specs.Answer.{Asked, ask}
-use Rattle.mdb_schema.specs.History.{Commit, History, after_writes, after_commits, state_at, state_or}
+use Rattle.mdb_schema.specs.History.{Commit, History, after_writes, after_commits, state_at, state_or, writes_in}
 use Rattle.mdb_schema.specs.LawfulSchema.{IsLawfulSchema}
 use Rattle.mdb_schema.specs.Query.{Query}
 use Rattle.mdb_schema.specs.Schema.{DbSchema, IndexSchema}
@@ -22,7 +22,7 @@ use Rattle.client_script.specs.Client.{Sight, Writing, Transaction, closed, read
 use Rattle.client_script.specs.Legal.{Legal, printed, number_printed, all_printed, callers}
 use Rattle.client_script.specs.Reply.{Reply, committed, deleted, wiped, answered, output_text}
 use Rattle.client_script.specs.Session.{IsEntry, Runs, Sessions}
-use Rattle.client_script.specs.Spent.{writes_in, is_write, IsTold, by_turn, without_ids}
+use Rattle.client_script.specs.Spent.{is_write, IsTold, by_turn, without_ids}
 use Rattle.client_script.specs.Turn.{Turn, turn, write_turn, wipe_turn, question_turn, outcome, stepped, asked, indexes_of, with_writes, insert_reply, commit_limit}
 use Rattle.client_script.specs.declared.command.Command.{Command}
 use Rattle.client_script.specs.declared.command.Command.TheVariants as command

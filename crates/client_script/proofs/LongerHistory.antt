@@ -8,7 +8,7 @@ use Rattle.mdb_datum.specs.Bytes.{Bytes}
 use Rattle.mdb_datum.specs.Row.{Fields}
 use Rattle.mdb_schema.specs.Answer.{Asked, ask}
 use Rattle.mdb_schema.specs.Query.{Query}
-use Rattle.mdb_schema.specs.History.{History, after_commits, state_at, after_writes}
+use Rattle.mdb_schema.specs.History.{History, after_commits, state_at, after_writes, writes_in}
 use Rattle.mdb_schema.specs.Schema.{DbSchema}
 use Rattle.mdb_schema.specs.State.{State, empty_state}
 use Rattle.mdb_schema.specs.Tests.{◌>>=◌, needed, passed}
@@ -19,7 +19,7 @@ use Rattle.client_script.specs.Reply.{Reply, read_at, write_at, ended, committed
 use Rattle.client_script.specs.Turn.{Turn, insert_reply, turn, write_turn, wipe_turn, question_turn, outcome, stepped, asked, indexes_of, with_writes, commit_limit}
 use Rattle.client_script.specs.Legal.{number_printed}
 use Rattle.client_script.specs.Session.{IsCommit, IsEntry, Answers, Runs, Session}
-use Rattle.client_script.specs.Spent.{writes_in, IsSpent, IsTold, by_turn, without_ids}
+use Rattle.client_script.specs.Spent.{IsSpent, IsTold, by_turn, without_ids}
 use Rattle.client_script.proofs.SpentIds.{told_so}
 use Rattle.client_script.specs.declared.command.Command.{Command}
 use Rattle.client_script.specs.declared.command.Command.TheVariants as command

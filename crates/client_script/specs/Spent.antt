@@ -1,17 +1,12 @@
 -- What a line may be told in place of its turn: that there are too few ids for what it writes.
 use Rattle.std.specs.Prelude.{◌≡◌, ◌≢◌, ◌≤◌, ◌+◌, ◌^◌, ℕ, Bool, true, false, List, [], ◌∷◌, length, take, Ok, codes, ⊤}
-use Rattle.mdb_schema.specs.History.{History}
+use Rattle.mdb_schema.specs.History.{History, writes_in}
 use Rattle.mdb_schema.specs.Schema.{DbSchema}
 use Rattle.client_script.specs.Client.{Client, Writing, writing}
 use Rattle.client_script.specs.Reply.{Reply, refused}
 use Rattle.client_script.specs.Turn.{turn, outcome}
 use Rattle.client_script.specs.declared.command.Command.{Command}
 use Rattle.client_script.specs.declared.command.Command.TheVariants as command
-
--- how many writes commits have
-abbrev pub writes_in : History → ℕ
-writes_in [] = 0
-writes_in (c ∷ H) = length c.writes + writes_in H
 
 -- a line that writes rows
 abbrev pub is_write : Command → Bool

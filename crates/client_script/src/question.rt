@@ -61,5 +61,5 @@ pub(crate) fn query_in(alloc: Global, question: &Question) -> Result<Query, Line
     let table = name_in(alloc, question.table)?;
     let index = index_name_in(alloc, question.index)?;
     let args = args_in(alloc, question.args)?;
-    Ok(Query::from_parts(question.ask, table, index, args))
+    Ok(Query::from_parts(alloc, question.ask, table, index, args)?)
 }

@@ -9,6 +9,7 @@ use Rattle.std.proofs.lemmas.Option.{slice_get_within, get_or_from_slice_get}
 use Rattle.mdb_datum.specs.Bytes.{Bytes}
 use Rattle.mdb_schema.specs.History.{Commit, History}
 use Rattle.mdb_schema.specs.Schema.{DbSchema}
+use Rattle.mem_txn.specs.CellHistory.{Forest}
 use Rattle.mem_txn.specs.Database.{Caller, Database, IsOf}
 use Rattle.client_script.proofs.LongerHistory.{runs_longer, runs_more, start_within}
 use Rattle.client_session.specs.Begun.{AreAmong, begun_numbers, number_begun}
@@ -122,6 +123,8 @@ later_again p q r one two = record {
   number = two.number ∙ one.number;
   database = two.database ∙ one.database;
   schema = two.schema ∙ one.schema;
+  book = two.book ∙ one.book;
+  trees = prefix_again p.trees q.trees r.trees one.trees two.trees;
   seen = prefix_again p.seen q.seen r.seen one.seen two.seen;
   counts = prefix_again p.counts q.counts r.counts one.counts two.counts;
   tries = prefix_again p.tries q.tries r.tries one.tries two.tries;
@@ -169,9 +172,12 @@ module _ (pass : Caller) (done : List Line) (d d' : Desk) (before now after : By
   step : Replied l.command d d' r carried.client
   step = replies.replied carried.client carried.follows
 
-  grown : caller_of d'.«open» ≡ record p { seen = p.seen ++ new; own = p.own ++ new }
-  unfolding p new
-  grown = replies.grows
+  trees : List Forest
+  trees = replies.grows.0
+
+  grown : caller_of d'.«open» ≡ record p { seen = p.seen ++ new; trees = p.trees ++ trees; own = p.own ++ new }
+  unfolding p new trees
+  grown = replies.grows.1
 
   runs_more_line : Runs pass.schema (caller_of d'.«open»).seen pass.number at_start (done ++ l ∷ []) (carried.replies ++ r ∷ []) step.next
   unfolding p new step
@@ -186,7 +192,9 @@ module _ (pass : Caller) (done : List Line) (d d' : Desk) (before now after : By
     number = ap (λ (q : Caller). q.number) grown;
     database = ap (λ (q : Caller). q.database) grown;
     schema = ap (λ (q : Caller). q.schema) grown;
+    book = ap (λ (q : Caller). q.book) grown;
     seen = (new, sym (ap (λ (q : Caller). q.seen) grown));
+    trees = (trees, sym (ap (λ (q : Caller). q.trees) grown));
     counts = ([], append-nil p.counts ∙ sym (ap (λ (q : Caller). q.counts) grown));
     tries = ([], append-nil p.tries ∙ sym (ap (λ (q : Caller). q.tries) grown));
   })

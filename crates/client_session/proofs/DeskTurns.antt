@@ -12,7 +12,8 @@ use Rattle.std.proofs.lemmas.Slice.Eq.{bytes_eq-Decides}
 use Rattle.mdb_datum.specs.Bytes.{Bytes}
 use Rattle.mdb_schema.specs.History.{Commit, History, after_commits, after_writes}
 use Rattle.mdb_schema.specs.Schema.{DbSchema}
-use Rattle.mem_txn.specs.Database.{Caller, View}
+use Rattle.mem_txn.specs.CellHistory.{Forest}
+use Rattle.mem_txn.specs.Database.{Caller, Reading, View}
 use Rattle.client_script.proofs.LongerHistory.{no_entry, IsWithin, StandsWithin, AllWithin, told_longer, answered_within}
 use Rattle.client_script.specs.Client.{Transaction, closed, reading, writing, Writing, Client, Sight, Snapshot, snapshot_named, state_seen, some_open}
 use Rattle.client_script.specs.Reply as said
@@ -73,7 +74,7 @@ none_told n (m ∷ ms) none = cc
 
 entry_of : (o : Open) (r : said.Reply) → IsNumbered (caller_of o) (transaction_of o) r → IsEntry ((caller_of o).seen ++ made (caller_of o).number (transaction_of o) r) (caller_of o).number (transaction_of o) r
 entry_of (opens.Nothing pass) r numbered = no_entry (pass.seen ++ made pass.number closed r) pass.number closed r (none_told pass.number (number_printed r) numbered)
-entry_of (opens.Reading pass txn) r numbered = no_entry (pass.seen ++ made pass.number (reading txn.number) r) pass.number (reading txn.number) r (none_told pass.number (number_printed r) numbered)
+entry_of (opens.Reading pass txn) r numbered = no_entry (pass.seen ++ made pass.number (reading txn.view.number) r) pass.number (reading txn.view.number) r (none_told pass.number (number_printed r) numbered)
 entry_of (opens.Writing txn) r numbered = entry_made (changes_of txn).caller.seen (changes_of txn).caller.number (record { number = length (changes_of txn).caller.seen; writes = (changes_of txn).writes; texts = items_of txn }) r refl
 
 -- ---- a longer history
@@ -149,9 +150,12 @@ module _ (c : Command) (d d' : Desk) (r : said.Reply) (known : is_of_watches c �
   more : History
   more = made p.number (transaction_of d.«open») r
 
-  grown : caller_of d'.«open» ≡ record p { seen = p.seen ++ more; own = p.own ++ more }
-  unfolding p more
-  grown = to.grows
+  trees : List Forest
+  trees = to.grows.0
+
+  grown : caller_of d'.«open» ≡ record p { seen = p.seen ++ more; trees = p.trees ++ trees; own = p.own ++ more }
+  unfolding p more trees
+  grown = to.grows.1
 
   seen_grown : (caller_of d'.«open»).seen ≡ p.seen ++ more
   seen_grown = ap (λ (q : Caller). q.seen) grown
@@ -210,8 +214,8 @@ once_told c d d' s (Err e) starts stands to = tt
 
 -- ---- snapshots
 
-no_more : (p : Caller) → p ≡ record p { seen = p.seen ++ []; own = p.own ++ [] }
-no_more p = λ i. record p { seen = sym (append-nil p.seen) i; own = sym (append-nil p.own) i }
+no_more : (p : Caller) → p ≡ record p { seen = p.seen ++ []; trees = p.trees ++ []; own = p.own ++ [] }
+no_more p = λ i. record p { seen = sym (append-nil p.seen) i; trees = sym (append-nil p.trees) i; own = sym (append-nil p.own) i }
 
 refused_makes : (rule : Bytes) (n : ℕ) (t : Transaction) → made n t (said.refused rule) ≡ []
 refused_makes rule n closed = refl
@@ -244,7 +248,7 @@ kept_desk c d r known stands none makes says = record {
     };
     follows = follows;
   };
-  grows = no_more (caller_of d.«open») ∙ ap (λ (cs : History). record (caller_of d.«open») { seen = (caller_of d.«open»).seen ++ cs; own = (caller_of d.«open»).own ++ cs }) (sym (makes (caller_of d.«open»).number (transaction_of d.«open»)));
+  grows = ([], no_more (caller_of d.«open») ∙ ap (λ (cs : History). record (caller_of d.«open») { seen = (caller_of d.«open»).seen ++ cs; trees = (caller_of d.«open»).trees ++ []; own = (caller_of d.«open»).own ++ cs }) (sym (makes (caller_of d.«open»).number (transaction_of d.«open»))));
   numbered = none_numbered (caller_of d.«open») (transaction_of d.«open») r none (makes (caller_of d.«open»).number (transaction_of d.«open»));
 }
 
@@ -263,6 +267,27 @@ snapshot_says d v name q view why follows there refuses =
     let found = found_sight (caller_of d.«open») (snapshot_named name v.snapshots) view (sym there ∙ follows.snapshots name) in
     let told : ask (caller_of d.«open»).schema (state_seen (caller_of d.«open»).schema (caller_of d.«open»).seen found.sight) q ≡ Err why = ap (λ (x : View). ask x.schema x.state q) found.sees ∙ refuses in
     rw (found.is, told) refl
+
+snapshot_tells : (d : Desk) (v : Client) (name : Bytes) (q : Query) (view : View) (a : Answer) → Follows d v → seen_in d.snapshots name ≡ Some view → ask view.schema view.state q ≡ Ok a → outcome v (turn (caller_of d.«open»).schema (caller_of d.«open»).seen (length (caller_of d.«open»).seen) v (command.InSnapshot name q)) ≡ (said.answered a, v)
+snapshot_tells d v name q view a follows there tells =
+    let found = found_sight (caller_of d.«open») (snapshot_named name v.snapshots) view (sym there ∙ follows.snapshots name) in
+    let told : ask (caller_of d.«open»).schema (state_seen (caller_of d.«open»).schema (caller_of d.«open»).seen found.sight) q ≡ Ok a = ap (λ (x : View). ask x.schema x.state q) found.sees ∙ tells in
+    rw (found.is, told) refl
+
+answered_makes : (a : Answer) (n : ℕ) (t : Transaction) → made n t (said.answered a) ≡ []
+answered_makes a n closed = refl
+answered_makes a n (reading m) = refl
+answered_makes a n (writing t) = refl
+
+-- a question of a snapshot that is answered
+pub snapshot_answered : (d : Desk) (name : Bytes) (q : Query) (view : View) (a : Answer) → Stands d.«open» → seen_in d.snapshots name ≡ Some view → AnswersAsk (ask view.schema view.state q) (Ok a) → RepliesTo (command.InSnapshot name q) d d (said.answered a)
+snapshot_answered d name q view a stands there answers = of (ask view.schema view.state q) refl answers
+  where
+    of : (x : Asked Answer) → ask view.schema view.state q ≡ x → AnswersAsk x (Ok a) → RepliesTo (command.InSnapshot name q) d d (said.answered a)
+    of (Err why) is told = cc
+    of (Ok b) is told =
+        let same : a ≡ b = cc in
+        kept_desk (command.InSnapshot name q) d (said.answered a) refl stands refl (answered_makes a) (λ v follows. snapshot_tells d v name q view a follows there (is ∙ ap Ok (sym same)))
 
 no_rule : {A : Type 0} (P : A → Type 0) (r : Result A AllocError) → IsErr r → IfOk r P
 no_rule P (Ok x) is = cc
@@ -351,14 +376,14 @@ keep_replies d d' name s view r opened caller same stands free kept sees reply =
           stands = stands;
         };
       };
-  grows = caller ∙ no_more (caller_of d.«open») ∙ ap (λ (cs : History). record (caller_of d.«open») { seen = (caller_of d.«open»).seen ++ cs; own = (caller_of d.«open»).own ++ cs }) (sym (ap (made (caller_of d.«open»).number (transaction_of d.«open»)) reply ∙ kept_makes (transaction_of d.«open») s (caller_of d.«open»).number (transaction_of d.«open»)));
+  grows = ([], caller ∙ no_more (caller_of d.«open») ∙ ap (λ (cs : History). record (caller_of d.«open») { seen = (caller_of d.«open»).seen ++ cs; trees = (caller_of d.«open»).trees ++ []; own = (caller_of d.«open»).own ++ cs }) (sym (ap (made (caller_of d.«open»).number (transaction_of d.«open»)) reply ∙ kept_makes (transaction_of d.«open») s (caller_of d.«open»).number (transaction_of d.«open»))));
   numbered = none_numbered (caller_of d.«open») (transaction_of d.«open») r (ap number_printed reply ∙ kept_prints (transaction_of d.«open») s) (ap (made (caller_of d.«open»).number (transaction_of d.«open»)) reply ∙ kept_makes (transaction_of d.«open») s (caller_of d.«open»).number (transaction_of d.«open»));
 }
 
 -- the two sorts of snapshots
-pub present_reading : (o : Open) (pass : Caller) (txn kept : View) (n : ℕ) → o ≡ opens.Reading pass txn → Stands o → kept ≡ txn → n ≡ txn.number → Presents o kept (said.kept_at n)
+pub present_reading : (o : Open) (pass : Caller) (txn : Reading) (kept : View) (n : ℕ) → o ≡ opens.Reading pass txn → Stands o → kept ≡ txn.view → n ≡ txn.view.number → Presents o kept (said.kept_at n)
 present_reading o pass txn kept n is stands same number =
-    let s : Sight = record { number = txn.number; writes = [] } in
+    let s : Sight = record { number = txn.view.number; writes = [] } in
     let here : Stands (opens.Reading pass txn) = subst Stands is stands in
     record {
       sight = s;

@@ -5,7 +5,7 @@ use Rattle.std.specs.declared.alloc.AllocError.{AllocError}
 use Rattle.std.proofs.lemmas.List.{append-nil, length-append}
 use Rattle.mdb_datum.specs.Bytes.{Bytes}
 use Rattle.mem_txn.specs.Changes.{Changes, begun}
-use Rattle.mem_txn.specs.Database.{Caller, HasRead, HasSeen, View, view_seen}
+use Rattle.mem_txn.specs.Database.{Caller, HasRead, HasSeen, Reading, reading_of}
 use Rattle.mem_txn.specs.Transactions.{IsCommitted, IsRefused, changes_of, items_of, deferred_items}
 use Rattle.mem_txn.specs.declared.outcome.BeginRefused.{BeginRefused}
 use Rattle.mem_txn.specs.declared.outcome.Committed.{Committed}
@@ -22,15 +22,15 @@ use Rattle.client_session.specs.declared.open.Open.{Open}
 use Rattle.client_session.specs.declared.open.Open.TheVariants as opens
 use Rattle.client_session.specs.declared.reply.Reply.TheVariants as replies
 use Rattle.client_session.specs.inner.ReplyOf.{reply_of}
-use Rattle.client_session.specs.inner.OpenView.{IsNumbered, Looks, LooksAndTurns, Stands, TurnsTo, caller_of, made, transaction_of}
+use Rattle.client_session.specs.inner.OpenView.{Grows, IsNumbered, Looks, LooksAndTurns, Stands, TurnsTo, caller_of, made, transaction_of}
 use Rattle.client_session.proofs.BegunNumbers.{StartsNone, starts_none}
 use Rattle.mdb_schema.specs.Schema.{DbSchema}
 
 -- a caller that has seen no more
-no_more : (p : Caller) → p ≡ record p { seen = p.seen ++ []; own = p.own ++ [] }
-no_more p = λ i. record p { seen = sym (append-nil p.seen) i; own = sym (append-nil p.own) i }
+no_more : (p : Caller) → p ≡ record p { seen = p.seen ++ []; trees = p.trees ++ []; own = p.own ++ [] }
+no_more p = λ i. record p { seen = sym (append-nil p.seen) i; trees = sym (append-nil p.trees) i; own = sym (append-nil p.own) i }
 
-read_turns : (pass : Caller) → TurnsTo command.Read (opens.Nothing pass) (opens.Reading pass (view_seen pass)) (read_at (length pass.seen))
+read_turns : (pass : Caller) → TurnsTo command.Read (opens.Nothing pass) (opens.Reading pass (reading_of pass)) (read_at (length pass.seen))
 read_turns pass = record {
   turns = λ v is le. record {
     next = record { last = length pass.seen; transaction = reading (length pass.seen); snapshots = v.snapshots };
@@ -40,12 +40,12 @@ read_turns pass = record {
     last = search (arith);
   };
   stands = (search (arith), refl);
-  grows = no_more pass;
+  grows = ([], no_more pass);
   numbered = refl;
 }
 
 pub later_self : (p : Caller) → IsLater p p
-later_self p = record { number = refl; database = refl; schema = refl; seen = ([], append-nil p.seen); counts = ([], append-nil p.counts); tries = ([], append-nil p.tries) }
+later_self p = record { number = refl; database = refl; schema = refl; book = refl; seen = ([], append-nil p.seen); trees = ([], append-nil p.trees); counts = ([], append-nil p.counts); tries = ([], append-nil p.tries) }
 
 pub later_same : (p q : Caller) → q ≡ p → IsLater p q
 later_same p q same = subst (λ (r : Caller). IsLater p r) (sym same) (later_self p)
@@ -55,7 +55,9 @@ later_seen old new seen = record {
   number = ap (λ (p : Caller). p.number) seen.others;
   database = ap (λ (p : Caller). p.database) seen.others;
   schema = ap (λ (p : Caller). p.schema) seen.others;
+  book = ap (λ (p : Caller). p.book) seen.others;
   seen = seen.seen;
+  trees = seen.trees;
   counts = seen.counts;
   tries = seen.tries;
 }
@@ -71,18 +73,18 @@ looked old new n seen read = record {
   stands = tt;
 }
 
-pub begun_read : (self : Open) (old new : Caller) (txn : View) (n : ℕ) → self ≡ opens.Nothing old → HasSeen old new → HasRead old new txn.number → txn ≡ view_seen new → n ≡ txn.number → LooksAndTurns command.Read self (opens.Reading new txn) (read_at n)
+pub begun_read : (self : Open) (old new : Caller) (txn : Reading) (n : ℕ) → self ≡ opens.Nothing old → HasSeen old new → HasRead old new txn.view.number → txn ≡ reading_of new → n ≡ txn.view.number → LooksAndTurns command.Read self (opens.Reading new txn) (read_at n)
 unfolding looked
 begun_read self old new txn n is seen read sees number = subst (λ (s : Open). LooksAndTurns command.Read s (opens.Reading new txn) (read_at n)) (sym is) (record {
   at = opens.Nothing new;
-  looks = looked old new txn.number seen read;
+  looks = looked old new txn.view.number seen read;
   turns =
-      subst (λ (k : ℕ). TurnsTo command.Read (opens.Nothing new) (opens.Reading new txn) (read_at k)) (sym (number ∙ ap (λ (x : View). x.number) sees))
-      (subst (λ (x : View). TurnsTo command.Read (opens.Nothing new) (opens.Reading new x) (read_at (length new.seen))) (sym sees) (read_turns new));
+      subst (λ (k : ℕ). TurnsTo command.Read (opens.Nothing new) (opens.Reading new txn) (read_at k)) (sym (number ∙ ap (λ (x : Reading). x.view.number) sees))
+      (subst (λ (x : Reading). TurnsTo command.Read (opens.Nothing new) (opens.Reading new x) (read_at (length new.seen))) (sym sees) (read_turns new));
   loads = λ v is' le. inl (number, tt);
 })
 
-end_turns : (pass : Caller) (txn : View) → TurnsTo command.End (opens.Reading pass txn) (opens.Nothing pass) ended
+end_turns : (pass : Caller) (txn : Reading) → TurnsTo command.End (opens.Reading pass txn) (opens.Nothing pass) ended
 end_turns pass txn = record {
   turns = λ v is le. record {
     next = record { last = v.last; transaction = closed; snapshots = v.snapshots };
@@ -92,11 +94,11 @@ end_turns pass txn = record {
     last = le;
   };
   stands = tt;
-  grows = no_more pass;
+  grows = ([], no_more pass);
   numbered = refl;
 }
 
-pub ended_turns : (self : Open) (pass : Caller) (txn : View) → self ≡ opens.Reading pass txn → TurnsTo command.End self (opens.Nothing pass) ended
+pub ended_turns : (self : Open) (pass : Caller) (txn : Reading) → self ≡ opens.Reading pass txn → TurnsTo command.End self (opens.Nothing pass) ended
 ended_turns self pass txn is = subst (λ (s : Open). TurnsTo command.End s (opens.Nothing pass) ended) (sym is) (end_turns pass txn)
 
 -- what a new write transaction is to its client
@@ -114,7 +116,7 @@ write_turns old txn few changes items = record {
     last = subst (λ (c : Changes). length old.seen ≤ length c.caller.seen) (sym changes) (search (arith));
   };
   stands = ap (λ (c : Changes). c.spoiled) changes;
-  grows = ap (λ (c : Changes). c.caller) changes ∙ no_more old;
+  grows = ([], ap (λ (c : Changes). c.caller) changes ∙ no_more old);
   numbered = refl;
 }
 
@@ -141,7 +143,7 @@ spent_turns pass spent = record {
     last = le;
   };
   stands = tt;
-  grows = no_more pass;
+  grows = ([], no_more pass);
   numbered = refl;
 }
 
@@ -165,7 +167,7 @@ abort_turns pass txn same = record {
     last = subst (λ (p : Caller). v.last ≤ length p.seen) (sym same) le;
   };
   stands = tt;
-  grows = same ∙ no_more (changes_of txn).caller;
+  grows = ([], same ∙ no_more (changes_of txn).caller);
   numbered = refl;
 }
 
@@ -182,7 +184,7 @@ commit_turns txn c is_committed = record {
     last = rw (is_committed.pass, length-append (changes_of txn).caller.seen _) (search (arith));
   };
   stands = tt;
-  grows = is_committed.pass;
+  grows = (is_committed.trees ∷ [], is_committed.pass);
   numbered = numbers is_committed.number;
 }
   where
@@ -215,7 +217,7 @@ refused_once : (c : Command) (o : Open) (rule : Bytes) → Stands o → TurnsTo 
 refused_once c o rule stands turns = record { at = o; looks = looks_self o stands; turns = turns; loads = λ v same le. tt }
 
 -- a transaction is open, and so none begins
-open_turns : (c : Command) (o : Open) → Stands o → caller_of o ≡ record (caller_of o) { seen = (caller_of o).seen ++ made (caller_of o).number (transaction_of o) (refused (codes "transaction-open")); own = (caller_of o).own ++ made (caller_of o).number (transaction_of o) (refused (codes "transaction-open")) }
+open_turns : (c : Command) (o : Open) → Stands o → Grows (caller_of o) (caller_of o) (transaction_of o) (refused (codes "transaction-open"))
     → IsNumbered (caller_of o) (transaction_of o) (refused (codes "transaction-open"))
     → ((v : Client) → v.transaction ≡ transaction_of o → outcome v (turn (caller_of o).schema (caller_of o).seen (length (caller_of o).seen) v c) ≡ (refused (codes "transaction-open"), v))
     → LooksAndTurns c o o (refused (codes "transaction-open"))
@@ -228,13 +230,13 @@ open_turns c o stands grows numbered says = refused_once c o (codes "transaction
 
 pub read_refused : (o : Open) → Stands o → ((p : Caller) → o ≡ opens.Nothing p → ⊥) → LooksAndTurns command.Read o o (refused (codes "transaction-open"))
 read_refused (opens.Nothing p) stands not = absurd (not p refl)
-read_refused (opens.Reading p txn) stands not = open_turns command.Read (opens.Reading p txn) stands (no_more p) refl (λ v is. rw is refl)
-read_refused (opens.Writing txn) stands not = open_turns command.Read (opens.Writing txn) stands (no_more (changes_of txn).caller) refl (λ v is. rw is refl)
+read_refused (opens.Reading p txn) stands not = open_turns command.Read (opens.Reading p txn) stands ([], no_more p) refl (λ v is. rw is refl)
+read_refused (opens.Writing txn) stands not = open_turns command.Read (opens.Writing txn) stands ([], no_more (changes_of txn).caller) refl (λ v is. rw is refl)
 
 pub write_refused : (o : Open) → Stands o → ((p : Caller) → o ≡ opens.Nothing p → ⊥) → LooksAndTurns command.Write o o (refused (codes "transaction-open"))
 write_refused (opens.Nothing p) stands not = absurd (not p refl)
-write_refused (opens.Reading p txn) stands not = open_turns command.Write (opens.Reading p txn) stands (no_more p) refl (λ v is. rw is refl)
-write_refused (opens.Writing txn) stands not = open_turns command.Write (opens.Writing txn) stands (no_more (changes_of txn).caller) refl (λ v is. rw is refl)
+write_refused (opens.Reading p txn) stands not = open_turns command.Write (opens.Reading p txn) stands ([], no_more p) refl (λ v is. rw is refl)
+write_refused (opens.Writing txn) stands not = open_turns command.Write (opens.Writing txn) stands ([], no_more (changes_of txn).caller) refl (λ v is. rw is refl)
 
 turns_once : (c : Command) (o o' : Open) (r : Reply) → StartsNone c → Stands o → TurnsTo c o o' r → LooksAndTurns c o o' r
 turns_once c o o' r is stands turns = record {

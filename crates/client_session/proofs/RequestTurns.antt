@@ -7,19 +7,19 @@ use Rattle.mdb_datum.specs.Bytes.{Bytes}
 use Rattle.mdb_datum.specs.Row.{Fields}
 use Rattle.mdb_schema.specs.Answer as asked
 use Rattle.mdb_schema.specs.Answer.{Asked, ask}
-use Rattle.mdb_schema.specs.History.{History}
+use Rattle.mdb_schema.specs.History.{History, writes_in}
 use Rattle.mdb_schema.specs.Query.{Query}
 use Rattle.mdb_schema.specs.Refusals.{AnswersAsk, ask_error, write_error}
 use Rattle.mdb_schema.specs.Schema.{DbSchema, table_place}
 use Rattle.std.specs.Bool.{⊤}
 use Rattle.mdb_schema.specs.State.{State, Table, table_at}
 use Rattle.mdb_schema.specs.Write as written
-use Rattle.mdb_schema.specs.Write.{Write, put, remove, step, Stepped}
+use Rattle.mdb_schema.specs.Write.{Write, put, remove, step, Stepped, table_of}
 use Rattle.mdb_schema.specs.declared.answer.Answer.{Answer}
 use Rattle.mdb_schema.specs.declared.write_error.WriteError.TheVariants as write_errors
-use Rattle.mem_txn.specs.Changes.{Changes, AnswersTxnWrite, AnswersStep, AnswersTxnAsk, AnswersTxnWipe, AnswersRemovals, gives_replaced, gives_row, present, table_seen, name_in}
+use Rattle.mem_txn.specs.Changes.{Changes, AnswersTxnWrite, AnswersStep, AnswersTxnAsk, AnswersTxnWipe, AnswersRemovals, gives_replaced, gives_row, present, table_seen}
 use Rattle.mem_txn.specs.Changes as changed
-use Rattle.mem_txn.specs.Database.{Caller, View}
+use Rattle.mem_txn.specs.Database.{Caller, Reading, View}
 use Rattle.mem_txn.specs.Transactions.{changes_of, items_of}
 use Rattle.mem_txn.specs.declared.txn_error.TxnWriteError.{TxnWriteError}
 use Rattle.mem_txn.specs.declared.txn_error.TxnWriteError.TheVariants as write_refused
@@ -36,13 +36,13 @@ use Rattle.client_script.proofs.OneClient.{insert_prints}
 use Rattle.client_script.specs.Legal.{callers, number_printed}
 use Rattle.std.specs.List.{enumerate_from}
 use Rattle.client_script.specs.Reply as said
-use Rattle.client_script.specs.Spent.{IsFull, by_turn, ids_spent, is_write as writes_rows, without_ids, writes_in}
+use Rattle.client_script.specs.Spent.{IsFull, by_turn, ids_spent, is_write as writes_rows, without_ids}
 use Rattle.client_script.specs.Turn.{turn, outcome, write_turn, wipe_turn, insert_reply, indexes_of}
 use Rattle.client_script.specs.declared.command.Command.{Command}
 use Rattle.client_script.specs.declared.command.Command.TheVariants as command
 use Rattle.client_script.specs.RefusedWord.{write_word, question_word}
 use Rattle.mdb_encode.specs.KeyRefusal.{wrong_kind, out_of_range, bad_uuid, too_many, too_long}
-use Rattle.client_session.proofs.RowRules.{rule_same, other_rule, table_of}
+use Rattle.client_session.proofs.RowRules.{rule_same, other_rule}
 use Rattle.client_session.specs.declared.reply.Reply.TheVariants as replies
 use Rattle.client_session.specs.declared.rule.Rule.TheVariants as rules
 use Rattle.client_session.specs.inner.Refusal.{write_rule, wipe_rule, question_rule, txn_question_rule, row_rule_but_memory}
@@ -53,8 +53,8 @@ use Rattle.client_session.specs.declared.open.Open.{Open}
 use Rattle.client_session.specs.declared.open.Open.TheVariants as opens
 use Rattle.client_session.specs.inner.OpenView.{TurnsTo, caller_of, transaction_of, view_at_commit, Stands, IsNumbered, made}
 
-no_more : (p : Caller) → p ≡ record p { seen = p.seen ++ []; own = p.own ++ [] }
-no_more p = λ i. record p { seen = sym (append-nil p.seen) i; own = sym (append-nil p.own) i }
+no_more : (p : Caller) → p ≡ record p { seen = p.seen ++ []; trees = p.trees ++ []; own = p.own ++ [] }
+no_more p = λ i. record p { seen = sym (append-nil p.seen) i; trees = sym (append-nil p.trees) i; own = sym (append-nil p.own) i }
 
 -- a reply that tells no commit
 pub none_numbered : (p : Caller) (t : Transaction) (r : said.Reply) → number_printed r ≡ [] → made p.number t r ≡ [] → IsNumbered p t r
@@ -80,7 +80,7 @@ accepted c w table reply is_write txn txn' after steps changes items sound makes
     last = subst (λ (t : Changes). v.last ≤ length t.caller.seen) (sym changes) le;
   };
   stands = ap (λ (t : Changes). t.spoiled) changes ∙ sound;
-  grows = ap (λ (t : Changes). t.caller) changes ∙ no_more (changes_of txn).caller ∙ ap (λ (cs : History). record (changes_of txn).caller { seen = (changes_of txn).caller.seen ++ cs; own = (changes_of txn).caller.own ++ cs }) (sym (makes (changes_of txn).caller.number (transaction_of (opens.Writing txn))));
+  grows = ([], ap (λ (t : Changes). t.caller) changes ∙ no_more (changes_of txn).caller ∙ ap (λ (cs : History). record (changes_of txn).caller { seen = (changes_of txn).caller.seen ++ cs; trees = (changes_of txn).caller.trees ++ []; own = (changes_of txn).caller.own ++ cs }) (sym (makes (changes_of txn).caller.number (transaction_of (opens.Writing txn)))));
   numbered = none_numbered (changes_of txn).caller (transaction_of (opens.Writing txn)) (reply after.1) prints (makes (changes_of txn).caller.number (transaction_of (opens.Writing txn)));
 }
 
@@ -118,7 +118,7 @@ accepts_table gives w x old new (Some table) answers = accepts_step gives w x ol
 
 accepts : {A : Type 0} (gives : Option Fields → A → Type 0) (w : Write) (x : A) (old new : Changes) → old.spoiled ≡ false → AnswersTxnWrite gives w old.spoiled (Ok x) old new → Accepts gives w x old new
 unfolding ok_of
-accepts gives w x old new sound answers = accepts_table gives w x old new (table_seen old (name_in w)) (subst (λ b. AnswersTxnWrite gives w b (Ok x) old new) sound answers)
+accepts gives w x old new sound answers = accepts_table gives w x old new (table_seen old (table_of w)) (subst (λ b. AnswersTxnWrite gives w b (Ok x) old new) sound answers)
 
 inserted_is : (was : Option Fields) (replaced : Bool) → gives_replaced was replaced → insert_reply was ≡ (if replaced then said.replaced else said.inserted)
 inserted_is None replaced is = rw is refl
@@ -158,20 +158,16 @@ same_turns c txn txn' rule breaks changes items sound = record {
     last = subst (λ (t : Changes). v.last ≤ length t.caller.seen) (sym changes) le;
   };
   stands = ap (λ (t : Changes). t.spoiled) changes ∙ sound;
-  grows = ap (λ (t : Changes). t.caller) changes ∙ no_more (changes_of txn).caller;
+  grows = ([], ap (λ (t : Changes). t.caller) changes ∙ no_more (changes_of txn).caller);
   numbered = refl;
 }
-
-writes_same : (H : History) → writes_in H ≡ changed.writes_in H
-writes_same [] = refl
-writes_same (c ∷ H) = ap (λ (n : ℕ). length c.writes + n) (writes_same H)
 
 -- a transaction that is full with so many rows more
 full_same : (t : Changes) (ws : List Write) (texts : List Bytes) → changed.IsFull (length ws) t → IsFull t.caller.seen (record { number = length t.caller.seen; writes = t.writes ++ ws; texts = texts })
 full_same t ws texts full =
-    let seen : writes_in (take (length t.caller.seen) t.caller.seen) ≡ changed.writes_in t.caller.seen = ap writes_in (take-length t.caller.seen) ∙ writes_same t.caller.seen in
+    let seen : writes_in (take (length t.caller.seen) t.caller.seen) ≡ writes_in t.caller.seen = ap writes_in (take-length t.caller.seen) in
     let both : length (t.writes ++ ws) ≡ length t.writes + length ws = length-append t.writes ws in
-    subst (λ (n : ℕ). 2 ^ 36 ≤ n) (add_assoc (changed.writes_in t.caller.seen) (length t.writes) (length ws) ∙ ap (λ (n : ℕ). n + (length t.writes + length ws)) (sym seen) ∙ ap (λ (n : ℕ). writes_in (take (length t.caller.seen) t.caller.seen) + n) (sym both)) full
+    subst (λ (n : ℕ). 2 ^ 36 ≤ n) (add_assoc (writes_in t.caller.seen) (length t.writes) (length ws) ∙ ap (λ (n : ℕ). n + (length t.writes + length ws)) (sym seen) ∙ ap (λ (n : ℕ). writes_in (take (length t.caller.seen) t.caller.seen) + n) (sym both)) full
 
 -- there are too few ids for a line's writes: nothing is changed, and it is told so
 spent_turns : (c : Command) → writes_rows c ≡ true → (txn txn' : WriteTxn Bytes) (ws : List Write) (reply : said.Reply) → ((v : Client) → v.transaction ≡ transaction_of (opens.Writing txn) → turn (changes_of txn).caller.schema (changes_of txn).caller.seen (length (changes_of txn).caller.seen) v c ≡ Ok (reply, next_changes v (changed.with_writes (changes_of txn) ws) (items_of txn))) → changed.IsFull (length ws) (changes_of txn) → changes_of txn' ≡ changes_of txn → items_of txn' ≡ items_of txn → (changes_of txn).spoiled ≡ false → TurnsTo c (opens.Writing txn) (opens.Writing txn') ids_spent
@@ -195,7 +191,7 @@ spent_turns c writes txn txn' ws reply allowed full changes items sound = record
     last = subst (λ (t : Changes). v.last ≤ length t.caller.seen) (sym changes) le;
   };
   stands = ap (λ (t : Changes). t.spoiled) changes ∙ sound;
-  grows = ap (λ (t : Changes). t.caller) changes ∙ no_more (changes_of txn).caller;
+  grows = ([], ap (λ (t : Changes). t.caller) changes ∙ no_more (changes_of txn).caller);
   numbered = refl;
 }
 
@@ -288,9 +284,9 @@ module _ {A : Type 0} (gives : Option Fields → A → Type 0) (c : Command) (w 
 
   pub refuses : (e : TxnWriteError) → AnswersTxnWrite gives w (changes_of txn).spoiled (Err e) (changes_of txn) (changes_of txn') → RefusedTo c (opens.Writing txn) (opens.Writing txn') (changes_of txn).caller.schema (write_rule (changes_of txn).caller.schema (table_of w) e)
   unfolding To err_of schema
-  refuses e answers = refused_table e (table_seen (changes_of txn) (name_in w)) (named w) (subst (λ b. AnswersTxnWrite gives w b (Err e) (changes_of txn) (changes_of txn')) sound answers)
+  refuses e answers = refused_table e (table_seen (changes_of txn) (table_of w)) (named w) (subst (λ b. AnswersTxnWrite gives w b (Err e) (changes_of txn) (changes_of txn')) sound answers)
     where
-      named : (x : Write) → table_at (changes_of txn).caller.schema (present (changes_of txn)) (table_of x) ≡ table_seen (changes_of txn) (name_in x)
+      named : (x : Write) → table_at (changes_of txn).caller.schema (present (changes_of txn)) (table_of x) ≡ table_seen (changes_of txn) (table_of x)
       named (put name row) = refl
       named (remove name row) = refl
 
@@ -325,7 +321,7 @@ wiped_turns c wiping is_wipe txn txn' gone lists changes items sound = record {
     last = subst (λ (t : Changes). v.last ≤ length t.caller.seen) (sym changes) le;
   };
   stands = ap (λ (t : Changes). t.spoiled) changes ∙ sound;
-  grows = ap (λ (t : Changes). t.caller) changes ∙ no_more (changes_of txn).caller;
+  grows = ([], ap (λ (t : Changes). t.caller) changes ∙ no_more (changes_of txn).caller);
   numbered = refl;
 }
 
@@ -453,7 +449,7 @@ kept_turns c old new r caller same stands says makes prints = record {
     last = subst (λ (p : Caller). v.last ≤ length p.seen) (sym caller) le;
   };
   stands = stands;
-  grows = caller ∙ no_more (caller_of old) ∙ ap (λ (cs : History). record (caller_of old) { seen = (caller_of old).seen ++ cs; own = (caller_of old).own ++ cs }) (sym (makes (caller_of old).number (transaction_of old)));
+  grows = ([], caller ∙ no_more (caller_of old) ∙ ap (λ (cs : History). record (caller_of old) { seen = (caller_of old).seen ++ cs; trees = (caller_of old).trees ++ []; own = (caller_of old).own ++ cs }) (sym (makes (caller_of old).number (transaction_of old))));
   numbered = none_numbered (caller_of old) (transaction_of old) r prints (makes (caller_of old).number (transaction_of old));
 }
 
@@ -501,7 +497,7 @@ module _ (q : Query) (old new : Open) (sight : Sight) (opened : some_open (trans
 
 pub write_caller : {A : Type 0} (gives : Option Fields → A → Type 0) (w : Write) (b : Bool) (result : Result A TxnWriteError) (old new : Changes) → AnswersTxnWrite gives w b result old new → new.caller ≡ old.caller
 write_caller gives w true result old new answers = ap (λ (t : Changes). t.caller) answers.1
-write_caller {A} gives w false result old new answers = of (table_seen old (name_in w)) answers
+write_caller {A} gives w false result old new answers = of (table_seen old (table_of w)) answers
   where
     stepped_caller : (s : Stepped) (r : Result A TxnWriteError) → AnswersStep gives w s r old new → new.caller ≡ old.caller
     stepped_caller (Ok after) (Ok x) told = ap (λ (t : Changes). t.caller) told.1
@@ -539,24 +535,24 @@ defer_turns self txn txn' text item is copied changes items sound = subst (λ (s
     last = subst (λ (t : Changes). v.last ≤ length t.caller.seen) (sym changes) le;
   };
   stands = ap (λ (t : Changes). t.spoiled) changes ∙ sound;
-  grows = ap (λ (t : Changes). t.caller) changes ∙ no_more (changes_of txn).caller;
+  grows = ([], ap (λ (t : Changes). t.caller) changes ∙ no_more (changes_of txn).caller);
   numbered = refl;
 })
 
 -- ---- questions of the open transaction
 
-of_reading : (pass : Caller) (txn : View) (q : Query) (told : Result Answer AskError) → txn ≡ view_at_commit pass txn.number → AnswersAsk (ask txn.schema txn.state q) told → AnswersAsk (ask pass.schema (state_seen pass.schema pass.seen (record { number = txn.number; writes = [] })) q) told
+of_reading : (pass : Caller) (txn : Reading) (q : Query) (told : Result Answer AskError) → txn.view ≡ view_at_commit pass txn.view.number → AnswersAsk (ask txn.view.schema txn.view.state q) told → AnswersAsk (ask pass.schema (state_seen pass.schema pass.seen (record { number = txn.view.number; writes = [] })) q) told
 of_reading pass txn q told is answers = subst (λ (x : View). AnswersAsk (ask x.schema x.state q) told) is answers
 
-pub reading_answered : (self : Open) (pass : Caller) (txn : View) (q : Query) (a : Answer) → self ≡ opens.Reading pass txn → Stands (opens.Reading pass txn) → AnswersAsk (ask txn.schema txn.state q) (Ok a) → TurnsTo (command.Question q) self (opens.Reading pass txn) (said.answered a)
+pub reading_answered : (self : Open) (pass : Caller) (txn : Reading) (q : Query) (a : Answer) → self ≡ opens.Reading pass txn → Stands (opens.Reading pass txn) → AnswersAsk (ask txn.view.schema txn.view.state q) (Ok a) → TurnsTo (command.Question q) self (opens.Reading pass txn) (said.answered a)
 reading_answered self pass txn q a is stands answers =
     subst (λ (s : Open). TurnsTo (command.Question q) s (opens.Reading pass txn) (said.answered a)) (sym is)
-    (answered_turns q (opens.Reading pass txn) (opens.Reading pass txn) (record { number = txn.number; writes = [] }) refl refl refl stands a (of_reading pass txn q (Ok a) stands.1 answers))
+    (answered_turns q (opens.Reading pass txn) (opens.Reading pass txn) (record { number = txn.view.number; writes = [] }) refl refl refl stands a (of_reading pass txn q (Ok a) stands.1 answers))
 
-pub reading_refused : (self : Open) (pass : Caller) (txn : View) (q : Query) (e : AskError) (rule : Option rules.the_data) (result : Result replies.the_data AllocError) → self ≡ opens.Reading pass txn → Stands (opens.Reading pass txn) → AnswersAsk (ask txn.schema txn.state q) (Err e) → rule ≡ question_rule e → MatchOption rule (IsErr result) (λ r. result ≡ Ok (replies.Refused r)) → IfOk result (λ r. TurnsTo (command.Question q) self (opens.Reading pass txn) (reply_of (caller_of self).schema r))
+pub reading_refused : (self : Open) (pass : Caller) (txn : Reading) (q : Query) (e : AskError) (rule : Option rules.the_data) (result : Result replies.the_data AllocError) → self ≡ opens.Reading pass txn → Stands (opens.Reading pass txn) → AnswersAsk (ask txn.view.schema txn.view.state q) (Err e) → rule ≡ question_rule e → MatchOption rule (IsErr result) (λ r. result ≡ Ok (replies.Refused r)) → IfOk result (λ r. TurnsTo (command.Question q) self (opens.Reading pass txn) (reply_of (caller_of self).schema r))
 reading_refused self pass txn q e rule result is stands answers rule_is told =
     subst (λ (s : Open). IfOk result (λ r. TurnsTo (command.Question q) s (opens.Reading pass txn) (reply_of (caller_of s).schema r))) (sym is)
-    (refused_question q (opens.Reading pass txn) (opens.Reading pass txn) (record { number = txn.number; writes = [] }) refl refl refl stands e rule result (of_reading pass txn q (Err e) stands.1 answers) rule_is told)
+    (refused_question q (opens.Reading pass txn) (opens.Reading pass txn) (record { number = txn.view.number; writes = [] }) refl refl refl stands e rule result (of_reading pass txn q (Err e) stands.1 answers) rule_is told)
 
 pub writing_same : (txn txn' : WriteTxn Bytes) → changes_of txn' ≡ changes_of txn → items_of txn' ≡ items_of txn → transaction_of (opens.Writing txn') ≡ transaction_of (opens.Writing txn)
 writing_same txn txn' changes items = ap (λ (t : Changes). writing (record { number = length t.caller.seen; writes = t.writes; texts = items_of txn' })) changes ∙ ap (λ (texts : List Bytes). writing (record { number = length (changes_of txn).caller.seen; writes = (changes_of txn).writes; texts = texts })) items

@@ -11,7 +11,7 @@ use Rattle.mdb_schema.specs.Refusals.{write_error}
 use Rattle.mdb_schema.specs.Schema.{DbSchema, TableSchema, IndexSchema, table_place, index_place}
 use Rattle.mdb_schema.specs.State.{State, Table, table_at, row_at, id_keys}
 use Rattle.mdb_schema.specs.Tests.{◌>>=◌, needed, passed, each}
-use Rattle.mdb_schema.specs.Write.{WriteRefusal, unknown_table, no_id, bad_key, missing, key_taken, not_found, Tested, keys_at, id_of, takes, leaves_free, Placed, indexes_of, put_row, remove_row, Write, put, remove, step, Stepped}
+use Rattle.mdb_schema.specs.Write.{WriteRefusal, unknown_table, no_id, bad_key, missing, key_taken, not_found, Tested, keys_at, id_of, takes, leaves_free, Placed, indexes_of, put_row, remove_row, Write, put, remove, step, Stepped, table_of}
 use Rattle.client_script.specs.RefusedWord.{write_word, key_word, index_part}
 use Rattle.client_script.specs.RefusedWord as said
 use Rattle.client_script.specs.Turn as turns
@@ -65,11 +65,6 @@ known_put t row rows = known_then (id_of t row) _ (known_id t row) (λ id. known
 
 known_remove : (t : TableSchema) (row : Fields) (rows : List Fields) → IsKnown (remove_row t row rows)
 known_remove t row rows = known_then (id_of t row) _ (known_id t row) (λ id. known_then (needed not_found (row_at t id rows)) _ (known_needed not_found _ tt) (λ old. tt))
-
--- the name of a write's table
-abbrev pub table_of : Write → Bytes
-table_of (put name row) = name
-table_of (remove name row) = name
 
 known_step : (schema : DbSchema) (s : State) (w : Write) (t : Table) → table_at schema s (table_of w) ≡ Some t → IsKnown (step schema s w)
 known_step schema s (put name row) t there = rw there (known_then (put_row t.schema row t.rows) _ (known_put t.schema row t.rows) (λ changed. tt))

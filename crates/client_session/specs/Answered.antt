@@ -12,12 +12,15 @@ use Rattle.client_script.specs.Reply.{Reply, lines_text}
 use Rattle.client_script.specs.Session.{Session}
 use Rattle.client_script.specs.declared.line.Line.{Line}
 
--- the pass of the same caller of the same database, which has seen, read and tried as much or more
+-- the pass of the same caller of the same database, which has seen, read and tried as much or more; the
+-- trees after the commits are part of what is seen
 pub record IsLater (old new : Caller) : Type 0 where
   pub number : new.number ≡ old.number
   pub database : new.database ≡ old.database
   pub schema : new.schema ≡ old.schema
+  pub book : new.book ≡ old.book
   pub seen : IsPrefix old.seen new.seen
+  pub trees : IsPrefix old.trees new.trees
   pub counts : IsPrefix old.counts new.counts
   pub tries : IsPrefix old.tries new.tries
 

@@ -2,7 +2,7 @@
 ghost use Rattle.std.specs.Prelude.{◌≡◌, ◌∷◌, [], IfOk, IsTrue};
 ghost use Rattle.client_script.specs.Session.{AreKnown};
 ghost use Rattle.client_script.specs.Turn.{is_of_watches};
-ghost use Rattle.mem_txn.specs.Database.{IsCaller, IsOf, new_callers};
+ghost use Rattle.mem_txn.specs.Database.{IsCaller, IsOf, Opening, new_callers};
 
 use crate::Session;
 use client_script::{Command, Script, read_script};
@@ -75,7 +75,8 @@ fn script_of(alloc: Global, text: &str) -> Result<Script, Fail>
 
 /// A new database with the schema that a text reads as, and the pass of its one caller.
 fn new_db(alloc: Global, schema: &str) -> Result<(Db, Passes), Fail>
-    ensures passes { IfOk result (λ made. made.1 ≡ new_callers made.0 1) }
+    ensures passes { IfOk result
+        (λ made. (opening : Opening) × (made.1 ≡ new_callers made.0 opening 1)) }
     ensures alone { IfOk result (λ made. made.0.callers ≡ 1) }
 {
     Ok(Db::create(alloc, schema_of(alloc, schema)?, 1)?)

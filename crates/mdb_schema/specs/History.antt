@@ -1,5 +1,5 @@
 -- A history: the commits of a database, in order.
-use Rattle.std.specs.Prelude.{ℕ, List, [], ◌∷◌, take, Ok, Err}
+use Rattle.std.specs.Prelude.{◌+◌, ℕ, List, [], ◌∷◌, length, take, Ok, Err}
 use Rattle.mdb_schema.specs.Schema.{DbSchema}
 use Rattle.mdb_schema.specs.State.{State, empty_state}
 use Rattle.mdb_schema.specs.Write.{Write, Stepped, step}
@@ -28,3 +28,8 @@ after_commits schema s (c ∷ cs) = after_commits schema (after_writes schema s 
 -- what the empty tables become under the writes of the first n commits
 abbrev pub state_at : DbSchema → History → ℕ → State
 state_at schema H n = after_commits schema (empty_state schema) (take n H)
+
+-- how many writes commits have
+abbrev pub writes_in : History → ℕ
+writes_in [] = 0
+writes_in (c ∷ H) = length c.writes + writes_in H

@@ -1,6 +1,7 @@
 pub mod Answer
 pub mod Broken
 pub mod Entries
+pub mod Guarded
 pub mod History
 pub mod Keys
 pub mod KindName

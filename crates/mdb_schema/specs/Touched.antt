@@ -1,9 +1,12 @@
 -- The full keys that writes touch.
-use Rattle.std.specs.Prelude.{List, [], ◌++◌, Option, Some, None}
+use Rattle.std.specs.Prelude.{List, [], ◌∷◌, ◌++◌, Contains, if◌then◌else◌, option_to_list, Option, Some, None, Ok, Err}
+use Rattle.std.specs.Str.{bytes_eq}
 use Rattle.mdb_datum.specs.Row.{Fields}
 use Rattle.mdb_encode.specs.Bytes.{Bytes}
-use Rattle.mdb_schema.specs.Schema.{IndexSchema, TableSchema}
-use Rattle.mdb_schema.specs.State.{full_keys, row_at}
+use Rattle.mdb_schema.specs.History.{state_or}
+use Rattle.mdb_schema.specs.Schema.{DbSchema, IndexSchema, TableSchema}
+use Rattle.mdb_schema.specs.State.{State, full_keys, row_at}
+use Rattle.mdb_schema.specs.Write.{Stepped, Write, put, remove, step, table_of}
 
 abbrev pub full_keys_of : TableSchema → IndexSchema → Option Fields → List Bytes
 full_keys_of t i None = []
@@ -14,3 +17,28 @@ full_keys_of t i (Some row) = full_keys t i row
 abbrev pub touched : TableSchema → IndexSchema → Bytes → List Fields → List Fields → List Bytes
 touched t i id before after =
     full_keys_of t i (row_at t id before) ++ full_keys_of t i (row_at t id after)
+
+-- ---- writes one after another
+
+-- the row that a write puts in
+abbrev pub row_put : Write → List Fields
+row_put (put name row) = row ∷ []
+row_put (remove name row) = []
+
+-- the row that a write of this answer puts into the table of a name, and the one that it takes out
+abbrev pub rows_of_step : Bytes → Write → Stepped → List Fields
+rows_of_step name w (Ok after) =
+    if bytes_eq (table_of w) name then row_put w ++ option_to_list after.1 else []
+rows_of_step name w (Err why) = []
+
+-- the rows that writes put into the table of a name, and those that they take out
+abbrev pub rows_written : DbSchema → State → List Write → Bytes → List Fields
+rows_written schema s [] name = []
+rows_written schema s (w ∷ ws) name =
+    rows_of_step name w (step schema s w)
+    ++ rows_written schema (state_or s (step schema s w)) ws name
+
+-- the writes touch a key in an index: it is a full key of such a row
+abbrev pub Touch : DbSchema → State → List Write → TableSchema → IndexSchema → Bytes → Type 0
+Touch schema s ws t i key =
+    (row : Fields) × Contains (rows_written schema s ws t.name) row × Contains (full_keys t i row) key

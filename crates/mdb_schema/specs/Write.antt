@@ -20,6 +20,11 @@ pub data Write : Type 0 where
   -- go-memdb's `Txn.Delete`: the row with this one's `id` key is taken out
   remove : Bytes → Fields → Write
 
+-- the name of its table
+abbrev pub table_of : Write → Bytes
+table_of (put name row) = name
+table_of (remove name row) = name
+
 -- Why a write is refused. An index is named by its place in the table.
 pub data WriteRefusal : Type 0 where
   unknown_table : WriteRefusal

@@ -6,6 +6,7 @@ pub mod OneRule
 pub mod Sample
 pub mod TwoRules
 pub mod WholeSchemas
+pub mod WorkedGuards
 pub mod WorkedKinds
 pub mod WorkedQuestions
 pub mod WorkedRefusals

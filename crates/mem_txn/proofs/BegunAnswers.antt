@@ -1,19 +1,21 @@
 -- How a call that begins a transaction is answered, of what its caller has seen and of what it is answered then.
-use Rattle.std.proofs.Common.{◌≡◌, ◌∙◌, ◌<◌, ◌^◌, ◌++◌, ℕ, append-nil, List, [], ◌∷◌, length, map, Option, Some, IfSome, Result, Ok, Err, IfOk, inl, inr, sym, ap, subst, arith}
+use Rattle.std.proofs.Common.{◌≡◌, ◌∙◌, ◌<◌, ◌^◌, ◌++◌, ℕ, append-nil, List, refl, [], ◌∷◌, length, map, Option, Some, IfSome, Result, Ok, Err, IfOk, inl, inr, sym, ap, subst, arith}
+use Rattle.std.specs.Prelude.{All}
 use Rattle.std.specs.declared.alloc.AllocError.{AllocError}
 use Rattle.mdb_schema.specs.Schema.{DbSchema}
 use Rattle.mdb_schema.specs.State.{State}
-use Rattle.table_index.specs.Table.{TableRows}
+use Rattle.table_index.specs.Table.{TableChange, TableRows}
 use Rattle.radix_node.specs.Ids.{Counter}
-use Rattle.mem_txn.specs.Changes.{Changes, begun, writes_in}
+use Rattle.mdb_schema.specs.History.{writes_in}
+use Rattle.mem_txn.specs.Changes.{Changes, begun}
 use Rattle.mem_txn.specs.Database.{Caller, HasRead, HasSeen}
 use Rattle.mem_txn.specs.Transactions.{AnswersBegin, HasWon, HasWonAtLast, IsRefused, changes_of}
 use Rattle.mem_txn.specs.declared.outcome.BeginRefused.{BeginRefused}
 use Rattle.mem_txn.specs.declared.write_txn.WriteTxn.{WriteTxn}
-use Rattle.mem_txn.specs.inner.ChangesView.{AreCounted}
+use Rattle.mem_txn.specs.inner.ChangesView.{AreCounted, AreSince}
 use Rattle.mem_txn.specs.inner.Commits.{AnswersTurn, RefusesTurn}
-use Rattle.mem_txn.specs.inner.VersionTables.{StandFor, Tables, schemas_of, state_of, unwritten}
-use Rattle.mem_txn.specs.inner.Versions.{AreFew, Turned}
+use Rattle.mem_txn.specs.inner.VersionTables.{HasChanged, StandFor, Tables, schemas_of, state_of, trees_of, unwritten}
+use Rattle.mem_txn.specs.inner.Versions.{AreFew, Forest, Turned}
 use Rattle.mem_txn.proofs.BegunTables.{begun_stand}
 
 -- tables of a caller's state that nobody has written to
@@ -62,8 +64,24 @@ module _ (p q : Caller) (seen : HasSeen p q) (read : HasRead p q (length q.seen)
 
 -- ---- the ids of a transaction that begins
 
-pub begins_counted : (turn : Turned) (ids : Counter) (r : Result Tables AllocError) → ids ≡ turn.ids → AreFew (writes_in turn.caller.seen) turn.ids → IfOk r (λ ts. ts.ids ≡ ids) → IfOk r (λ ts. AreCounted turn 0 ts.ids)
+pub begins_counted : (turn : Turned) (ids : Counter) (r : Result Tables AllocError) → ids ≡ turn.base.ids → AreFew (writes_in turn.caller.seen) turn.base.ids → IfOk r (λ ts. ts.ids ≡ ids) → IfOk r (λ ts. AreCounted turn 0 ts.ids)
 begins_counted turn ids (Ok ts) same few is =
     let next = ap (λ (i : Counter). i.next) (is ∙ same) in
-    record { book = ap (λ (i : Counter). i.book) (is ∙ same); few = omega (arith, few, next) }
+    record { book = ap (λ (i : Counter). i.book) (is ∙ same); few = omega (arith, few, next); later = omega (arith, next) }
 begins_counted turn ids (Err e) same few is = tt
+
+-- ---- what was written by a transaction that begins
+
+-- such tables began with the trees that they have
+starts-unwritten : (ts : List TableRows) → map (λ (t : TableChange). t.start) (map unwritten ts) ≡ trees_of ts
+starts-unwritten [] = refl
+starts-unwritten (t ∷ ts) = ap (λ (f : Forest). t.trees ∷ f) (starts-unwritten ts)
+
+-- nothing was written since
+pub begins_since : (turn : Turned) (ts : List TableRows) (r : Result Tables AllocError) → trees_of ts ≡ turn.base.trees → IfOk r (λ us. us.tables ≡ map unwritten ts) → IfOk r (λ us. (first : ℕ) → All (HasChanged first []) us.tables)
+    → IfOk r (λ us. AreSince turn [] us.tables)
+begins_since turn ts (Ok us) trees is changed = record {
+  starts = ap (map (λ (t : TableChange). t.start)) is ∙ starts-unwritten ts ∙ trees;
+  changed = changed turn.base.ids.next;
+}
+begins_since turn ts (Err e) trees is changed = tt

@@ -9,13 +9,15 @@ use Rattle.mdb_schema.specs.State.{State, empty_state}
 use Rattle.radix_node.specs.Cells.{CellTree}
 use Rattle.radix_node.specs.Ids.{Counter}
 use Rattle.table_index.specs.Table.{TableRows}
+use Rattle.table_index.specs.Watched.{HoldsRows}
 use Rattle.mem_txn.specs.inner.EmptyTables.{AreEmpty, IsEmptyOf}
+use Rattle.mem_txn.specs.inner.Steps.{tables_with}
 use Rattle.mem_txn.specs.inner.VersionTables.{AreWithin, schemas_of, state_of, trees_of}
 use Rattle.mem_txn.proofs.Gathered.{gathered_more}
 use Rattle.mem_txn.proofs.IdsCounted.{forest_more}
 
 pub none_empty : (ids : Counter) (ts : List TableRows) → ts ≡ [] → AreEmpty [] ids ts
-none_empty ids ts none = subst (AreEmpty [] ids) (sym none) (record { schemas = refl; state = refl; within = All-nil (AreWithin ids) })
+none_empty ids ts none = subst (AreEmpty [] ids) (sym none) (record { schemas = refl; state = refl; within = All-nil (AreWithin ids); held = All-nil HoldsRows })
 
 pub one_more : (schema : DbSchema) (at : ℕ) (def : TableSchema) (ids ids' : Counter) (ts ts' : List TableRows) (t : TableRows) → slice_get schema at ≡ Some def → AreEmpty (take at schema) ids ts → ids'.book ≡ ids.book → ids.next ≤ ids'.next → IsEmptyOf def ids' t
     → ts' ≡ ts ++ t ∷ [] → AreEmpty (take (at + 1) schema) ids' ts'
@@ -31,6 +33,7 @@ one_more schema at def ids ids' ts ts' t there before same later table joined =
       within = subst (All (AreWithin ids')) (sym trees)
           (All-append (AreWithin ids') (trees_of ts) (t.trees ∷ []) (forest_more ids ids' ts same later before.within)
           (All-cons (AreWithin ids') t.trees [] table.within (All-nil (AreWithin ids'))));
+      held = subst (All HoldsRows) (sym joined) (All-append HoldsRows ts (t ∷ []) before.held (All-cons HoldsRows t [] table.held (All-nil HoldsRows)));
     }
   where
     no_rows : TableSchema → List Fields
@@ -39,3 +42,12 @@ one_more schema at def ids ids' ts ts' t there before same later table joined =
     map-same : (ds : DbSchema) → map (λ (d : TableSchema). d) ds ≡ ds
     map-same [] = refl
     map-same (d ∷ ds) = ap (λ (es : DbSchema). d ∷ es) (map-same ds)
+
+-- the tables of a schema, with their rows and trees, are they
+pub tables_with-parts : (ts : List TableRows) → tables_with (schemas_of ts) (state_of ts) (trees_of ts) ≡ ts
+tables_with-parts [] = refl
+tables_with-parts (t ∷ ts) = ap (λ (us : List TableRows). t ∷ us) (tables_with-parts ts)
+
+-- the trees hold the rows, also where the schema is that of others
+pub held_parts : (schema : DbSchema) (ts : List TableRows) → schemas_of ts ≡ schema → All HoldsRows ts → All HoldsRows (tables_with schema (state_of ts) (trees_of ts))
+held_parts schema ts schemas held = subst (λ (d : DbSchema). All HoldsRows (tables_with d (state_of ts) (trees_of ts))) schemas (subst (All HoldsRows) (sym (tables_with-parts ts)) held)

@@ -60,12 +60,12 @@ ids_full n writes rows few spent = omega (arith, few, spent)
 
 module _ (turn : Turned) (ids ids' : Counter) (ws ws' : List Write) (counted : AreCounted turn (length ws) ids) where
   -- more writes were accepted
-  pub counted_more : (more : List Write) → ids'.book ≡ ids.book → ids'.next ≤ ids.next + 2 ^ 26 * length more → ws' ≡ ws ++ more → AreCounted turn (length ws') ids'
-  counted_more more book few joined =
+  pub counted_more : (more : List Write) → ids'.book ≡ ids.book → ids'.next ≤ ids.next + 2 ^ 26 * length more → ids.next ≤ ids'.next → ws' ≡ ws ++ more → AreCounted turn (length ws') ids'
+  counted_more more book few later joined =
       let count = length-append ws more in
       let all = ap length joined in
-      record { book = book ∙ counted.book; few = omega (arith, counted.few, few, count, all) }
+      record { book = book ∙ counted.book; few = omega (arith, counted.few, few, count, all); later = omega (arith, counted.later, later) }
 
   -- none was
   pub counted_same : ids' ≡ ids → ws' ≡ ws → AreCounted turn (length ws') ids'
-  counted_same same none = record { book = ap (λ (i : Counter). i.book) same ∙ counted.book; few = omega (arith, counted.few, ap length none, ap (λ (i : Counter). i.next) same) }
+  counted_same same none = record { book = ap (λ (i : Counter). i.book) same ∙ counted.book; few = omega (arith, counted.few, ap length none, ap (λ (i : Counter). i.next) same); later = omega (arith, counted.later, ap (λ (i : Counter). i.next) same) }

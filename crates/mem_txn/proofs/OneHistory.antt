@@ -1,22 +1,17 @@
 -- What a list of values tells as a history, and what the calls of the front make of a pass as its caller.
-use Rattle.std.proofs.Common.{◌≡◌, ◌∙◌, ◌+◌, ◌^◌, ◌<◌, ◌≤◌, ◌++◌, ℕ, zero, suc, [], ◌∷◌, List, Bool, true, false, inl, inr, ⊎_elim, map, length, sym, ap, refl, subst, arith, add-one, ne_eqb, filter}
-use Rattle.std.specs.Prelude.{All, if◌then◌else◌, ◌==◌}
+use Rattle.std.proofs.Common.{◌≡◌, ◌∙◌, ◌+◌, ◌^◌, ◌<◌, ◌≤◌, ◌++◌, ℕ, zero, suc, [], ◌∷◌, List, Bool, true, false, inl, inr, ⊎_elim, map, length, sym, ap, refl, subst, arith, ne_eqb}
+use Rattle.std.specs.Prelude.{if◌then◌else◌, ◌==◌}
 use mathlib.Core.List.{IsPrefix}
-use Rattle.std.proofs.lemmas.List.{map-append, length-map, length-append, append_assoc, append-nil}
+use Rattle.std.proofs.lemmas.List.{map-append, length-map, append-nil}
 use Rattle.db_front.specs.Commits as front
 use Rattle.db_front.specs.Passes.{FrontId, Known, AreIdle, IsNumber, fresh, all_fresh}
 use Rattle.db_front.specs.Passes as front_passes
-use Rattle.mdb_schema.specs.History.{Commit, History, after_writes, state_at}
+use Rattle.mdb_schema.specs.History.{Commit, History, writes_in}
 use Rattle.mdb_schema.specs.Schema.{DbSchema}
-use Rattle.mdb_schema.specs.State.{State}
-use Rattle.mem_txn.specs.Database.{AreAll, AreIn, AreMade, AreNamed, AreOf, Caller, Database, HasMade, HasPass, HasRead, HasSeen, IsOf, IsWhole, View, commits_by, new_pass, new_passes, view_after}
-use Rattle.mem_txn.specs.inner.Commits.{IsNext}
-use Rattle.mem_txn.specs.inner.VersionTables.{AreWithin}
-use Rattle.mem_txn.specs.inner.Versions.{AreFew, AreTokens, Forest, IsBegun, IsBookOf, IsLogOf, IsToken, StandsFor, Turned, Version, Versions, caller_of, entry_of, history_in, opening, schema_in}
-use Rattle.mem_txn.specs.Changes.{writes_in}
+use Rattle.mem_txn.specs.Database.{AreAll, AreIn, AreMade, AreNamed, AreOf, Caller, Database, HasMade, HasPass, HasRead, HasSeen, IsWhole, commits_by, new_pass, new_passes, view_after}
+use Rattle.mem_txn.specs.inner.Steps.{AreSteps}
+use Rattle.mem_txn.specs.inner.Versions.{AreTokens, Forest, IsBegun, IsBookOf, IsToken, StandsFor, Version, Versions, book_in, caller_of, entry_of, history_in, opening, schema_in}
 use Rattle.radix_node.specs.Ids.{Book, Counter}
-use Rattle.watch_word.specs.Logs.{Log}
-use Rattle.mem_txn.proofs.StatesAfter.{state_seen-more}
 
 -- ---- longer lists
 
@@ -35,23 +30,22 @@ pub history_longer : (old new : Versions) → IsBegun old → IsPrefix old new �
 history_longer [] new begun p = absurd begun
 history_longer (e ∷ es) new begun p = subst (λ (h : Versions). IsPrefix (map entry_of es) (history_in h)) p.1 (map entry_of p.0, sym (map-append entry_of es p.0))
 
-book_longer : (old new : Versions) (b : Book) → IsBookOf old b → IsPrefix old new → IsBookOf new b
+-- the book of a list's cells is that of a longer list
+pub book_longer : (old new : Versions) (b : Book) → IsBookOf old b → IsPrefix old new → IsBookOf new b
 book_longer [] new b is p = absurd is
 book_longer (e ∷ es) new b is p = subst (λ (h : Versions). IsBookOf h b) p.1 is
 
--- ---- the log of the book
+pub book_same : (old new : Versions) → IsBegun old → IsPrefix old new → book_in new ≡ book_in old
+book_same [] new begun p = absurd begun
+book_same (e ∷ es) new begun p = ap book_in (sym p.1)
 
--- a log of the book serves after each commit
-log_serves : (n : ℕ) (h : Versions) (log : Log) → IsLogOf h log → front.HasFirings IsLogOf n h log
-log_serves n [] log is k le = absurd is
-log_serves n (e ∷ es) log is k le = is
+-- the trees of the values
+abbrev pub trees_in : Versions → List Forest
+trees_in h = map (λ (e : ℕ × Version). e.1.trees) h
 
-pub log_is : (n : ℕ) (h : Versions) (log : Log) → IsBegun h → front.HasFirings IsLogOf n h log → IsLogOf h log
-log_is n [] log begun has = absurd begun
-log_is n (e ∷ es) log begun has = has 0 (omega arith)
-
-pub log_after : (n : ℕ) (h : Versions) (c : ℕ) (v : Version) (log : Log) → IsLogOf h log → front.HasFirings IsLogOf n (h ++ (c, v) ∷ []) log
-log_after n h c v log is = log_serves n (h ++ (c, v) ∷ []) log (book_longer h (h ++ (c, v) ∷ []) log.book is ((c, v) ∷ [], refl))
+-- the trees with those of one value more
+pub trees_more : (h : Versions) (n : ℕ) (v : Version) → trees_in (h ++ (n, v) ∷ []) ≡ trees_in h ++ v.trees ∷ []
+trees_more h n v = map-append (λ (e : ℕ × Version). e.1.trees) h ((n, v) ∷ [])
 
 pub history_length : (h : Versions) → IsBegun h → length (history_in h) + 1 ≡ length h
 history_length [] begun = absurd begun
@@ -59,49 +53,31 @@ history_length (e ∷ es) begun = let n = length-map es entry_of in omega (arith
 
 -- ---- one more commit
 
-next_in : (h : Versions) (n : ℕ) (v : Version) → IsBegun h → history_in (h ++ (n, v) ∷ []) ≡ history_in h ++ record { caller = n; writes = v.writes } ∷ []
+pub next_in : (h : Versions) (n : ℕ) (v : Version) → IsBegun h → history_in (h ++ (n, v) ∷ []) ≡ history_in h ++ record { caller = n; writes = v.writes } ∷ []
 next_in [] n v begun = absurd begun
 next_in (e ∷ es) n v begun = map-append entry_of es ((n, v) ∷ [])
 
-writes_in-more : (H : History) (c : Commit) → writes_in (H ++ c ∷ []) ≡ writes_in H + length c.writes
+pub writes_in-more : (H : History) (c : Commit) → writes_in (H ++ c ∷ []) ≡ writes_in H + length c.writes
 writes_in-more [] c = omega arith
 writes_in-more (d ∷ H) c = let rest = writes_in-more H c in omega (arith, rest)
 
-pub next_stands : (k : Known Version) (ids : Counter) (v : Version) → IsBegun k.seen → IsBookOf k.seen ids.book → IsNext (record { caller = caller_of k; ids = ids }) v → StandsFor (k.seen ++ (k.number, v) ∷ []) v
-next_stands k ids v begun book next =
-    let h = k.seen in
-    let c : Commit = record { caller = k.number; writes = v.writes } in
-    let more : IsPrefix h (h ++ (k.number, v) ∷ []) = ((k.number, v) ∷ [], refl) in
-    let schema : schema_in (h ++ (k.number, v) ∷ []) ≡ schema_in h = schema_longer h (h ++ (k.number, v) ∷ []) begun more in
-    let list : history_in (h ++ (k.number, v) ∷ []) ≡ history_in h ++ c ∷ [] = next_in h k.number v begun in
-    let count : length (history_in h) + 1 ≡ length (history_in h ++ c ∷ []) = sym (length-append (history_in h) (c ∷ [])) in
-    let state : after_writes (schema_in h) (state_at (schema_in h) (history_in h) (length (history_in h))) v.writes ≡ state_at (schema_in h) (history_in h ++ c ∷ []) (length (history_in h ++ c ∷ [])) = sym (state_seen-more (schema_in h) (history_in h) c) in
-    let view : v.view ≡ view_after (schema_in h) (history_in h ++ c ∷ []) = next.view ∙ (λ i. let r : View = record { schema = schema_in h; number = count i; state = state i } in r) in
-    let writes : writes_in (history_in h) + length v.writes ≡ writes_in (history_in (h ++ (k.number, v) ∷ [])) = sym (ap writes_in list ∙ writes_in-more (history_in h) c) in
-    record {
-      begun = begun_longer h (h ++ (k.number, v) ∷ []) begun more;
-      view = view ∙ (λ i. view_after (sym schema i) (sym list i));
-      book = book_longer h (h ++ (k.number, v) ∷ []) v.ids.book (subst (IsBookOf h) (sym next.book) book) more;
-      within = next.within;
-      few = subst (λ (n : ℕ). AreFew n v.ids) writes next.few;
-    }
-
 -- the caller after its commit, and the end of its turn
 pub committed : (k k' k'' : Known Version) (v : Version) → IsBegun k.seen → k' ≡ record k { seen = k.seen ++ (k.number, v) ∷ []; mine = k.mine ++ (k.number, v) ∷ []; stage = 2 } → k'' ≡ record k' { stage = 0 }
-    → caller_of k'' ≡ record (caller_of k) { seen = (caller_of k).seen ++ record { caller = k.number; writes = v.writes } ∷ []; own = (caller_of k).own ++ record { caller = k.number; writes = v.writes } ∷ [] }
+    → caller_of k'' ≡ record (caller_of k) { seen = (caller_of k).seen ++ record { caller = k.number; writes = v.writes } ∷ []; trees = (caller_of k).trees ++ v.trees ∷ []; own = (caller_of k).own ++ record { caller = k.number; writes = v.writes } ∷ [] }
 committed k k' k'' v begun made left =
     let c : Commit = record { caller = k.number; writes = v.writes } in
     let more : IsPrefix k.seen (k.seen ++ (k.number, v) ∷ []) = ((k.number, v) ∷ [], refl) in
     let schema : schema_in (k.seen ++ (k.number, v) ∷ []) ≡ schema_in k.seen = schema_longer k.seen (k.seen ++ (k.number, v) ∷ []) begun more in
     let list : history_in (k.seen ++ (k.number, v) ∷ []) ≡ history_in k.seen ++ c ∷ [] = next_in k.seen k.number v begun in
+    let book : book_in (k.seen ++ (k.number, v) ∷ []) ≡ book_in k.seen = book_same k.seen (k.seen ++ (k.number, v) ∷ []) begun more in
     let own : map entry_of (k.mine ++ (k.number, v) ∷ []) ≡ map entry_of k.mine ++ c ∷ [] = map-append entry_of k.mine ((k.number, v) ∷ []) in
     ap caller_of left ∙ ap caller_of made
-    ∙ (λ i. let r : Caller = record { number = k.number; database = k.table; schema = schema i; seen = list i; own = own i; counts = k.counts; tries = k.tries } in r)
+    ∙ (λ i. let r : Caller = record { number = k.number; database = k.table; schema = schema i; book = book i; seen = list i; trees = trees_more k.seen k.number v i; own = own i; counts = k.counts; tries = k.tries } in r)
 
-pub committed_token : (k k' k'' : Known Version) (v : Version) → IsToken 1 k → k' ≡ record k { seen = k.seen ++ (k.number, v) ∷ []; mine = k.mine ++ (k.number, v) ∷ []; stage = 2 } → k'' ≡ record k' { stage = 0 } → IsToken 0 k''
-committed_token k k' k'' v token made left =
+pub committed_token : (k k' k'' : Known Version) (v : Version) → IsToken 1 k → AreSteps (k.seen ++ (k.number, v) ∷ []) → k' ≡ record k { seen = k.seen ++ (k.number, v) ∷ []; mine = k.mine ++ (k.number, v) ∷ []; stage = 2 } → k'' ≡ record k' { stage = 0 } → IsToken 0 k''
+committed_token k k' k'' v token steps made left =
     subst (IsToken 0) (sym (left ∙ ap (λ (z : Known Version). let r : Known Version = record z { stage = 0 } in r) made))
-    (record { at = refl; named = token.named; few = token.few; begun = begun_longer k.seen (k.seen ++ (k.number, v) ∷ []) token.begun ((k.number, v) ∷ [], refl) })
+    (record { at = refl; named = token.named; few = token.few; begun = begun_longer k.seen (k.seen ++ (k.number, v) ∷ []) token.begun ((k.number, v) ∷ [], refl); steps = steps })
 
 -- ---- a pass that has seen more
 
@@ -115,21 +91,23 @@ module _ (stage : ℕ) (old new : Known Version) (token : IsToken stage old) (se
   pub has_seen : length new.seen ≤ 2 ^ 63 + 1 → new.number ≡ old.number → new.table ≡ old.table → new.mine ≡ old.mine → IsPrefix old.counts new.counts → IsPrefix old.tries new.tries → HasSeen (caller_of old) (caller_of new)
   has_seen room number table mine counts tries = record {
     seen = history_longer old.seen new.seen token.begun seen;
+    trees = prefix-map (λ (e : ℕ × Version). e.1.trees) old.seen new.seen seen;
     few = few_seen room;
     counts = counts;
     tries = tries;
-    others = λ i. let r : Caller = record { number = number i; database = table i; schema = schema_longer old.seen new.seen token.begun seen i; seen = history_in new.seen; own = map entry_of (mine i); counts = new.counts; tries = new.tries } in r;
+    others = λ i. let r : Caller = record { number = number i; database = table i; schema = schema_longer old.seen new.seen token.begun seen i; book = book_same old.seen new.seen token.begun seen i; seen = history_in new.seen; trees = trees_in new.seen; own = map entry_of (mine i); counts = new.counts; tries = new.tries } in r;
   }
 
   pub has_read : (n : ℕ) → IsNumber old new n → HasRead (caller_of old) (caller_of new) n
   has_read n is = let count = history_length new.seen (begun_longer old.seen new.seen token.begun seen) in let told = is.0 in (omega (arith, count, told), is.1)
 
-  pub token_at : (stage' : ℕ) → new.number ≡ old.number → new.stage ≡ stage' → IsToken stage' new
-  token_at stage' number at = record {
+  pub token_at : (stage' : ℕ) → new.number ≡ old.number → new.stage ≡ stage' → AreSteps new.seen → IsToken stage' new
+  token_at stage' number at steps = record {
     at = at;
     named = subst (λ (n : ℕ). 0 < n) (sym number) token.named;
     few = subst (λ (n : ℕ). n ≤ 64) (sym number) token.few;
     begun = begun_longer old.seen new.seen token.begun seen;
+    steps = steps;
   }
 
 -- the two sorts of steps that see more
@@ -146,12 +124,7 @@ pub numbered : (old new : Known Version) (n : ℕ) → IsToken 0 old → IsPrefi
 numbered old new n token seen is = let read = has_read 0 old new token seen n is in subst (λ (k : ℕ). HasRead (caller_of old) (caller_of new) k) read.0 read
 
 pub left_token : (k k' : Known Version) → IsToken 1 k → k' ≡ record k { stage = 0 } → IsToken 0 k'
-left_token k k' token left = subst (IsToken 0) (sym left) (record { at = refl; named = token.named; few = token.few; begun = token.begun })
-
--- ---- the value before the first commit
-
-pub opening_stands : (schema : DbSchema) (trees : Forest) (ids : Counter) → All (AreWithin ids) trees → ids.next ≤ 2 ^ 11 → StandsFor ((0, opening schema trees ids) ∷ []) (opening schema trees ids)
-opening_stands schema trees ids within few = record { begun = refl; view = refl; book = refl; within = within; few = omega (arith, few) }
+left_token k k' token left = subst (IsToken 0) (sym left) (record { at = refl; named = token.named; few = token.few; begun = token.begun; steps = token.steps })
 
 -- ---- the passes of a new database
 
@@ -163,14 +136,15 @@ module _ (t : FrontId) (schema : DbSchema) (trees : Forest) (ids : Counter) wher
   abbrev first : Version
   first = opening schema trees ids
 
-  pub fresh_tokens : (n : ℕ) → n ≤ 64 → AreTokens (all_fresh t first n)
-  fresh_tokens zero few = tt
-  fresh_tokens (suc n) few = append_tokens (all_fresh t first n) (fresh t first (suc n)) (fresh_tokens n (omega (arith, few))) (record { at = refl; named = omega arith; few = few; begun = refl })
+  pub fresh_tokens : AreSteps ((0, opening schema trees ids) ∷ []) → (n : ℕ) → n ≤ 64 → AreTokens (all_fresh t first n)
+  fresh_tokens steps zero few = tt
+  fresh_tokens steps (suc n) few =
+      append_tokens (all_fresh t first n) (fresh t first (suc n)) (fresh_tokens steps n (omega (arith, few))) (record { at = refl; named = omega arith; few = few; begun = refl; steps = steps })
 
-  pub fresh_callers : (db : Database) → db.database ≡ t → db.schema ≡ schema → (n : ℕ) → map caller_of (all_fresh t first n) ≡ new_passes db n
+  pub fresh_callers : (db : Database) → db.database ≡ t → db.schema ≡ schema → (n : ℕ) → map caller_of (all_fresh t first n) ≡ new_passes db (record { book = ids.book; trees = trees }) n
   fresh_callers db here same zero = refl
   fresh_callers db here same (suc n) =
-      let last : caller_of (fresh t first (suc n)) ≡ new_pass db (suc n) = λ i. let r : Caller = record { number = suc n; database = sym here i; schema = sym same i; seen = []; own = []; counts = []; tries = [] } in r in
+      let last : caller_of (fresh t first (suc n)) ≡ new_pass db (record { book = ids.book; trees = trees }) (suc n) = λ i. let r : Caller = record { number = suc n; database = sym here i; schema = sym same i; book = ids.book; seen = []; trees = trees ∷ []; own = []; counts = []; tries = [] } in r in
       map-append caller_of (all_fresh t first n) (fresh t first (suc n) ∷ [])
       ∙ (λ i. fresh_callers db here same n i ++ last i ∷ [])
 

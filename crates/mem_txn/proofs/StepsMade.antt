@@ -1,6 +1,6 @@
 -- A write to the table at a place is a step of the state for which the tables stand.
 use Rattle.std.proofs.Common.{◌≡◌, ◌≤◌, ◌∙◌, ◌+◌, ◌^◌, ◌++◌, ℕ, List, [], ◌∷◌, map, slice_get, slice_set, false, Option, Some, Ok, Err, inl, inr, refl, sym, ap, subst}
-use Rattle.std.specs.Prelude.{◌⊎◌}
+use Rattle.std.specs.Prelude.{◌⊎◌, option_to_list}
 use Rattle.std.proofs.lemmas.List.{map-set}
 use Rattle.std.proofs.lemmas.List.Elements.{All-set, All-contains}
 use Rattle.mdb_datum.specs.Row.{Fields}
@@ -19,6 +19,7 @@ use Rattle.mdb_schema.proofs.Passed.{needed_on}
 use Rattle.mdb_schema.proofs.Tables.{IsTableAt, slice_set-same, table_at-some}
 use Rattle.table_index.specs.Table.{AreSpent, TableRows, TableChange}
 use Rattle.mem_txn.specs.inner.VersionTables.{AnswersAt, AnswersRows, IsSound, StandFor, Tables, schemas_of, standing, state_of}
+use Rattle.mem_txn.proofs.SinceBegun.{AddsAt}
 use Rattle.mem_txn.proofs.TablesFound.{schema_there, stand_table}
 
 -- ---- writes, one after another
@@ -49,7 +50,7 @@ module _ (tables : List TableChange) (schema : DbSchema) (s : State) (stand : St
 
 -- ---- a write
 
-module _ {A : Type 0} (gives : Option Fields → A → Type 0) (change : TableSchema → List Fields → Tested Changed)
+module _ {A : Type 0} (gives : Option Fields → A → Type 0) (put : List Fields) (change : TableSchema → List Fields → Tested Changed)
     (schema : DbSchema) (s : State) (name : Bytes) (place : ℕ) (found : table_place name schema ≡ Some place)
     (old new : Tables) (stand : StandFor old.tables schema s) where
   abbrev change_in : TableChange → Tested Changed
@@ -68,14 +69,16 @@ module _ {A : Type 0} (gives : Option Fields → A → Type 0) (change : TableSc
     pub given : gives after.1 x
     pub left : StandFor new.tables schema after.0
     pub few : new.ids.next ≤ old.ids.next + 2 ^ 26
+    pub later : old.ids.next ≤ new.ids.next
+    pub adds : AddsAt (put ++ option_to_list after.1) place old new
 
-  accepts : (x : A) (before after : TableChange) (told : Tested Changed) → slice_get old.tables place ≡ Some before → change_in before ≡ told → AnswersRows gives told (Ok x) old.ids new.ids before after
+  accepts : (x : A) (before after : TableChange) (told : Tested Changed) → slice_get old.tables place ≡ Some before → change_in before ≡ told → AnswersRows gives put told (Ok x) old.ids new.ids before after
       → new.tables ≡ slice_set old.tables place after → Accepts x
   accepts x before after (Err why) there is answers set = absurd answers
   accepts x before after (Ok c) there is answers set =
-      let same : after.schema ≡ before.schema = ap (λ (t : TableChange). t.schema) answers.1 in
-      let sound : after.spoiled ≡ false = ap (λ (t : TableChange). t.spoiled) answers.1 ∙ is_sound old.tables schema s stand place before after there in
-      let rows : after.rows ≡ c.0 = ap (λ (t : TableChange). t.rows) answers.1 in
+      let same : after.schema ≡ before.schema = ap (λ (t : TableChange). t.schema) answers.1.changed in
+      let sound : after.spoiled ≡ false = ap (λ (t : TableChange). t.spoiled) answers.1.changed ∙ is_sound old.tables schema s stand place before after there in
+      let rows : after.rows ≡ c.0 = ap (λ (t : TableChange). t.rows) answers.1.changed in
       record {
         after = (slice_set s place c.0, c.1);
         step = step_in-from schema s name (λ (t : Table). change t.schema t.rows) (record { place = place; schema = before.schema; rows = before.rows }) c (record {
@@ -86,10 +89,20 @@ module _ {A : Type 0} (gives : Option Fields → A → Type 0) (change : TableSc
         left =
             subst (λ (ts : List TableChange). StandFor ts schema (slice_set s place c.0)) (sym set)
             (subst (λ (rs : List Fields). StandFor (slice_set old.tables place after) schema (slice_set s place rs)) rows (stand-set old.tables schema s stand place before after there same sound));
-        few = answers.2;
+        few = answers.1.few;
+        later = answers.1.later;
+        adds = record {
+          before = before;
+          after = after;
+          there = there;
+          set = set;
+          schema = same;
+          start = ap (λ (t : TableChange). t.start) answers.1.changed;
+          adds = answers.1.adds;
+        };
       }
 
-  pub accepted : (x : A) → AnswersAt gives change_in place (Ok x) old new → Accepts x
+  pub accepted : (x : A) → AnswersAt gives put change_in place (Ok x) old new → Accepts x
   accepted x a = accepts x a.before a.after (change_in a.before) a.there refl a.answers a.set
 
   -- it is refused: the step is refused so, and nothing has changed; or it found no memory
@@ -120,7 +133,7 @@ module _ {A : Type 0} (gives : Option Fields → A → Type 0) (change : TableSc
       needed_on unknown_table (table_at schema s name) (λ (u : Table). change u.schema u.rows >>= (λ (c : Changed). Ok (slice_set s u.place c.0, c.1))) table (table_at-some schema s name table (table_there t there))
       ∙ ap (λ (r : Tested Changed). r >>= (λ (c : Changed). Ok (slice_set s place c.0, c.1))) is
 
-  refuses : (e : WriteError) (before after : TableChange) (told : Tested Changed) → slice_get old.tables place ≡ Some before → change_in before ≡ told → AnswersRows gives told (Err e) old.ids new.ids before after
+  refuses : (e : WriteError) (before after : TableChange) (told : Tested Changed) → slice_get old.tables place ≡ Some before → change_in before ≡ told → AnswersRows gives put told (Err e) old.ids new.ids before after
       → new.tables ≡ slice_set old.tables place after → Failed e
   refuses e before after (Ok c) there is (inr memory) set = inr (inr memory)
   refuses e before after (Ok c) there is (inl spent) set =
@@ -147,5 +160,5 @@ module _ {A : Type 0} (gives : Option Fields → A → Type 0) (change : TableSc
         },
       )
 
-  pub refused : (e : WriteError) → AnswersAt gives change_in place (Err e) old new → Failed e
+  pub refused : (e : WriteError) → AnswersAt gives put change_in place (Err e) old new → Failed e
   refused e a = refuses e a.before a.after (change_in a.before) a.there refl a.answers a.set

@@ -1,29 +1,30 @@
 -- What a write transaction answers a wipe, of what its tables and its list of writes tell.
 use Rattle.std.proofs.Common.{◌≡◌, ◌∙◌, ◌≤◌, ◌+◌, ◌*◌, ◌^◌, ◌++◌, ℕ, List, [], ◌∷◌, length, slice_set, Bool, true, false, Option, Some, None, Result, Ok, Err, inl, inr, refl, sym, ap, subst}
-use Rattle.std.specs.Prelude.{MatchOption}
+use Rattle.std.specs.Prelude.{Contains, MatchOption}
 use Rattle.std.proofs.lemmas.List.{length-map}
 use Rattle.mdb_datum.specs.Row.{Fields}
 use Rattle.mdb_encode.specs.Bytes.{Bytes}
 use Rattle.mdb_schema.specs.Answer.{Asked, AskRefusal, is_prefix_name, no_prefix_name, unknown_table}
-use Rattle.mdb_schema.specs.History.{after_writes, state_or}
+use Rattle.mdb_schema.specs.History.{after_writes, state_or, writes_in}
 use Rattle.mdb_schema.specs.LawfulSchema.{IsLawfulTable}
 use Rattle.mdb_schema.specs.Query.{Query}
 use Rattle.mdb_schema.specs.Refusals.{ask_error}
 use Rattle.mdb_schema.specs.Schema.{TableSchema, DbSchema, table_place}
 use Rattle.mdb_schema.specs.State.{State, Table, table_at}
 use Rattle.mdb_schema.specs.Tests.{◌>>=◌, passed}
+use Rattle.mdb_schema.specs.Touched.{rows_written}
 use Rattle.mdb_schema.specs.Wipe.{removals, wiped_rows, without_rows}
 use Rattle.mdb_schema.specs.Write.{Write, remove, step}
 use Rattle.mdb_schema.proofs.Chains.{passed_on}
 use Rattle.mdb_schema.proofs.LawfulStates.{state_at_lawful, writes_keep}
 use Rattle.mdb_schema.proofs.Passed.{needed_on}
-use Rattle.mdb_schema.proofs.Removals.{AreRowsOnce, removals_accepted}
+use Rattle.mdb_schema.proofs.Removals.{AreRowsOnce, Removes, removals_accepted}
 use Rattle.mdb_schema.proofs.Tables.{IsTableAt, slice_set-same, table_at-some}
 use Rattle.mdb_schema.proofs.Wiped.{wiped_once}
 use Rattle.table_index.specs.Table.{AreSpent, TableChange}
 use Rattle.table_index.specs.declared.wipe_error.WipeError.{WipeError}
 use Rattle.table_index.specs.declared.wipe_error.WipeError.TheVariants.{Refused}
-use Rattle.mem_txn.specs.Changes.{AnswersRemovals, AnswersTxnWipe, Changes, IsFull, present, table_seen, writes_in}
+use Rattle.mem_txn.specs.Changes.{AnswersRemovals, AnswersTxnWipe, Changes, IsFull, present, table_seen}
 use Rattle.mem_txn.specs.Database.{Caller, state_seen}
 use Rattle.mem_txn.specs.declared.txn_error.TxnWipeError.{TxnWipeError}
 use Rattle.mem_txn.specs.declared.txn_error.TxnWipeError.TheVariants as wipe_refused
@@ -31,12 +32,14 @@ use Rattle.mem_txn.specs.declared.wipe.Wipe.{Wipe}
 use Rattle.mem_txn.specs.declared.wipe.Wipe.TheVariants.{Listed, ByPrefix}
 use Rattle.radix_node.specs.Ids.{Counter}
 use Rattle.mem_txn.specs.inner.ChangesView.{AreCounted}
-use Rattle.mem_txn.specs.inner.VersionTables.{StandFor, Tables}
+use Rattle.mem_txn.specs.CellHistory.{Forest}
+use Rattle.mem_txn.specs.inner.VersionTables.{AreChangesOf, StandFor, Tables}
 use Rattle.mem_txn.specs.inner.Versions.{Turned}
 use Rattle.mem_txn.specs.inner.Wipes.{GivesUp, JoinsGone, JoinsGoneAt, is_memory, wipe_by, wiped_by}
 use Rattle.mem_txn.proofs.IdsCounted.{counted_more, counted_same, ids_full}
+use Rattle.mem_txn.proofs.SinceBegun.{AddsAt, removed_rows, since_more}
 use Rattle.mem_txn.proofs.StepsMade.{is_sound, stand-set}
-use Rattle.mem_txn.proofs.TablesFound.{stand_table, table_at-none}
+use Rattle.mem_txn.proofs.TablesFound.{schema_there, stand_table, table_at-none, table_place_named}
 
 -- ---- writes, one list after another
 
@@ -120,7 +123,7 @@ module _ (how : Wipe) (q : Query) (old : Changes) (sound : old.spoiled ≡ false
         → Leaves result writes' new → AnswersRemovals (removed q.table r) (txn_wiped result) old new
     answer (Ok gone) (Ok n) before after writes' new joins leaves = (
       joins.0 ∙ sym (length-map gone (remove q.table)),
-      leaves ∙ ap (λ (ws : List Write). let c : Changes = record old { writes = ws } in c) joins.3,
+      leaves ∙ ap (λ (ws : List Write). let c : Changes = record old { writes = ws } in c) joins.2,
     )
     answer (Ok gone) (Err e) before after writes' new joins leaves = gives_up gone e before after writes' new joins.0 joins.1 leaves
     answer (Err why) (Ok n) before after writes' new joins leaves = let no_way : Ok n ≡ Err (Refused (ask_error why)) = joins.0.0 in cc
@@ -158,24 +161,48 @@ module _ (how : Wipe) (q : Query) (old : Changes) (sound : old.spoiled ≡ false
     same_tables same = at.set ∙ ap (slice_set tables.tables place) same ∙ slice_set-same tables.tables place at.before at.there
 
     -- the removals are accepted, one after the other
+    removes : IsLawfulTable at.before.schema → (gone : List Fields) → wiped_by how at.before.schema at.before.rows q ≡ Ok gone → Removes old.caller.schema (present old) q.table table gone
+    removes lawful gone listed =
+        let states = writes_keep old.caller.schema (state_seen old.caller) old.writes (state_at_lawful old.caller.schema old.caller.seen (length old.caller.seen)) in
+        removals_accepted old.caller.schema q.table (present old) table gone lawful states there (wiped_by_once how at.before.schema at.before.rows q gone listed)
+
     after_removals : IsLawfulTable at.before.schema → (gone : List Fields) → wiped_by how at.before.schema at.before.rows q ≡ Ok gone → writes' ≡ old.writes ++ removals q.table gone
         → after ≡ slice_set (present old) place (without_rows at.before.schema gone at.before.rows)
     after_removals lawful gone listed joined =
-        let states = writes_keep old.caller.schema (state_seen old.caller) old.writes (state_at_lawful old.caller.schema old.caller.seen (length old.caller.seen)) in
         ap (after_writes old.caller.schema (state_seen old.caller)) joined
         ∙ after_writes-append old.caller.schema (state_seen old.caller) old.writes (removals q.table gone)
-        ∙ (removals_accepted old.caller.schema q.table (present old) table gone lawful states there (wiped_by_once how at.before.schema at.before.rows q gone listed)).1
+        ∙ (removes lawful gone listed).1
 
     stands : IsLawfulTable at.before.schema → (r : Asked (List Fields)) → wiped_by how at.before.schema at.before.rows q ≡ r → (n : ℕ) → JoinsGone q.table r (Ok n) tables.ids tables'.ids at.before at.after old.writes writes'
         → StandFor tables'.tables old.caller.schema after
     stands lawful (Err why) listed n joins = let no_way : Ok n ≡ Err (Refused (ask_error why)) = joins.0.0 in absurd (cc)
     stands lawful (Ok gone) listed n joins =
-        let same : at.after.schema ≡ at.before.schema = ap (λ (t : TableChange). t.schema) joins.1 in
-        let quiet : at.after.spoiled ≡ false = ap (λ (t : TableChange). t.spoiled) joins.1 ∙ is_sound tables.tables old.caller.schema (present old) stand place at.before at.after at.there in
-        let rows : at.after.rows ≡ without_rows at.before.schema gone at.before.rows = ap (λ (t : TableChange). t.rows) joins.1 in
-        let left = ap (slice_set (present old) place) rows ∙ sym (after_removals lawful gone listed joins.3) in
+        let same : at.after.schema ≡ at.before.schema = ap (λ (t : TableChange). t.schema) joins.1.without in
+        let quiet : at.after.spoiled ≡ false = ap (λ (t : TableChange). t.spoiled) joins.1.without ∙ is_sound tables.tables old.caller.schema (present old) stand place at.before at.after at.there in
+        let rows : at.after.rows ≡ without_rows at.before.schema gone at.before.rows = ap (λ (t : TableChange). t.rows) joins.1.without in
+        let left = ap (slice_set (present old) place) rows ∙ sym (after_removals lawful gone listed joins.2) in
         subst (λ (ts : List TableChange). StandFor ts old.caller.schema after) (sym at.set)
         (subst (λ (s : State). StandFor (slice_set tables.tables place at.after) old.caller.schema s) left (stand-set tables.tables old.caller.schema (present old) stand place at.before at.after at.there same quiet))
+
+    -- all that was written is what the writes say, with the removals
+    since_wiped : (first : ℕ) (start : Forest) → first ≤ tables.ids.next → AreChangesOf first start (rows_written old.caller.schema (state_seen old.caller) old.writes) tables.tables
+        → IsLawfulTable at.before.schema → (r : Asked (List Fields)) → wiped_by how at.before.schema at.before.rows q ≡ r → (n : ℕ) → JoinsGone q.table r (Ok n) tables.ids tables'.ids at.before at.after old.writes writes'
+        → AreChangesOf first start (rows_written old.caller.schema (state_seen old.caller) writes') tables'.tables
+    since_wiped first start later since lawful (Err why) listed n joins = let no_way : Ok n ≡ Err (Refused (ask_error why)) = joins.0.0 in absurd (cc)
+    since_wiped first start later since lawful (Ok gone) listed n joins =
+        let schema = old.caller.schema in
+        let named : at.before.schema.name ≡ q.table = table_place_named q.table schema place at.before.schema found (schema_there tables.tables schema (present old) stand place at.before at.there) in
+        let a : AddsAt gone place tables tables' = record {
+          before = at.before;
+          after = at.after;
+          there = at.there;
+          set = at.set;
+          schema = ap (λ (t : TableChange). t.schema) joins.1.without;
+          start = ap (λ (t : TableChange). t.start) joins.1.without;
+          adds = joins.1.adds;
+        } in
+        since_more first start schema (state_seen old.caller) old.writes (removals q.table gone) writes' joins.2 place tables tables' since later gone a
+        (λ r h. subst (λ (name : Bytes). Contains (rows_written schema (present old) (removals q.table gone) name) r) (sym named) (removed_rows schema q.table gone (present old) (removes lawful gone listed).0 r h))
 
     -- the ids of a wipe are counted
     counts : (turn : Turned) → AreCounted turn (length old.writes) tables.ids → (r : Asked (List Fields)) (n : ℕ) → JoinsGone q.table r (Ok n) tables.ids tables'.ids at.before at.after old.writes writes' → AreCounted turn (length writes') tables'.ids
@@ -183,7 +210,7 @@ module _ (how : Wipe) (q : Query) (old : Changes) (sound : old.spoiled ≡ false
     counts turn counted (Ok gone) n joins =
         let count : length gone ≡ length (removals q.table gone) = sym (length-map gone (remove q.table)) in
         counted_more turn tables.ids tables'.ids old.writes writes' counted (removals q.table gone) at.book
-        (subst (λ (k : ℕ). tables'.ids.next ≤ tables.ids.next + 2 ^ 26 * k) count joins.2) joins.3
+        (subst (λ (k : ℕ). tables'.ids.next ≤ tables.ids.next + 2 ^ 26 * k) count joins.1.few) joins.1.later joins.2
 
     -- nothing has changed, unless the transaction is spoiled
     pub record Stays : Type 0 where
@@ -206,6 +233,13 @@ module _ (how : Wipe) (q : Query) (old : Changes) (sound : old.spoiled ≡ false
   pub wipe_counted : (turn : Turned) → AreCounted turn (length old.writes) tables.ids → (n : ℕ) → JoinsGoneAt (λ t. wiped_by how t.schema t.rows q) place q.table (Ok n) tables tables' old.writes writes' → AreCounted turn (length writes') tables'.ids
   wipe_counted turn counted n at = counts how q old sound place found tables tables' stand (Ok n) writes' at turn counted (wiped_by how at.before.schema at.before.rows q) n at.answers
 
+  -- all that was written is what the writes say
+  pub wipe_since : (first : ℕ) (start : Forest) → first ≤ tables.ids.next → AreChangesOf first start (rows_written old.caller.schema (state_seen old.caller) old.writes) tables.tables → (n : ℕ)
+      → (at : JoinsGoneAt (λ t. wiped_by how t.schema t.rows q) place q.table (Ok n) tables tables' old.writes writes') → IsLawfulTable at.before.schema
+      → AreChangesOf first start (rows_written old.caller.schema (state_seen old.caller) writes') tables'.tables
+  wipe_since first start later since n at lawful =
+      since_wiped how q old sound place found tables tables' stand (Ok n) writes' at first start later since lawful (wiped_by how at.before.schema at.before.rows q) refl n at.answers
+
   module _ (e : WipeError) (at : JoinsGoneAt (λ t. wiped_by how t.schema t.rows q) place q.table (Err e) tables tables' old.writes writes') (quiet : is_memory e ≡ false) where
     -- they still stand for the state, unless the transaction is spoiled
     pub refused_stand : StandFor tables'.tables old.caller.schema (after_writes old.caller.schema (state_seen old.caller) writes')
@@ -218,3 +252,10 @@ module _ (how : Wipe) (q : Query) (old : Changes) (sound : old.spoiled ≡ false
     refused_counted turn counted =
         let same = stays how q old sound place found tables tables' stand (Err e) writes' at (wiped_by how at.before.schema at.before.rows q) e quiet at.answers in
         counted_same turn tables.ids tables'.ids old.writes writes' counted same.kept_ids same.kept_writes
+
+    pub refused_since : (first : ℕ) (start : Forest) → AreChangesOf first start (rows_written old.caller.schema (state_seen old.caller) old.writes) tables.tables
+        → AreChangesOf first start (rows_written old.caller.schema (state_seen old.caller) writes') tables'.tables
+    refused_since first start since =
+        let same = stays how q old sound place found tables tables' stand (Err e) writes' at (wiped_by how at.before.schema at.before.rows q) e quiet at.answers in
+        subst (λ (ts : List TableChange). AreChangesOf first start (rows_written old.caller.schema (state_seen old.caller) writes') ts) (sym same.kept_tables)
+        (subst (λ (ws : List Write). AreChangesOf first start (rows_written old.caller.schema (state_seen old.caller) ws) tables.tables) (sym same.kept_writes) since)

@@ -1,29 +1,31 @@
 -- What a write transaction answers a write, of what its tables and its list of writes tell.
-use Rattle.std.proofs.Common.{◌≡◌, ◌∙◌, ◌<◌, ◌≤◌, ◌+◌, ◌^◌, ◌++◌, ℕ, zero, suc, List, [], ◌∷◌, length, slice_get, Bool, true, false, Option, Some, None, Result, Ok, Err, inl, inr, refl, sym, ap, subst, arith}
-use Rattle.std.specs.Prelude.{◌⊎◌, MatchOption}
+use Rattle.std.proofs.Common.{◌≡◌, ◌∙◌, ◌<◌, ◌≤◌, ◌+◌, ◌^◌, ◌++◌, ℕ, zero, suc, List, [], ◌∷◌, length, slice_get, append-nil, Bool, true, false, Option, Some, None, Result, Ok, Err, inl, inr, refl, sym, ap, subst, arith}
+use Rattle.std.specs.Prelude.{◌⊎◌, Contains, MatchOption, option_to_list}
 use Rattle.mdb_datum.specs.Row.{Fields}
 use Rattle.mdb_encode.specs.KeyRefusal.{wrong_kind, out_of_range, bad_uuid, too_many, too_long}
-use Rattle.mdb_schema.specs.History.{after_writes, state_or}
+use Rattle.mdb_schema.specs.History.{after_writes, state_or, writes_in}
 use Rattle.mdb_schema.specs.Refusals.{write_error}
 use Rattle.mdb_schema.specs.Schema.{TableSchema, DbSchema, table_place}
 use Rattle.mdb_schema.specs.State.{State, Table}
+use Rattle.mdb_schema.specs.Touched.{row_put, rows_of_step, rows_written}
 use Rattle.mdb_schema.specs.Write as written
-use Rattle.mdb_schema.specs.Write.{Write, WriteRefusal, Tested, Changed, Stepped, step, step_in}
+use Rattle.mdb_schema.specs.Write.{Write, WriteRefusal, Tested, Changed, Stepped, step, step_in, table_of}
 use Rattle.mdb_schema.specs.declared.write_error.WriteError.{WriteError}
 use Rattle.mdb_schema.specs.declared.write_error.WriteError.TheVariants.{Memory}
 use Rattle.mdb_schema.proofs.Tables.{table_at-some}
 use Rattle.table_index.specs.Table.{AreSpent, TableChange}
-use Rattle.mem_txn.specs.Changes.{AnswersStep, AnswersTxnWrite, Changes, IsFull, IsSpoiledBy, name_in, present, table_seen, with_writes, writes_in}
+use Rattle.mem_txn.specs.Changes.{AnswersStep, AnswersTxnWrite, Changes, IsFull, IsSpoiledBy, present, table_seen, with_writes}
 use Rattle.mem_txn.specs.Database.{Caller, state_seen}
 use Rattle.mem_txn.specs.declared.txn_error.TxnWriteError.{TxnWriteError}
 use Rattle.mem_txn.specs.declared.txn_error.TxnWriteError.TheVariants as write_refused
-use Rattle.radix_node.specs.Ids.{Counter}
 use Rattle.mem_txn.specs.inner.ChangesView.{AreCounted}
-use Rattle.mem_txn.specs.inner.VersionTables.{AnswersAt, StandFor, Tables, is_memory}
-use Rattle.mem_txn.specs.inner.Versions.{AreFew, Turned}
+use Rattle.mem_txn.specs.CellHistory.{Forest}
+use Rattle.mem_txn.specs.inner.VersionTables.{AnswersAt, AreChangesOf, StandFor, Tables, is_memory}
+use Rattle.mem_txn.specs.inner.Versions.{Turned}
 use Rattle.mem_txn.proofs.IdsCounted.{ids_full}
 use Rattle.mem_txn.proofs.StepsMade.{Failed, Spends, accepted, after_writes-more, refused, table_there}
-use Rattle.mem_txn.proofs.TablesFound.{table_at-none}
+use Rattle.mem_txn.proofs.SinceBegun.{rows_of_one, since_more}
+use Rattle.mem_txn.proofs.TablesFound.{schema_there, table_at-none, table_place_named}
 
 pub there_is : {X : Type 0} (xs : List X) (at : ℕ) → at < length xs → (x : X) × (slice_get xs at ≡ Some x)
 there_is [] at within = absurd (omega arith)
@@ -44,7 +46,7 @@ refusal_told (written.key_taken place) = refl
 refusal_told written.not_found = refl
 
 module _ {A : Type 0} (gives : Option Fields → A → Type 0) (w : Write) (change : TableSchema → List Fields → Tested Changed)
-    (is_step : (schema : DbSchema) (s : State) → step schema s w ≡ step_in schema s (name_in w) (λ (t : Table). change t.schema t.rows))
+    (is_step : (schema : DbSchema) (s : State) → step schema s w ≡ step_in schema s (table_of w) (λ (t : Table). change t.schema t.rows))
     (old : Changes) (sound : old.spoiled ≡ false) where
   abbrev change_in : TableChange → Tested Changed
   change_in t = change t.schema t.rows
@@ -57,43 +59,61 @@ module _ {A : Type 0} (gives : Option Fields → A → Type 0) (w : Write) (chan
 
   -- ---- no such table
 
-  pub unknown : (new : Changes) → new ≡ old → table_place (name_in w) old.caller.schema ≡ None → AnswersTxnWrite gives w old.spoiled (Err write_refused.UnknownTable) old new
+  pub unknown : (new : Changes) → new ≡ old → table_place (table_of w) old.caller.schema ≡ None → AnswersTxnWrite gives w old.spoiled (Err write_refused.UnknownTable) old new
   unknown new same none =
       let result : Result A TxnWriteError = Err write_refused.UnknownTable in
       unspoiled result new
       (subst (λ (o : Option Table). MatchOption o ((result ≡ Err write_refused.UnknownTable) × (new ≡ old)) (λ t. AnswersStep gives w told result old new))
-      (sym (table_at-none old.caller.schema (present old) (name_in w) none)) (refl, same))
+      (sym (table_at-none old.caller.schema (present old) (table_of w) none)) (refl, same))
 
-  module _ (place : ℕ) (found : table_place (name_in w) old.caller.schema ≡ Some place) (tables tables' : Tables) (stand : StandFor tables.tables old.caller.schema (present old)) where
+  module _ (place : ℕ) (found : table_place (table_of w) old.caller.schema ≡ Some place) (tables tables' : Tables) (stand : StandFor tables.tables old.caller.schema (present old)) where
     -- of a table of the schema
     of_table : (result : Result A TxnWriteError) (new : Changes) (t : TableChange) → slice_get tables.tables place ≡ Some t → AnswersStep gives w told result old new → AnswersTxnWrite gives w old.spoiled result old new
     of_table result new t there answers =
         let table : Table = record { place = place; schema = t.schema; rows = t.rows } in
-        let seen : table_seen old (name_in w) ≡ Some table =
-        table_at-some old.caller.schema (present old) (name_in w) table (table_there gives change old.caller.schema (present old) (name_in w) place found tables tables' stand t there) in
+        let seen : table_seen old (table_of w) ≡ Some table =
+        table_at-some old.caller.schema (present old) (table_of w) table (table_there gives (row_put w) change old.caller.schema (present old) (table_of w) place found tables tables' stand t there) in
         unspoiled result new
         (subst (λ (o : Option Table). MatchOption o ((result ≡ Err write_refused.UnknownTable) × (new ≡ old)) (λ t. AnswersStep gives w told result old new)) (sym seen) answers)
 
     -- ---- accepted
 
-    module _ (x : A) (at : AnswersAt gives change_in place (Ok x) tables tables') (new : Changes) (joined : new ≡ with_writes old (w ∷ [])) where
+    module _ (x : A) (at : AnswersAt gives (row_put w) change_in place (Ok x) tables tables') (new : Changes) (joined : new ≡ with_writes old (w ∷ [])) where
       pub joins_answer : AnswersTxnWrite gives w old.spoiled (Ok x) old new
       joins_answer =
-          let a = accepted gives change old.caller.schema (present old) (name_in w) place found tables tables' stand x at in
+          let a = accepted gives (row_put w) change old.caller.schema (present old) (table_of w) place found tables tables' stand x at in
           of_table (Ok x) new at.before at.there
           (subst (λ (r : Stepped). AnswersStep gives w r (Ok x) old new) (sym (is_step old.caller.schema (present old) ∙ a.step)) (a.given, joined))
 
     -- the tables stand for the state with the write
-    pub joins_stand : (x : A) → AnswersAt gives change_in place (Ok x) tables tables' → (writes : List Write) → writes ≡ old.writes ++ w ∷ []
+    pub joins_stand : (x : A) → AnswersAt gives (row_put w) change_in place (Ok x) tables tables' → (writes : List Write) → writes ≡ old.writes ++ w ∷ []
         → StandFor tables'.tables old.caller.schema (after_writes old.caller.schema (state_seen old.caller) writes)
     joins_stand x at writes joined =
-        let a = accepted gives change old.caller.schema (present old) (name_in w) place found tables tables' stand x at in
+        let a = accepted gives (row_put w) change old.caller.schema (present old) (table_of w) place found tables tables' stand x at in
         let same = ap (after_writes old.caller.schema (state_seen old.caller)) joined ∙ after_writes-more old.caller.schema (state_seen old.caller) old.writes w ∙ ap (state_or (present old)) (is_step old.caller.schema (present old) ∙ a.step) in
         subst (λ (s : State). StandFor tables'.tables old.caller.schema s) (sym same) a.left
 
-    -- the ids that were drawn are of the same book, and few
-    pub joins_few : (x : A) → AnswersAt gives change_in place (Ok x) tables tables' → tables'.ids.next ≤ tables.ids.next + 2 ^ 26
-    joins_few x at = (accepted gives change old.caller.schema (present old) (name_in w) place found tables tables' stand x at).few
+    -- few ids were drawn, and none is given back
+    module _ (x : A) (at : AnswersAt gives (row_put w) change_in place (Ok x) tables tables') where
+      pub joins_few : tables'.ids.next ≤ tables.ids.next + 2 ^ 26
+      joins_few = (accepted gives (row_put w) change old.caller.schema (present old) (table_of w) place found tables tables' stand x at).few
+
+      pub joins_later : tables.ids.next ≤ tables'.ids.next
+      joins_later = (accepted gives (row_put w) change old.caller.schema (present old) (table_of w) place found tables tables' stand x at).later
+
+    -- all that was written is what the writes say, with this one
+    pub joins_since : (first : ℕ) (start : Forest) → first ≤ tables.ids.next → AreChangesOf first start (rows_written old.caller.schema (state_seen old.caller) old.writes) tables.tables
+        → (x : A) → AnswersAt gives (row_put w) change_in place (Ok x) tables tables' → (writes : List Write) → writes ≡ old.writes ++ w ∷ []
+        → AreChangesOf first start (rows_written old.caller.schema (state_seen old.caller) writes) tables'.tables
+    joins_since first start later since x at writes joined =
+        let schema = old.caller.schema in
+        let a = accepted gives (row_put w) change schema (present old) (table_of w) place found tables tables' stand x at in
+        let rows = row_put w ++ option_to_list a.after.1 in
+        let name = a.adds.before.schema.name in
+        let named : name ≡ table_of w = table_place_named (table_of w) schema place a.adds.before.schema found (schema_there tables.tables schema (present old) stand place a.adds.before a.adds.there) in
+        let told : rows_written schema (present old) (w ∷ []) name ≡ rows =
+        append-nil (rows_of_step name w (step schema (present old) w)) ∙ rows_of_one w name (step schema (present old) w) a.after (is_step schema (present old) ∙ a.step) (sym named) in
+        since_more first start schema (state_seen old.caller) old.writes (w ∷ []) writes joined place tables tables' since later rows a.adds (λ r h. subst (λ (l : List Fields). Contains l r) (sym told) h)
 
     -- ---- refused
 
@@ -112,7 +132,7 @@ module _ {A : Type 0} (gives : Option Fields → A → Type 0) (w : Write) (chan
       loud memory quiet = let yes : is_memory e ≡ true = ap is_memory memory in absurd (cc)
 
       abbrev Failure : Type 0
-      Failure = Failed gives change old.caller.schema (present old) (name_in w) place found tables tables' stand e
+      Failure = Failed gives (row_put w) change old.caller.schema (present old) (table_of w) place found tables tables' stand e
 
       same_of : Failure → is_memory e ≡ false → (tables'.tables ≡ tables.tables) × (tables'.ids ≡ tables.ids)
       same_of (inl r) quiet = (r.1.unchanged, r.1.ids)
@@ -120,12 +140,20 @@ module _ {A : Type 0} (gives : Option Fields → A → Type 0) (w : Write) (chan
       same_of (inr (inr memory)) quiet = loud memory quiet
 
       -- nothing has changed, unless the transaction is spoiled
-      pub refuses_same : (e ≡ Memory) ⊎ AnswersAt gives change_in place (Err e) tables tables' → is_memory e ≡ false → (tables'.tables ≡ tables.tables) × (tables'.ids ≡ tables.ids)
+      pub refuses_same : (e ≡ Memory) ⊎ AnswersAt gives (row_put w) change_in place (Err e) tables tables' → is_memory e ≡ false → (tables'.tables ≡ tables.tables) × (tables'.ids ≡ tables.ids)
       refuses_same (inl memory) quiet = loud memory quiet
-      refuses_same (inr at) quiet = same_of (refused gives change old.caller.schema (present old) (name_in w) place found tables tables' stand e at) quiet
+      refuses_same (inr at) quiet = same_of (refused gives (row_put w) change old.caller.schema (present old) (table_of w) place found tables tables' stand e at) quiet
+
+      -- nor has what was written
+      pub refuses_since : (e ≡ Memory) ⊎ AnswersAt gives (row_put w) change_in place (Err e) tables tables' → is_memory e ≡ false → (first : ℕ) (start : Forest)
+          → AreChangesOf first start (rows_written old.caller.schema (state_seen old.caller) old.writes) tables.tables → (writes : List Write) → writes ≡ old.writes
+          → AreChangesOf first start (rows_written old.caller.schema (state_seen old.caller) writes) tables'.tables
+      refuses_since at quiet first start since writes none =
+          subst (λ (ts : List TableChange). AreChangesOf first start (rows_written old.caller.schema (state_seen old.caller) writes) ts) (sym (refuses_same at quiet).0)
+          (subst (λ (ws : List Write). AreChangesOf first start (rows_written old.caller.schema (state_seen old.caller) ws) tables.tables) (sym none) since)
 
       -- the tables still stand for the state
-      pub refuses_stand : (e ≡ Memory) ⊎ AnswersAt gives change_in place (Err e) tables tables' → is_memory e ≡ false → StandFor tables'.tables old.caller.schema (present old)
+      pub refuses_stand : (e ≡ Memory) ⊎ AnswersAt gives (row_put w) change_in place (Err e) tables tables' → is_memory e ≡ false → StandFor tables'.tables old.caller.schema (present old)
       refuses_stand at quiet = subst (λ (ts : List TableChange). StandFor ts old.caller.schema (present old)) (sym (refuses_same at quiet).0) stand
 
       -- there are too few ids
@@ -133,7 +161,7 @@ module _ {A : Type 0} (gives : Option Fields → A → Type 0) (w : Write) (chan
         full : AreSpent tables.ids.next 1 → IsFull 1 old
         full spent = subst (λ (p : Caller). 2 ^ 36 ≤ writes_in p.seen + length old.writes + 1) mine (ids_full tables.ids.next (writes_in turn.caller.seen + length old.writes) 1 counted.few spent)
 
-        spent_answer : (t : TableChange) → slice_get tables.tables place ≡ Some t → Spends gives change old.caller.schema (present old) (name_in w) place found tables tables' stand e → AnswersTxnWrite gives w old.spoiled (Err (write_refused.Refused e)) old new
+        spent_answer : (t : TableChange) → slice_get tables.tables place ≡ Some t → Spends gives (row_put w) change old.caller.schema (present old) (table_of w) place found tables tables' stand e → AnswersTxnWrite gives w old.spoiled (Err (write_refused.Refused e)) old new
         spent_answer t there spent =
             let quiet : is_memory e ≡ old.spoiled = ap is_memory spent.error ∙ sym sound in
             let same : new ≡ old = is ∙ ap (λ (b : Bool). let c : Changes = record old { spoiled = b } in c) quiet in
@@ -151,6 +179,6 @@ module _ {A : Type 0} (gives : Option Fields → A → Type 0) (w : Write) (chan
         answer_of within t there (inr (inl spent)) = spent_answer t there spent
         answer_of within t there (inr (inr memory)) = memory_answer memory within
 
-        pub refuses_answer : place < length tables.tables → (e ≡ Memory) ⊎ AnswersAt gives change_in place (Err e) tables tables' → AnswersTxnWrite gives w old.spoiled (Err (write_refused.Refused e)) old new
+        pub refuses_answer : place < length tables.tables → (e ≡ Memory) ⊎ AnswersAt gives (row_put w) change_in place (Err e) tables tables' → AnswersTxnWrite gives w old.spoiled (Err (write_refused.Refused e)) old new
         refuses_answer within (inl memory) = memory_answer memory within
-        refuses_answer within (inr at) = answer_of within at.before at.there (refused gives change old.caller.schema (present old) (name_in w) place found tables tables' stand e at)
+        refuses_answer within (inr at) = answer_of within at.before at.there (refused gives (row_put w) change old.caller.schema (present old) (table_of w) place found tables tables' stand e at)

@@ -4,13 +4,14 @@ use Rattle.std.specs.Prelude.{Option, is_some, Some, Result, Ok, Err, MatchOptio
 use Rattle.mdb_datum.specs.Row.{Fields}
 use Rattle.mdb_encode.specs.Bytes.{Bytes}
 use Rattle.mdb_schema.specs.Answer.{Asked}
-use Rattle.mdb_schema.specs.History.{Commit, History, after_writes}
+use Rattle.mdb_schema.specs.History.{Commit, after_writes, writes_in}
 use Rattle.mdb_schema.specs.Refusals.{AnswersAsk, ask_error, write_error}
 use Rattle.mdb_schema.specs.State.{State, Table, table_at}
-use Rattle.mdb_schema.specs.Write.{Write, put, remove, Stepped, step}
+use Rattle.mdb_schema.specs.Write.{Write, Stepped, step, table_of}
 use Rattle.mdb_schema.specs.declared.answer.Answer.{Answer}
 use Rattle.mdb_schema.specs.declared.write_error.WriteError.TheVariants as write_errors
 use Rattle.table_index.specs.declared.wipe_error.WipeError.TheVariants as wipe_errors
+use Rattle.mem_txn.specs.CellHistory.{Forest}
 use Rattle.mem_txn.specs.Database.{Caller, View, state_seen}
 use Rattle.mem_txn.specs.declared.txn_error.TxnAskError.{TxnAskError}
 use Rattle.mem_txn.specs.declared.txn_error.TxnAskError.TheVariants as ask_refused
@@ -47,10 +48,11 @@ with_writes t ws = record t { writes = t.writes ++ ws }
 abbrev pub commit_of : Changes → Commit
 commit_of t = record { caller = t.caller.number; writes = t.writes }
 
--- the caller that has made the commit
-abbrev pub after_commit : Changes → Caller
-after_commit t = record t.caller {
+-- the caller that has made the commit, which leaves these trees
+abbrev pub after_commit : Changes → Forest → Caller
+after_commit t trees = record t.caller {
   seen = t.caller.seen ++ commit_of t ∷ [];
+  trees = t.caller.trees ++ trees ∷ [];
   own = t.caller.own ++ commit_of t ∷ [];
 }
 
@@ -76,11 +78,6 @@ AnswersTxnAsk false told result = AnswersQuestion told result
 -- the transaction found no memory: it is spoiled
 abbrev pub IsSpoiledBy : Changes → Changes → Type 0
 IsSpoiledBy old new = new ≡ record old { spoiled = true }
-
--- how many writes commits have
-abbrev pub writes_in : History → ℕ
-writes_in [] = 0
-writes_in (c ∷ H) = length c.writes + writes_in H
 
 -- the writes of the commits on which the transaction stands, its own, and so many rows more are
 -- together at least 2^36; with fewer there are ids for their cells
@@ -111,17 +108,13 @@ AnswersStep gives w (Err why) result old new =
     ((e ≡ write_refused.Refused (write_error why)) × (new ≡ old))
     ⊎ ((e ≡ write_refused.Refused write_errors.Memory) × IsSpoiledBy old new))
 
-abbrev pub name_in : Write → Bytes
-name_in (put name row) = name
-name_in (remove name row) = name
-
 -- a write: a spoiled transaction answers so before all else, then it tells where there is no such
 -- table
 abbrev pub AnswersTxnWrite : {A : Type 0} → (Option Fields → A → Type 0) → Write → Bool
     → Result A TxnWriteError → Changes → Changes → Type 0
 AnswersTxnWrite gives w true result old new = (result ≡ Err write_refused.Spoiled) × (new ≡ old)
 AnswersTxnWrite gives w false result old new =
-    MatchOption (table_seen old (name_in w))
+    MatchOption (table_seen old (table_of w))
     ((result ≡ Err write_refused.UnknownTable) × (new ≡ old))
     (λ table. AnswersStep gives w (step old.caller.schema (present old) w) result old new)
 

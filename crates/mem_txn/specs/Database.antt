@@ -5,6 +5,8 @@ use Rattle.db_front.specs.Passes.{FrontId}
 use Rattle.mdb_schema.specs.History.{Commit, History, state_at}
 use Rattle.mdb_schema.specs.Schema.{DbSchema}
 use Rattle.mdb_schema.specs.State.{State}
+use Rattle.radix_node.specs.Ids.{Book}
+use Rattle.mem_txn.specs.CellHistory.{CellHistory, Forest, trees_after}
 
 -- a database: which one it is, how many callers it has, and its schema
 pub record Database : Type 0 where
@@ -12,13 +14,16 @@ pub record Database : Type 0 where
   pub callers : ℕ
   pub schema : DbSchema
 
--- A caller's pass: its number, its database with the schema, the commits that it has seen, its own
--- ones, the counts of commits that it has read, and what its tries for the writer's turn found.
+-- A caller's pass: its number, its database with the schema and the book of its cells, the commits that
+-- it has seen, with the trees at the opening and after each of them, its own commits, the counts of commits
+-- that it has read, and what its tries for the writer's turn found.
 pub record Caller : Type 0 where
   pub number : ℕ
   pub database : FrontId
   pub schema : DbSchema
+  pub book : Book
   pub seen : History
+  pub trees : List Forest
   pub own : List Commit
   pub counts : List ℕ
   pub tries : List ℕ
@@ -30,6 +35,10 @@ commits_by number H = filter (λ (c : Commit). c.caller == number) H
 -- the state after the commits that a caller has seen
 abbrev pub state_seen : Caller → State
 state_seen p = state_at p.schema p.seen (length p.seen)
+
+-- the commits that a caller has seen, with their trees
+abbrev pub cells_seen : Caller → CellHistory
+cells_seen p = record { schema = p.schema; commits = p.seen; trees = p.trees }
 
 -- the pass belongs to the database
 abbrev pub IsOf : Database → Caller → Type 0
@@ -58,41 +67,69 @@ view_after schema H =
 abbrev pub view_seen : Caller → View
 view_seen p = view_after p.schema p.seen
 
+-- a state that is read, its trees, and the book of their cells
+pub record Reading : Type 0 where
+  pub view : View
+  pub trees : Forest
+  pub book : Book
+
+-- the state after the commits that a caller has seen, to be read
+abbrev pub reading_of : Caller → Reading
+reading_of p = record {
+  view = view_seen p;
+  trees = trees_after (cells_seen p) (length p.seen);
+  book = p.book;
+}
+
 -- the passes that nobody has taken, and how many the database was made with
 pub record Callers : Type 0 where
   pub passes : List Caller
   pub made : ℕ
 
+-- the trees at the opening of a database, and the book of their cells
+pub record Opening : Type 0 where
+  pub book : Book
+  pub trees : Forest
+
 -- a pass that has done nothing
-abbrev pub new_pass : Database → ℕ → Caller
-new_pass db number = record {
+abbrev pub new_pass : Database → Opening → ℕ → Caller
+new_pass db opening number = record {
   number = number;
   database = db.database;
   schema = db.schema;
+  book = opening.book;
   seen = [];
+  trees = opening.trees ∷ [];
   own = [];
   counts = [];
   tries = [];
 }
 
 -- so many of them, numbered from 1
-abbrev pub new_passes : Database → ℕ → List Caller
-new_passes db zero = []
-new_passes db (suc count) = new_passes db count ++ new_pass db (suc count) ∷ []
+abbrev pub new_passes : Database → Opening → ℕ → List Caller
+new_passes db opening zero = []
+new_passes db opening (suc count) =
+    new_passes db opening count ++ new_pass db opening (suc count) ∷ []
 
 -- the passes of a new database of so many callers
-abbrev pub new_callers : Database → ℕ → Callers
-new_callers db count = record { passes = new_passes db count; made = count }
+abbrev pub new_callers : Database → Opening → ℕ → Callers
+new_callers db opening count = record { passes = new_passes db opening count; made = count }
 
 -- ---- what a call does to a pass
 
 -- the pass has seen as much or more, and may have read counts and made tries; all else is as before
 pub record HasSeen (old new : Caller) : Type 0 where
   pub seen : IsPrefix old.seen new.seen
+  pub trees : IsPrefix old.trees new.trees
   pub few : length new.seen ≤ 2 ^ 63
   pub counts : IsPrefix old.counts new.counts
   pub tries : IsPrefix old.tries new.tries
-  pub others : new ≡ record old { seen = new.seen; counts = new.counts; tries = new.tries }
+  pub others : new ≡ record old {
+    seen = new.seen;
+    trees = new.trees;
+    counts = new.counts;
+    tries = new.tries;
+  }
 
 -- the number of the commits that the pass now has seen is a count that it read in this call, its last
 abbrev pub HasRead : Caller → Caller → ℕ → Type 0

@@ -1,4 +1,6 @@
+pub mod CellHistory
 pub mod Changes
 pub mod Database
+pub mod Held
 pub mod Transactions
 pub mod inner

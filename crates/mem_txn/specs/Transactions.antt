@@ -1,8 +1,12 @@
 -- Write transactions with their deferred items, and what becomes of them.
 use Rattle.std.specs.Prelude.{◌≡◌, ◌≢◌, ◌⊎◌, ◌+◌, ◌^◌, ◌<◌, ◌≤◌, ◌++◌, ℕ, Bool, true, false, List, [], ◌∷◌, length, reverse}
-use Rattle.std.specs.Prelude.{Result, Ok, Err, MatchResult}
+use Rattle.std.specs.Prelude.{Some, Result, Ok, Err, MatchResult}
+use Rattle.mdb_schema.specs.Guarded.{IsGuarded}
+use Rattle.mdb_schema.specs.Query.{Query}
+use Rattle.watch_word.specs.Logs.{Cell, Log, has_fired}
+use Rattle.mem_txn.specs.CellHistory.{CellHistory, Forest, HasFirings, cell_at}
 use Rattle.mem_txn.specs.Changes.{Changes, after_commit, begun}
-use Rattle.mem_txn.specs.Database.{Caller, HasRead, HasSeen, View}
+use Rattle.mem_txn.specs.Database.{Caller, HasRead, HasSeen, View, cells_seen}
 use Rattle.mem_txn.specs.declared.deferred.DeferredList.{DeferredList}
 use Rattle.mem_txn.specs.declared.outcome.BeginRefused.{BeginRefused}
 use Rattle.mem_txn.specs.declared.outcome.CommitRefused.{CommitRefused}
@@ -70,12 +74,24 @@ AnswersSnapshot true present result = result ≡ Err snap_errors.Spoiled
 AnswersSnapshot false present result =
     MatchResult result (λ s. s ≡ present) (λ e. e ≡ snap_errors.Memory)
 
--- the commit is the next of the list, and hands the items out, last deferred first
+-- the log has the cell of each watched question whose answer isn't what it was after an earlier commit
+abbrev pub TellsChanges : CellHistory → Log → Type 0
+TellsChanges J log =
+    (q : Query) (v : ℕ) (c : Cell) → v ≤ length J.commits → cell_at J q v ≡ Some c
+    → (IsGuarded J.schema J.commits q v (length J.commits) → ⊥) → has_fired c log ≡ true
+
+-- The commit is the next of the list, and hands the items out, last deferred first. The log has all that
+-- the commits up to its number fire, whoever made them: so it has the cell of each question whose answer
+-- has changed, whoever watches it.
 pub record IsCommitted {D : Type 0} (t : WriteTxn D) (c : Committed D) : Type 0 where
-  pub pass : c.pass ≡ after_commit (changes_of t)
+  pub trees : Forest
+  pub pass : c.pass ≡ after_commit (changes_of t) trees
   pub number : c.receipt.number ≡ length (changes_of t).caller.seen + 1
   pub few : c.receipt.number ≤ 2 ^ 63
   pub items : deferred_items c.receipt.items ≡ reverse (items_of t)
+  pub book : c.receipt.log.book ≡ c.pass.book
+  pub fired : HasFirings (cells_seen c.pass) c.receipt.number c.receipt.log
+  pub told : TellsChanges (cells_seen c.pass) c.receipt.log
 
 -- a commit is made, or refused and the caller is as it was: exactly a spoiled transaction is told so
 abbrev pub AnswersCommit : {D : Type 0} → WriteTxn D → Result (Committed D) CommitRefused → Type 0

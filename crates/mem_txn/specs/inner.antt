@@ -2,7 +2,13 @@ pub mod Accepted
 pub mod ChangesView
 pub mod Commits
 pub mod EmptyTables
+pub mod Ended
+pub mod Firing
+pub mod HeldView
+pub mod Steps
 pub mod Stored
+pub mod StoredHeld
+pub mod Values
 pub mod VersionTables
 pub mod Versions
 pub mod Views

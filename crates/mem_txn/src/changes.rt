@@ -1,14 +1,15 @@
 //! A write transaction, but for its deferred items.
-ghost use Rattle.std.specs.Prelude.{◌≡◌, ◌≤◌, ◌<◌, ◌+◌, ◌^◌, false, IfOk, MatchResult, All, Some, length, map, slice_get};
+ghost use Rattle.std.specs.Prelude.{◌≡◌, ◌≤◌, ◌<◌, ◌+◌, ◌^◌, false, [], IfOk, MatchResult, All, Some, length, map, slice_get};
 ghost use Rattle.mdb_schema.specs.Answer.{ask};
 ghost use Rattle.mdb_schema.specs.LawfulSchema.{IsLawfulTable};
 ghost use Rattle.mdb_schema.specs.Wipe.{wipe, wipe_by_prefix};
 ghost use Rattle.mdb_schema.specs.Write.{put, remove, put_row, remove_row};
 ghost use Rattle.mem_txn.specs.Changes.{AnswersTxnAsk, AnswersTxnWipe, AnswersTxnWrite, begun, gives_replaced, gives_row, present, view_at};
 ghost use Rattle.mem_txn.specs.Database.{IsOf, state_seen};
-ghost use Rattle.mem_txn.specs.inner.ChangesView.{AreCounted};
+ghost use Rattle.mem_txn.specs.inner.ChangesView.{AreCounted, AreSince, IsBase};
 ghost use Rattle.mem_txn.specs.inner.Commits.{IsNextOf};
-ghost use Rattle.mem_txn.specs.inner.VersionTables.{AreWithin, IsSound, Joins, StandFor, is_memory, schemas_of, standing, state_of};
+ghost use Rattle.mem_txn.specs.inner.Ended.{EndWith};
+ghost use Rattle.mem_txn.specs.inner.VersionTables.{AreWithin, IsSound, Joins, StandFor, is_memory, schemas_of, standing, state_of, trees_of};
 ghost use Rattle.mem_txn.specs.inner.Wipes.{wipe_by};
 
 use crate::accepted::{Accepted, Kind};
@@ -16,7 +17,7 @@ use crate::db::Db;
 use crate::pass::Pass;
 use crate::turn::Turn;
 use crate::txn_error::{TxnAskError, TxnWipeError, TxnWriteError};
-use crate::txn_tables::TxnTables;
+use crate::txn_tables::{Frozen, TxnTables};
 use crate::version::Version;
 use crate::view::View;
 use crate::wipe::{self, Wipe, wipe_in};
@@ -26,6 +27,7 @@ use mdb_schema::{Answer, AskError, Query, TableDef, WriteError};
 use std::alloc::{AllocError, Global};
 use std::marker::Model;
 use std::sync::Arc;
+use table_index::Notices;
 use watch_word::Front;
 
 /// A caller's write transaction, seen as `Changes`: the caller, the writes that were accepted, and
@@ -61,6 +63,7 @@ impl Changes {
         requires number { number ≡ length pass.caller.seen }
         requires tables { StandFor tables.tables pass.caller.schema (state_seen pass.caller) }
         requires ids { AreCounted pass 0 tables.ids }
+        requires since { AreSince pass [] tables.tables }
         ensures { result ≡ begun pass.caller }
     {
         Changes {
@@ -210,12 +213,12 @@ impl Changes {
         Ok(View::of(schema, tables, number))
     }
 
-    /// The turn, and the value after its commit, ready to be shown; or, for want of memory, the turn
-    /// alone.
-    pub(crate) fn freeze(self, db: &Db) -> Result<(Turn, Ready<Version>), Turn>
+    /// The turn, and the value after its commit, ready to be shown, with the notices of the cells that are
+    /// gone; or, for want of memory, the turn alone.
+    pub(crate) fn freeze(self, db: &Db) -> Result<(Turn, Next), Turn>
         requires sound { self.spoiled ≡ false }
         ensures { MatchResult result
-            (λ made. IsNextOf self made.0 made.1)
+            (λ made. let next = made.1 in IsNextOf self made.0 next.ready next.gone.items)
             (λ turn. turn.caller ≡ self.caller) }
     {
         let Changes {
@@ -226,7 +229,7 @@ impl Changes {
             spoiled: _,
         } = self;
         match next_version(db, &pass, tables, writes, number + 1) {
-            Ok(ready) => Ok((pass, ready)),
+            Ok(next) => Ok((pass, next)),
             Err(_) => Err(pass),
         }
     }
@@ -250,35 +253,47 @@ impl Changes {
     }
 }
 
-/// The value after so many commits, of the tables that these writes end with. All of its memory is
-/// taken here.
+/// What a commit is made of: the value after it, ready to be shown, and the notices of the cells that are
+/// gone then.
+pub(crate) struct Next {
+    pub(crate) ready: Ready<Version>,
+    pub(crate) gone: Vec<Notices>,
+}
+
+/// The value after so many commits, of the tables that these writes end with, and the notices. All memory of
+/// a commit is taken here.
 fn next_version(
     db: &Db,
     pass: &Turn,
     tables: TxnTables,
     writes: Vec<Accepted>,
     number: u64,
-) -> Result<Ready<Version>, AllocError>
+) -> Result<Next, AllocError>
     requires sound { All IsSound tables.tables }
     requires schemas { schemas_of (map standing tables.tables) ≡ pass.now.caller.schema }
     requires few { number ≤ 2 ^ 63 }
-    ensures value { IfOk result (λ r. r ≡ record {
+    ensures value { IfOk result (λ next. let r = next.ready in r ≡ record {
       view = record {
         schema = pass.now.caller.schema;
         number = number;
         state = state_of (map standing tables.tables);
       };
-      trees = r.trees;
+      trees = trees_of (map standing tables.tables);
       writes = writes.items;
       ids = tables.ids;
     }) }
-    ensures within { IfOk result (λ r. All (AreWithin tables.ids) r.trees) }
+    ensures within { IfOk result (λ next. let r = next.ready in All (AreWithin tables.ids) r.trees) }
+    ensures ends { IfOk result
+        (λ next. EndWith tables.tables (map standing tables.tables) next.gone.items) }
+    ensures base { IsBase pass.now }
 {
+    pass.base_is_known();
     let schema = pass.share_schema()?;
-    let (tables, ids) = tables.freeze()?;
+    let (Frozen { tables, gone }, ids) = tables.freeze()?;
     let view = View::of(schema, tables, number);
     let version = Arc::new(db.alloc, Version::of(view, writes, ids))?;
-    db.shared.ready(version)
+    let ready = db.shared.ready(version)?;
+    Ok(Next { ready, gone })
 }
 
 /// Whether a write found no memory, which spoils the transaction.

@@ -1,7 +1,7 @@
 //! Databases.
 ghost use Rattle.std.specs.Prelude.{◌≡◌, ◌≤◌, ◌<◌, IfOk, length};
 ghost use Rattle.mdb_schema.specs.History.{History};
-ghost use Rattle.mem_txn.specs.Database.{AreAll, AreOf, HasRead, HasSeen, IsOf, IsWhole, new_callers, view_after, view_seen};
+ghost use Rattle.mem_txn.specs.Database.{AreAll, AreOf, HasRead, HasSeen, IsOf, IsWhole, Opening, new_callers, reading_of, view_after};
 
 use crate::pass::Pass;
 use crate::passes::Passes;
@@ -44,7 +44,8 @@ impl Db {
         requires { (1 ≤ callers) × (callers ≤ 64) }
         ensures schema { IfOk result (λ made. made.0.schema ≡ schema) }
         ensures callers { IfOk result (λ made. made.0.callers ≡ callers) }
-        ensures passes { IfOk result (λ made. made.1 ≡ new_callers made.0 callers) }
+        ensures passes { IfOk result
+            (λ made. (opening : Opening) × (made.1 ≡ new_callers made.0 opening callers)) }
     {
         let (book, log) = open_book(alloc)?;
         let mut ids = Ids::starting(book, 0);
@@ -71,8 +72,8 @@ impl Db {
     /// It is refused only for want of room to count one more owner of it.
     pub fn read<R: Wait>(&self, rt: &R, pass: &mut Pass) -> Result<ReadTxn, AllocError>
         requires own { IsOf self.now pass.old }
-        ensures view { IfOk result (λ t. t ≡ view_seen pass.new) }
-        ensures number { IfOk result (λ t. HasRead pass.old pass.new t.number) }
+        ensures read { IfOk result (λ t. t ≡ reading_of pass.new) }
+        ensures number { IfOk result (λ t. HasRead pass.old pass.new t.view.number) }
         ensures seen { HasSeen pass.old pass.new }
         ensures tries { pass.new.tries ≡ pass.old.tries }
     {
@@ -86,7 +87,7 @@ impl Db {
         requires own { AreOf self passes.passes }
         requires all { AreAll self.callers passes.passes }
         ensures { (H : History) × IsWhole self passes.passes H
-            × (result ≡ view_after self.schema H) }
+            × (result.view ≡ view_after self.schema H) }
     {
         let Db {
             alloc: _,

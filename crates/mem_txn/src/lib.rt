@@ -11,6 +11,11 @@
 //! it. So an abort gives its ids back. A write is refused for want of ids only where there are at least
 //! 2^36 writes.
 //!
+//! A commit shows its value, and then fires the cells that are gone from the trees. A question of a read
+//! transaction may be asked with the watch of its answer ([`ReadTxn::ask_watch`]). The log that a commit
+//! gives has the cell of each watched question whose answer has changed; what no commit fires guards its
+//! answer ([`pass_laws`]).
+//!
 //! All commits are one list, of which each pass has seen a beginning, as `db_front` has it. What the
 //! clauses say of a pass stands in `specs/Database.antt`, and of a transaction in
 //! `specs/Transactions.antt`. A call that takes a runtime may wait for another caller; `write` and
@@ -24,8 +29,11 @@ mod changes;
 mod commit;
 mod db;
 mod deferred;
+mod firing;
+mod held;
 mod outcome;
 mod pass;
+pub mod pass_laws;
 mod passes;
 mod read_txn;
 mod snapshot;
@@ -42,6 +50,7 @@ mod write_txn;
 
 pub use db::Db;
 pub use deferred::DeferredList;
+pub use held::Held;
 pub use outcome::{BeginRefused, CommitRefused, Committed, DeferRefused, Receipt, Tried};
 pub use pass::Pass;
 pub use passes::Passes;

@@ -3,6 +3,7 @@ use crate::deferred::DeferredList;
 use crate::pass::Pass;
 use crate::txn_error::{BeginError, CommitError};
 use crate::write_txn::WriteTxn;
+use watch_word::Front;
 
 /// A write transaction that isn't begun.
 pub struct BeginRefused {
@@ -30,10 +31,12 @@ pub struct DeferRefused<D> {
     pub item: D,
 }
 
-/// What a commit did: its number, and the deferred items, last deferred first.
+/// What a commit did: its number, the log of firings, which has all that the commits up to this one fire,
+/// and the deferred items, last deferred first.
 #[derive(Drop)]
 pub struct Receipt<D> {
     pub number: u64,
+    pub log: Front,
     pub items: DeferredList<D>,
 }
 

@@ -1,45 +1,55 @@
 //! Read transactions.
-ghost use Rattle.std.specs.Prelude.{◌≡◌, IfOk};
+ghost use Rattle.std.specs.Prelude.{◌≡◌, All, IfOk};
 ghost use Rattle.std.specs.Arc.{arc_value};
 ghost use Rattle.mdb_schema.specs.Answer.{ask};
 ghost use Rattle.mdb_schema.specs.Refusals.{AnswersAsk};
+ghost use Rattle.mem_txn.specs.Held.{AnswersHeld, IsHeldOf};
+ghost use Rattle.mem_txn.specs.inner.VersionTables.{AreWithin};
+ghost use Rattle.table_index.specs.Watched.{is_watchable};
 
+use crate::held::Held;
 use crate::version::Version;
 use mdb_schema::{Answer, AskError, Query};
 use std::alloc::{AllocError, Global};
 use std::marker::Model;
 use std::sync::Arc;
+use table_index::Watched;
 
-/// A state that stays as it is, whatever is committed, seen as a `View`.
+/// A state that stays as it is, whatever is committed, seen as a `Reading`: the state, and its trees with
+/// their cells.
 #[derive(Drop)]
 pub struct ReadTxn {
     version: Arc<Version, Global>,
 }
 
 impl Model for ReadTxn {
-    ghost use Rattle.mem_txn.specs.Database.{View};
-    ghost use Rattle.mem_txn.specs.inner.Stored.{view_code};
+    ghost use Rattle.mem_txn.specs.Database.{Reading};
+    ghost use Rattle.mem_txn.specs.inner.Stored.{reading_code};
 
-    ghost Value = { View };
+    ghost Value = { Reading };
 
-    ghost coded = { view_code };
+    ghost coded = { reading_code };
 
-    ghost use Rattle.mem_txn.specs.inner.Views.{read_view};
+    ghost use Rattle.mem_txn.specs.inner.Views.{IsReading, read_view};
 
     ghost view = { read_view };
+
+    ghost invariant = { IsReading };
 }
 
 impl ReadTxn {
     /// A transaction that reads this value.
     pub(crate) fn of(version: Arc<Version, Global>) -> ReadTxn
-        ensures { result ≡ (arc_value version).view }
+        requires within { let v = arc_value version in All (AreWithin v.ids) v.trees }
+        ensures { let v = arc_value version in
+            result ≡ record { view = v.view; trees = v.trees; book = v.ids.book } }
     {
         ReadTxn { version }
     }
 
     /// The number of the commit on which it stands.
     pub fn number(&self) -> u64
-        ensures { result ≡ self.now.number }
+        ensures { result ≡ self.now.view.number }
     {
         self.version.view().number()
     }
@@ -58,8 +68,22 @@ impl ReadTxn {
     /// of the question's arguments and for a list of rows. Want of it is never told in place of a
     /// rule.
     pub fn ask(&self, query: &Query) -> Result<Answer, AskError>
-        ensures { AnswersAsk (ask self.now.schema self.now.state query.now) result }
+        ensures { AnswersAsk (ask self.now.view.schema self.now.view.state query.now) result }
     {
         self.version.view().ask(query)
+    }
+
+    /// What [`ReadTxn::ask`] answers, with the watch of the answer. Questions for bounds, or for the
+    /// longest key, are refused before any other rule. It takes memory as [`ReadTxn::ask`] does, and may be
+    /// refused as for want of memory where the cell or the question has 2^63 - 1 owners.
+    pub fn ask_watch(&self, query: &Query) -> Result<(Answer, Held), AskError>
+        ensures answers { AnswersHeld (is_watchable query.now.ask)
+            (ask self.now.view.schema self.now.view.state query.now) result }
+        ensures held { IfOk result (λ r. IsHeldOf self.now query.now r.1) }
+    {
+        let view = self.version.view();
+        let Watched { answer, spot } = view.ask_watch(query)?;
+        let held = Held::of(view.allocator(), query.share()?, spot, view.number())?;
+        Ok((answer, held))
     }
 }

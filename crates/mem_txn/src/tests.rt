@@ -8,6 +8,8 @@ mod drawn;
 mod mixed;
 mod reads;
 mod threads;
+mod watch_run;
+mod watches;
 mod without_memory;
 mod worked;
 
@@ -77,7 +79,7 @@ fn query_of(alloc: Global, ask: Ask, named: (&str, &str), args: &str) -> Result<
     };
     let table = Text::of(alloc, named.0)?;
     let index = Text::of(alloc, named.1)?;
-    Ok(Query::from_parts(ask, table, index, args))
+    Ok(Query::from_parts(alloc, ask, table, index, args)?)
 }
 
 /// The texts of rows, one a line.

@@ -1,11 +1,12 @@
 //! A table of a write transaction.
-ghost use Rattle.std.specs.Prelude.{◌≡◌, ◌≤◌, false, IfOk, OnErr};
+ghost use Rattle.std.specs.Prelude.{◌≡◌, ◌≤◌, ◌∷◌, [], ℕ, false, IfOk, OnErr};
 ghost use Rattle.std.specs.Arc.{arc_value};
 ghost use Rattle.mdb_schema.specs.Answer.{ask_rows};
 ghost use Rattle.mdb_schema.specs.Refusals.{AnswersAsk};
 ghost use Rattle.mdb_schema.specs.Write.{put_row, remove_row};
 ghost use Rattle.mem_txn.specs.Changes.{gives_replaced, gives_row};
-ghost use Rattle.mem_txn.specs.inner.VersionTables.{AnswersRows, IsWithin, standing, unwritten};
+ghost use Rattle.mem_txn.specs.inner.VersionTables.{AnswersRows, HasChanged, IsWithin, standing, unwritten};
+ghost use Rattle.mem_txn.specs.inner.Ended.{EndsWith};
 ghost use Rattle.mem_txn.specs.inner.Wipes.{AnswersGone, wiped_by};
 
 use crate::wipe::Wipe;
@@ -15,7 +16,8 @@ use radix_node::Ids;
 use std::alloc::{AllocError, Global};
 use std::marker::Model;
 use std::sync::Arc;
-use table_index::{Table, TableTxn, WipeError};
+use table_index::table_laws::{nothing_is_written, rows_are_held};
+use table_index::{Notices, Table, TableTxn, WipeError};
 use watch_word::Front;
 
 /// A table of a write transaction, which is opened at the first write to it; seen as a
@@ -42,8 +44,10 @@ impl Model for TxnTable {
 impl TxnTable {
     /// A table that nobody has written to.
     pub(crate) fn of(shared: Arc<Table, Global>) -> TxnTable
-        ensures { result ≡ unwritten (arc_value shared) }
+        ensures table { result ≡ unwritten (arc_value shared) }
+        ensures changed { (first : ℕ) → HasChanged first [] result }
     {
+        nothing_is_written(&shared);
         TxnTable { shared, open: None }
     }
 
@@ -68,7 +72,7 @@ impl TxnTable {
         requires sound { self.old.spoiled ≡ false }
         requires book { front.now.book ≡ ids.old.book }
         requires within { IsWithin ids.old self.old }
-        ensures answers { AnswersRows gives_replaced
+        ensures answers { AnswersRows gives_replaced (row.now ∷ [])
             (put_row self.old.schema row.now self.old.rows) result ids.old ids.new self.old self.new }
         ensures within { IsWithin ids.new self.new }
         ensures book { ids.new.book ≡ ids.old.book }
@@ -91,7 +95,7 @@ impl TxnTable {
         requires sound { self.old.spoiled ≡ false }
         requires book { front.now.book ≡ ids.old.book }
         requires within { IsWithin ids.old self.old }
-        ensures answers { AnswersRows gives_row
+        ensures answers { AnswersRows gives_row []
             (remove_row self.old.schema row.now self.old.rows) result ids.old ids.new self.old
             self.new }
         ensures within { IsWithin ids.new self.new }
@@ -158,19 +162,27 @@ impl TxnTable {
         }
     }
 
-    /// The table that the writes end with. It takes memory only where the table is open. The notices of
-    /// the cells that are gone are dropped: no commit fires a cell yet.
-    pub(crate) fn freeze(self, alloc: Global) -> Result<Arc<Table, Global>, AllocError>
+    /// The table that the writes end with, and the notices of the cells that are gone, if it was open. It
+    /// takes memory only then.
+    pub(crate) fn freeze(
+        self,
+        alloc: Global,
+    ) -> Result<(Arc<Table, Global>, Option<Notices>), AllocError>
         requires sound { self.spoiled ≡ false }
-        ensures { IfOk result (λ t. arc_value t ≡ standing self) }
+        ensures table { IfOk result (λ r. arc_value r.0 ≡ standing self) }
+        ensures ends { IfOk result (λ r. EndsWith self (arc_value r.0) r.1) }
     {
         let TxnTable { shared, open } = self;
         match open {
             Some(txn) => {
-                let (table, _notices) = txn.freeze()?;
-                Ok(Arc::new(alloc, table)?)
+                let (table, notices) = txn.freeze()?;
+                rows_are_held(&table);
+                Ok((Arc::new(alloc, table)?, Some(notices)))
             }
-            None => Ok(shared),
+            None => {
+                rows_are_held(&shared);
+                Ok((shared, None))
+            }
         }
     }
 }

@@ -1,9 +1,11 @@
 //! The tables of a write transaction.
-ghost use Rattle.std.specs.Prelude.{◌≡◌, ◌<◌, ◌++◌, ◌∷◌, [], false, IfOk, OnOk, All, length, map, slice_get, Some};
+ghost use Rattle.std.specs.Prelude.{◌≡◌, ◌<◌, ◌++◌, ◌∷◌, [], false, IfOk, OnOk, ℕ, All, List, Option, length, map, option_to_list, slice_get, Some};
 ghost use Rattle.std.specs.Arc.{arc_value};
 ghost use Rattle.mdb_schema.specs.Write.{put_row, remove_row};
 ghost use Rattle.mem_txn.specs.Changes.{gives_replaced, gives_row};
-ghost use Rattle.mem_txn.specs.inner.VersionTables.{AnswersAskAt, AnswersAt, AreWithin, IsSound, standing, trees_of, unwritten};
+ghost use Rattle.mem_txn.specs.inner.VersionTables.{AnswersAskAt, AnswersAt, AreWithin, HasChanged, IsSound, standing, trees_of, unwritten};
+ghost use Rattle.mem_txn.specs.inner.Ended.{EndWith, EndsWith};
+ghost use Rattle.watch_word.specs.Logs.{Cell};
 ghost use Rattle.mem_txn.specs.inner.Wipes.{AnswersGoneAt, wiped_by};
 
 use crate::txn_table::TxnTable;
@@ -14,7 +16,7 @@ use radix_node::Ids;
 use std::alloc::{AllocError, Global};
 use std::marker::Model;
 use std::sync::Arc;
-use table_index::{Table, WipeError};
+use table_index::{Notices, Table, WipeError};
 use watch_word::Front;
 
 /// The tables of a write transaction, each at its place in the schema, and the ids of the cells that
@@ -40,6 +42,13 @@ impl Model for TxnTables {
     ghost invariant = { AreTables };
 }
 
+/// What a transaction ends with: its tables, and the notices of those that were open.
+#[derive(Drop)]
+pub(crate) struct Frozen {
+    pub(crate) tables: Vec<Arc<Table, Global>>,
+    pub(crate) gone: Vec<Notices>,
+}
+
 impl TxnTables {
     /// Tables that nobody has written to. It takes memory for the list of them.
     pub(crate) fn of(
@@ -49,6 +58,8 @@ impl TxnTables {
     ) -> Result<TxnTables, AllocError>
         requires within { All (AreWithin ids) (trees_of (map arc_value shared.now)) }
         ensures tables { IfOk result (λ ts. ts.tables ≡ map unwritten (map arc_value shared.now)) }
+        ensures changed { IfOk result
+            (λ ts. (first : ℕ) → All (HasChanged first []) ts.tables) }
         ensures ids { IfOk result (λ ts. ts.ids ≡ ids) }
     {
         let tables = unwritten(alloc, shared)?;
@@ -60,8 +71,8 @@ impl TxnTables {
         requires within { place < length self.old.tables }
         requires sound { All IsSound self.old.tables }
         requires book { front.now.book ≡ self.old.ids.book }
-        ensures { AnswersAt gives_replaced (λ t. put_row t.schema row.now t.rows) place result
-            self.old self.new }
+        ensures { AnswersAt gives_replaced (row.now ∷ []) (λ t. put_row t.schema row.now t.rows)
+            place result self.old self.new }
     {
         let table = &mut self.tables[place];
         table.put(front, &mut self.ids, row)
@@ -77,7 +88,7 @@ impl TxnTables {
         requires within { place < length self.old.tables }
         requires sound { All IsSound self.old.tables }
         requires book { front.now.book ≡ self.old.ids.book }
-        ensures { AnswersAt gives_row (λ t. remove_row t.schema row.now t.rows) place result
+        ensures { AnswersAt gives_row [] (λ t. remove_row t.schema row.now t.rows) place result
             self.old self.new }
     {
         let table = &mut self.tables[place];
@@ -123,25 +134,28 @@ impl TxnTables {
         standing(alloc, &mut self.tables)
     }
 
-    /// The tables that the writes end with, and the ids that come next. It takes memory for the list of
-    /// them and for each that is open.
-    pub(crate) fn freeze(self) -> Result<(Vec<Arc<Table, Global>>, Ids), AllocError>
+    /// The tables that the writes end with, the ids that come next, and the notices of the cells that are
+    /// gone. It takes memory for the list of the tables, and for each that is open.
+    pub(crate) fn freeze(self) -> Result<(Frozen, Ids), AllocError>
         requires sound { All IsSound self.tables }
-        ensures tables { IfOk result
-            (λ made. map arc_value made.0.items ≡ map standing self.tables) }
+        ensures tables { IfOk result (λ made. let end = made.0 in
+            map arc_value end.tables.items ≡ map standing self.tables) }
+        ensures ends { IfOk result (λ made. let end = made.0 in
+            EndWith self.tables (map arc_value end.tables.items) end.gone.items) }
         ensures ids { IfOk result (λ made. made.1 ≡ self.ids) }
-        ensures within { IfOk result
-            (λ made. All (AreWithin self.ids) (trees_of (map arc_value made.0.items))) }
+        ensures within { IfOk result (λ made. let end = made.0 in
+            All (AreWithin self.ids) (trees_of (map arc_value end.tables.items))) }
     {
         let TxnTables { tables, ids } = self;
-        let tables = frozen(*tables.allocator(), tables)?;
-        Ok((tables, ids))
+        let frozen = frozen_tables(*tables.allocator(), tables)?;
+        Ok((frozen, ids))
     }
 }
 
 /// Tables that nobody has written to.
 fn unwritten(alloc: Global, shared: &[Arc<Table, Global>]) -> Result<Vec<TxnTable>, AllocError>
-    ensures { IfOk result (λ ts. ts.items ≡ map unwritten (map arc_value shared.now)) }
+    ensures tables { IfOk result (λ ts. ts.items ≡ map unwritten (map arc_value shared.now)) }
+    ensures changed { IfOk result (λ ts. (first : ℕ) → All (HasChanged first []) ts.items) }
 {
     let mut tables = Vec::with_capacity(alloc, shared.len())?;
     for table in shared {
@@ -150,26 +164,39 @@ fn unwritten(alloc: Global, shared: &[Arc<Table, Global>]) -> Result<Vec<TxnTabl
     Ok(tables)
 }
 
-/// The tables that writes to these end with.
-fn frozen(alloc: Global, tables: Vec<TxnTable>) -> Result<Vec<Arc<Table, Global>>, AllocError>
+/// The tables that writes to these end with, and the notices of those that were open.
+fn frozen_tables(alloc: Global, tables: Vec<TxnTable>) -> Result<Frozen, AllocError>
     requires sound { All IsSound tables.items }
-    ensures { IfOk result (λ ts. map arc_value ts.items ≡ map standing tables.items) }
+    ensures tables { IfOk result
+        (λ end. map arc_value end.tables.items ≡ map standing tables.items) }
+    ensures ends { IfOk result
+        (λ end. EndWith tables.items (map arc_value end.tables.items) end.gone.items) }
 {
-    let mut frozen = Vec::with_capacity(alloc, tables.len())?;
+    let mut frozen = Frozen {
+        tables: Vec::with_capacity(alloc, tables.len())?,
+        gone: Vec::new(alloc),
+    };
     for table in tables {
         freeze_onto(&mut frozen, table)?;
     }
     Ok(frozen)
 }
 
-/// Adds the table that writes to one end with.
-fn freeze_onto(frozen: &mut Vec<Arc<Table, Global>>, table: TxnTable) -> Result<(), AllocError>
+/// Adds the table that writes to one end with, and its notices, if it was open.
+fn freeze_onto(frozen: &mut Frozen, table: TxnTable) -> Result<(), AllocError>
     requires sound { table.spoiled ≡ false }
-    ensures { OnOk result (map arc_value frozen.new.items
-        ≡ map arc_value frozen.old.items ++ standing table ∷ []) }
+    ensures table { OnOk result (map arc_value frozen.new.tables.items
+        ≡ map arc_value frozen.old.tables.items ++ standing table ∷ []) }
+    ensures ends { OnOk result ((notices : Option (List (List Cell)))
+        × EndsWith table (standing table) notices
+        × (frozen.new.gone.items ≡ frozen.old.gone.items ++ option_to_list notices)) }
 {
-    let alloc = *frozen.allocator();
-    frozen.push(table.freeze(alloc)?)?;
+    let alloc = *frozen.tables.allocator();
+    let (table, notices) = table.freeze(alloc)?;
+    frozen.tables.push(table)?;
+    if let Some(notices) = notices {
+        frozen.gone.push(notices)?;
+    }
     Ok(())
 }
 

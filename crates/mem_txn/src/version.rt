@@ -17,7 +17,7 @@ pub(crate) struct Version {
 }
 
 impl Model for Version {
-    ghost use Rattle.mem_txn.specs.inner.Versions.{Version};
+    ghost use Rattle.mem_txn.specs.inner.Values.{Version};
     ghost use Rattle.mem_txn.specs.inner.Stored.{version_code};
 
     ghost Value = { Version };
@@ -30,12 +30,12 @@ impl Model for Version {
 }
 
 impl db_front::Version for Version {
-    ghost use Rattle.mem_txn.specs.inner.Versions.{IsLogOf, StandsFor};
+    ghost use Rattle.mem_txn.specs.inner.Steps.{HasFired};
+    ghost use Rattle.mem_txn.specs.inner.Versions.{StandsFor};
 
     ghost stands = { StandsFor };
 
-    // No commit fires a cell yet.
-    ghost fired = { IsLogOf };
+    ghost fired = { HasFired };
 }
 
 impl Version {

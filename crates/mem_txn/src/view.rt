@@ -1,19 +1,24 @@
 //! The state after a commit.
-ghost use Rattle.std.specs.Prelude.{◌≡◌, ◌≤◌, ◌+◌, ◌^◌, ◌++◌, ◌∷◌, [], All, IfOk, OnOk, map};
+ghost use Rattle.std.specs.Prelude.{◌≡◌, ◌≤◌, ◌+◌, ◌^◌, ◌++◌, ◌∷◌, [], All, IfOk, OnOk, Some, if◌then◌else◌, map};
 ghost use Rattle.std.specs.Arc.{arc_value};
 ghost use Rattle.mdb_schema.specs.Answer.{ask};
 ghost use Rattle.mdb_schema.specs.Refusals.{AnswersAsk};
 ghost use Rattle.mdb_schema.specs.State.{empty_state};
 ghost use Rattle.mem_txn.specs.inner.EmptyTables.{AreEmpty, IsEmptyOf};
+ghost use Rattle.mem_txn.specs.inner.Steps.{tables_with};
 ghost use Rattle.mem_txn.specs.inner.VersionTables.{AreWithin, schemas_of, state_of, trees_of};
 ghost use Rattle.table_index.specs.Table.{TableRows};
+ghost use Rattle.table_index.specs.Watched.{AnswersWatch, HoldsRows, is_watchable};
+ghost use Rattle.mdb_schema.specs.declared.ask_error.AskError.TheVariants.{UnknownTable, Unwatchable};
+ghost use Rattle.mem_txn.specs.CellHistory.{question_cell};
 
-use mdb_schema::{Answer, AskError, Query, Schema, TableDef};
+use mdb_schema::{Answer, Ask, AskError, Query, Schema, TableDef};
 use radix_node::Ids;
 use std::alloc::{AllocError, Global};
 use std::marker::Model;
 use std::sync::Arc;
-use table_index::Table;
+use table_index::table_laws::rows_are_held;
+use table_index::{Table, Watched};
 use watch_word::Front;
 
 /// The tables after a commit, in the schema's order, seen as a `View` with the trees. It never changes.
@@ -26,7 +31,7 @@ pub(crate) struct View {
 
 impl Model for View {
     ghost use Rattle.mem_txn.specs.inner.Stored.{view_with_trees_code};
-    ghost use Rattle.mem_txn.specs.inner.Versions.{ViewWithTrees};
+    ghost use Rattle.mem_txn.specs.inner.Values.{ViewWithTrees};
 
     ghost Value = { ViewWithTrees };
 
@@ -53,6 +58,8 @@ impl View {
         ensures view { IfOk result
             (λ v. v.view ≡ record { schema = schema; number = 0; state = empty_state schema }) }
         ensures within { IfOk result (λ v. All (AreWithin ids.new) v.trees) }
+        ensures held { IfOk result
+            (λ v. All HoldsRows (tables_with v.view.schema v.view.state v.trees)) }
         ensures book { ids.new.book ≡ ids.old.book }
         ensures few { OnOk result (ids.new.next ≤ 2 ^ 11) }
     {
@@ -119,6 +126,28 @@ impl View {
         self.number
     }
 
+    /// Where its tables stand.
+    pub(crate) fn allocator(&self) -> Global {
+        *self.tables.allocator()
+    }
+
+    /// What a question is answered, with its watch.
+    pub(crate) fn ask_watch(&self, query: &Query) -> Result<Watched, AskError>
+        ensures answers { AnswersWatch (is_watchable query.now.ask)
+            (ask self.now.view.schema self.now.view.state query.now) result }
+        ensures cell { IfOk result (λ w. let spot = w.spot in
+            question_cell self.now.view.schema self.now.view.state self.now.trees query.now
+            ≡ Some spot.watch) }
+    {
+        match self.schema.find(query.table().as_str()) {
+            Some(place) => {
+                let table = &self.tables[place];
+                table.ask_watch(query)
+            }
+            None => Err(unknown_or_unwatchable(query.ask())),
+        }
+    }
+
     /// What a question is answered.
     pub(crate) fn ask(&self, query: &Query) -> Result<Answer, AskError>
         ensures { AnswersAsk (ask self.now.view.schema self.now.view.state query.now) result }
@@ -130,6 +159,17 @@ impl View {
             }
             None => Err(AskError::UnknownTable),
         }
+    }
+}
+
+/// Why a question of a table that isn't there can't be watched. That it isn't one for a watch is told before
+/// any other rule.
+fn unknown_or_unwatchable(ask: Ask) -> AskError
+    ensures { result ≡ (if is_watchable ask then UnknownTable else Unwatchable) }
+{
+    match ask {
+        Ask::Lower | Ask::ReverseLower | Ask::Longest => AskError::Unwatchable,
+        _ => AskError::UnknownTable,
     }
 }
 
@@ -174,6 +214,7 @@ fn push_empty(
 {
     let alloc = *tables.allocator();
     let table = Table::empty(alloc, def, front, ids)?;
+    rows_are_held(&table);
     tables.push(Arc::new(alloc, table)?)?;
     Ok(())
 }

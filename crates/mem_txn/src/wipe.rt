@@ -4,7 +4,8 @@ ghost use Rattle.mdb_schema.specs.Wipe.{removals};
 ghost use Rattle.mdb_schema.specs.Write.{remove};
 ghost use Rattle.mem_txn.specs.inner.VersionTables.{IsSound, IsWithin, unwritten};
 ghost use Rattle.mem_txn.specs.inner.Wipes.{JoinsGoneAt, Refuses, is_memory, wiped_by};
-ghost use Rattle.table_index.specs.Table.{AnswersCheck, AnswersTake, rows_asked};
+ghost use Rattle.table_index.specs.Table.{AnswersCheck, AnswersTake, AreDrawn, rows_asked};
+ghost use Rattle.table_index.specs.Written.{Writes, rows_told};
 ghost use Rattle.table_index.specs.declared.wipe_error.WipeError.TheVariants.{Memory};
 
 use crate::accepted::{Accepted, Kind};
@@ -67,6 +68,9 @@ impl Wipe {
         ensures few { ids.new.next ≤ ids.old.next + 2 ^ 26
             * rows_asked (wiped_by self table.old.schema table.old.rows query.now) }
         ensures refused { IfErr result (λ e. (e ≡ Memory) ⊎ (ids.new ≡ ids.old)) }
+        ensures drawn { AreDrawn front.now ids.old ids.new table.old.trees table.new.trees }
+        ensures written { OnOk result (Writes
+            (rows_told (wiped_by self table.old.schema table.old.rows query.now)) table.old table.new) }
     {
         match self {
             Wipe::Listed => table.take_all(front, ids, query),

@@ -134,9 +134,9 @@ impl<D: Drop> WriteTxn<D> {
         changes.abort(db)
     }
 
-    /// Makes the writes a commit, and hands the deferred items out, last deferred first. All memory
-    /// is taken before the new state is shown. A commit that is refused has aborted the
-    /// transaction.
+    /// Makes the writes a commit, fires the cells that are gone, and hands the deferred items out, last
+    /// deferred first. All memory is taken before the new state is shown. A commit that is refused has
+    /// aborted the transaction.
     pub fn commit<R: Wait>(self, rt: &R, db: &Db) -> Result<Committed<D>, CommitRefused>
         requires own { IsOf db.now (changes_of self).caller }
         ensures { AnswersCommit self result }
@@ -144,9 +144,9 @@ impl<D: Drop> WriteTxn<D> {
         let WriteTxn { changes, deferred } = self;
         let number = changes.number() + 1;
         match commit(rt, changes, db) {
-            Ok(pass) => {
+            Ok((pass, log)) => {
                 let items = DeferredList::of(deferred);
-                let receipt = Receipt { number, items };
+                let receipt = Receipt { number, log, items };
                 Ok(Committed { pass, receipt })
             }
             Err(refused) => Err(refused),

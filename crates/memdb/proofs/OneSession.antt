@@ -9,7 +9,7 @@ use Rattle.std.proofs.lemmas.List.Sorted.{IsPermutation-refl}
 use Rattle.mdb_datum.specs.Bytes.{Bytes}
 use Rattle.mdb_schema.specs.History.{Commit, History}
 use Rattle.mdb_schema.specs.Schema.{DbSchema}
-use Rattle.mem_txn.specs.Database.{AreAll, AreNamed, Caller, Callers, Database, IsWhole, commits_by, new_callers, new_pass}
+use Rattle.mem_txn.specs.Database.{AreAll, AreNamed, Caller, Callers, Database, IsWhole, Opening, commits_by, new_callers, new_pass}
 use Rattle.mem_txn.proofs.AllBack.{one_back}
 use Rattle.client_script.proofs.LongerHistory.{session_longer}
 use Rattle.client_script.specs.Legal.{Legal, printed, callers}
@@ -51,24 +51,24 @@ all_numbers (c ∷ H) (m ∷ ms) low high named rising long few =
 
 -- ---- a new database of one caller
 
-no_caller : Database → Caller
-no_caller db = new_pass db 0
+no_caller : Database → Opening → Caller
+no_caller db opening = new_pass db opening 0
 
-first_of_all : Database → List Caller → Caller
-first_of_all db [] = no_caller db
-first_of_all db (p ∷ ps) = p
+first_of_all : Database → Opening → List Caller → Caller
+first_of_all db opening [] = no_caller db opening
+first_of_all db opening (p ∷ ps) = p
 
 others_of : List Caller → List Caller
 others_of [] = []
 others_of (p ∷ ps) = ps
 
-module _ (db : Database) (made rest : Callers) (p : Caller) (new : made ≡ new_callers db 1) (taken : made ≡ record rest { passes = p ∷ rest.passes }) where
-  both : record rest { passes = p ∷ rest.passes } ≡ new_callers db 1
+module _ (db : Database) (made rest : Callers) (p : Caller) (opening : Opening) (new : made ≡ new_callers db opening 1) (taken : made ≡ record rest { passes = p ∷ rest.passes }) where
+  both : record rest { passes = p ∷ rest.passes } ≡ new_callers db opening 1
   both = sym taken ∙ new
 
-  pub fresh_pass : p ≡ new_pass db 1
+  pub fresh_pass : p ≡ new_pass db opening 1
   unfolding first_of_all
-  fresh_pass = ap (λ (c : Callers). first_of_all db c.passes) both
+  fresh_pass = ap (λ (c : Callers). first_of_all db opening c.passes) both
 
   pub none_left : rest ≡ record { passes = []; made = 1 }
   unfolding others_of
@@ -87,9 +87,9 @@ module _ (db : Database) (H : History) (p : Caller) (one : db.callers ≡ 1) (wh
   seen : IsPrefix p.seen H
   seen = whole.own.1
 
-  pub legal : (schema : DbSchema) (name : Bytes) (script : List Line) (text out : Bytes) → db.schema ≡ schema → HasAnswered (new_pass db 1) p script text → out ≡ heading 1 name ++ text → Legal schema (name ∷ []) (script ∷ []) out
+  pub legal : (opening : Opening) (schema : DbSchema) (name : Bytes) (script : List Line) (text out : Bytes) → db.schema ≡ schema → HasAnswered (new_pass db opening 1) p script text → out ≡ heading 1 name ++ text → Legal schema (name ∷ []) (script ∷ []) out
   unfolding named own seen
-  legal schema name script text out same h is =
+  legal opening schema name script text out same h is =
       let made : length (printed h.tells.replies) ≡ length H = sym (length-map (printed h.tells.replies) (commit_at p.seen)) ∙ ap length h.told ∙ length-map h.made Some ∙ ap length (sym (own ∙ h.own)) in
       let long = length-append p.seen seen.0 in
       let all = ap length seen.1 in
@@ -114,16 +114,16 @@ given_back rest given p q is same = subst (λ (x : Caller). given ≡ record res
 abbrev pub started : List Line → Caller → Progress
 started script p = record { client = 1; script = script; caller = p; text = []; done = false; failed = false }
 
-module _ (db : Database) (made rest : Callers) (p : Caller) (new : made ≡ new_callers db 1) (taken : made ≡ record rest { passes = p ∷ rest.passes }) (script : List Line) (s : Progress) (is : s ≡ started script p) where
+module _ (db : Database) (made rest : Callers) (p : Caller) (opening : Opening) (new : made ≡ new_callers db opening 1) (taken : made ≡ record rest { passes = p ∷ rest.passes }) (script : List Line) (s : Progress) (is : s ≡ started script p) where
   number_one : 1 ≡ p.number
-  number_one = sym (ap (λ (q : Caller). q.number) (fresh_pass db made rest p new taken))
+  number_one = sym (ap (λ (q : Caller). q.number) (fresh_pass db made rest p opening new taken))
 
   module _ (q : Caller) (given : Callers) (given_is : given ≡ record rest { passes = rest.passes ++ q ∷ [] }) where
     same_number : IsLater s.caller q → q.number ≡ 1
     same_number later = later.number ∙ sym (ap (λ (x : Progress). x.caller.number) (sym is)) ∙ sym number_one
 
     one_given : given.passes ≡ q ∷ []
-    one_given = ap (λ (c : Callers). c.passes) given_is ∙ ap (λ (c : Callers). c.passes ++ q ∷ []) (none_left db made rest p new taken)
+    one_given = ap (λ (c : Callers). c.passes) given_is ∙ ap (λ (c : Callers). c.passes ++ q ∷ []) (none_left db made rest p opening new taken)
 
     -- so all passes are back
     pub all_back : (db : Database) → db.callers ≡ 1 → IsLater s.caller q → AreAll db.callers given.passes
@@ -131,6 +131,6 @@ module _ (db : Database) (made rest : Callers) (p : Caller) (new : made ≡ new_
 
     pub all_legal : {A : Type 0} (items : A → Bytes) (r : Result A AllocError) (schema : DbSchema) (name text : Bytes) (H : History) → db.schema ≡ schema → db.callers ≡ 1 → IsLater s.caller q → IsWhole db given.passes H → IfOk r (λ out. HasAnswered s.caller q s.script text) → IfOk r (λ out. items out ≡ heading 1 name ++ text) → IfOk r (λ out. Legal schema (name ∷ []) (script ∷ []) (items out))
     all_legal items (Ok out) schema name text H same one later whole answered is_text =
-        legal db H q one (subst (λ (ps : List Caller). IsWhole db ps H) one_given whole) (same_number later) schema name script text (items out) same
-        (subst (λ (c : Caller). HasAnswered c q script text) (fresh_pass db made rest p new taken) (subst (λ (x : Progress). HasAnswered x.caller q x.script text) is answered)) is_text
+        legal db H q one (subst (λ (ps : List Caller). IsWhole db ps H) one_given whole) (same_number later) opening schema name script text (items out) same
+        (subst (λ (c : Caller). HasAnswered c q script text) (fresh_pass db made rest p opening new taken) (subst (λ (x : Progress). HasAnswered x.caller q x.script text) is answered)) is_text
     all_legal items (Err e) schema name text H same one later whole answered is_text = tt

@@ -15,6 +15,7 @@ pub mod KeyLoops
 pub mod KeysTold
 pub mod ListedKeys
 pub mod Looked
+pub mod NewTrees
 pub mod OneByOne
 pub mod OwnNames
 pub mod PutSteps

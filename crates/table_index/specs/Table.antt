@@ -8,10 +8,11 @@ use Rattle.mdb_schema.specs.Wipe.{without_rows}
 use Rattle.mdb_schema.specs.Write.{Tested, Changed, WriteRefusal}
 use Rattle.mdb_schema.specs.declared.write_error.WriteError.{WriteError}
 use Rattle.mdb_schema.specs.declared.write_error.WriteError.TheVariants.{Memory, IdsSpent}
-use Rattle.radix_node.specs.Cells.{AreBelow, AreOf, CellTree}
+use Rattle.radix_node.specs.Cells.{AreBelow, AreOf, CellTree, cells_of}
 use Rattle.radix_node.specs.Ids.{Book, Counter}
-use Rattle.radix_txn.specs.Notice.{IsDrawn}
-use Rattle.watch_word.specs.Logs.{Log}
+use Rattle.radix_txn.specs.Notice.{IsBetween, IsDrawn}
+use Rattle.radix_node.specs.Paths.{Has}
+use Rattle.watch_word.specs.Logs.{Cell, Log}
 use Rattle.table_index.specs.declared.wipe_error.WipeError.{WipeError}
 use Rattle.table_index.specs.declared.wipe_error.WipeError.TheVariants as wipe_errors
 
@@ -48,6 +49,17 @@ AreDrawn log before after [] (new ∷ news) = ⊥
 AreDrawn log before after (old ∷ olds) [] = ⊥
 AreDrawn log before after (old ∷ olds) (new ∷ news) =
     IsDrawn log before after old new × AreDrawn log before after olds news
+
+-- each cell of a tree was drawn in between
+abbrev pub IsNew : Log → Counter → Counter → CellTree → Type 0
+IsNew log before after t = (c : Cell) → Has c (cells_of t) → IsBetween log before after c
+
+-- the cells of trees were drawn tree by tree, so no two trees share an id
+abbrev pub AreNewInTurn : Log → Counter → Counter → List CellTree → Type 0
+AreNewInTurn log before after [] = (before.next ≤ after.next) × (after.book ≡ before.book)
+AreNewInTurn log before after (t ∷ ts) =
+    (mid : Counter) × IsNew log before mid t × (before.next ≤ mid.next) × (mid.book ≡ before.book)
+    × AreNewInTurn log mid after ts
 
 -- from the next id on there are 2^26 ids for each of so many rows
 abbrev pub AreLeft : ℕ → ℕ → Type 0

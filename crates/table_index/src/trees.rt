@@ -2,7 +2,7 @@
 ghost use Rattle.std.specs.Prelude.{◌≡◌, ◌+◌, ◌≤◌, ◌^◌, [], IfOk, OnOk, map, replicate};
 ghost use Rattle.radix_node.specs.Nodes.{pairs_of};
 ghost use Rattle.table_index.specs.Frozen.{AreFrozen};
-ghost use Rattle.table_index.specs.Table.{AreAllBelow, AreAllOf};
+ghost use Rattle.table_index.specs.Table.{AreAllBelow, AreAllOf, AreNewInTurn};
 ghost use Rattle.table_index.specs.inner.Held.{AreSound, begun, plains, starts_of, trees_of};
 
 use crate::notices::Notices;
@@ -24,6 +24,7 @@ pub(crate) fn empty_trees(
         (λ trees. map pairs_of (plains trees.items) ≡ replicate count []) }
     ensures below { IfOk result (λ trees. AreAllBelow ids.new.next trees.items) }
     ensures of { IfOk result (λ trees. AreAllOf ids.new.book trees.items) }
+    ensures drawn { IfOk result (λ trees. AreNewInTurn front.now ids.old ids.new trees.items) }
     ensures book { ids.new.book ≡ ids.old.book }
     ensures later { ids.old.next ≤ ids.new.next }
     ensures few { OnOk result (ids.new.next ≤ ids.old.next + count) }

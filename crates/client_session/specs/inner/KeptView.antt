@@ -8,7 +8,7 @@ use Rattle.client_session.specs.declared.kept.Kept.TheVariants as kept
 use Rattle.client_session.specs.declared.snapshots.Snapshots.{Snapshots}
 
 abbrev pub kept_view : Kept → View
-kept_view (kept.Committed view) = view
+kept_view (kept.Committed reading) = reading.view
 kept_view (kept.Uncommitted view) = view
 
 -- what the snapshot of a name sees

@@ -4,6 +4,7 @@ use Rattle.std.specs.List.{enumerate_from}
 use Rattle.client_session.specs.Begun.{AreAmong, number_begun}
 use Rattle.client_script.specs.Legal.{callers, number_printed}
 use Rattle.mdb_schema.specs.History.{History}
+use Rattle.mem_txn.specs.CellHistory.{Forest}
 use Rattle.mem_txn.specs.Database.{Caller, View}
 use Rattle.mem_txn.specs.Transactions.{changes_of, items_of}
 use Rattle.mdb_schema.specs.History.{state_at}
@@ -24,7 +25,7 @@ caller_of (opens.Writing txn) = (changes_of txn).caller
 
 abbrev pub transaction_of : Open → Transaction
 transaction_of (opens.Nothing pass) = closed
-transaction_of (opens.Reading pass txn) = reading txn.number
+transaction_of (opens.Reading pass txn) = reading txn.view.number
 transaction_of (opens.Writing txn) = writing (record {
   number = length (changes_of txn).caller.seen;
   writes = (changes_of txn).writes;
@@ -40,7 +41,7 @@ view_at_commit p n = record { schema = p.schema; number = n; state = state_at p.
 abbrev pub Stands : Open → Type 0
 Stands (opens.Nothing pass) = ⊤
 Stands (opens.Reading pass txn) =
-    (txn.number ≤ length pass.seen) × (txn ≡ view_at_commit pass txn.number)
+    (txn.view.number ≤ length pass.seen) × (txn.view ≡ view_at_commit pass txn.view.number)
 Stands (opens.Writing txn) = (changes_of txn).spoiled ≡ false
 
 -- the commit that a reply tells
@@ -49,12 +50,13 @@ made caller (writing t) (committed m texts) =
     record { caller = caller; writes = t.writes } ∷ []
 made caller t r = []
 
--- the caller has made the commit that the reply tells, and seen no other
+-- the caller has made the commit that the reply tells, and seen no other; the trees after it follow
 abbrev pub Grows : Caller → Caller → Transaction → Reply → Type 0
-Grows old new t r = new ≡ record old {
+Grows old new t r = (trees : List Forest) × (new ≡ record old {
   seen = old.seen ++ made old.number t r;
+  trees = old.trees ++ trees;
   own = old.own ++ made old.number t r;
-}
+})
 
 -- a commit that is told has the next number
 abbrev pub IsNumbered : Caller → Transaction → Reply → Type 0

@@ -45,7 +45,9 @@ pass_in None = record {
   number = 0;
   database = (no_table, 0);
   schema = [];
+  book = record { number = 0; log_name = 0; cells_name = 0 };
   seen = [];
+  trees = [];
   own = [];
   counts = [];
   tries = [];

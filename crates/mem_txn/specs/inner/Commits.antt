@@ -1,16 +1,22 @@
 -- The start and the end of a transaction, but for the deferred items.
-use Rattle.std.specs.Prelude.{◌≡◌, ◌⊎◌, ◌+◌, ◌^◌, ◌<◌, All, true, false, [], length, Result, Ok, Err}
-use Rattle.mdb_schema.specs.History.{after_writes}
-use Rattle.mem_txn.specs.Changes.{Changes, after_commit, begun, writes_in}
-use Rattle.mem_txn.specs.Database.{Caller, state_seen}
-use Rattle.mem_txn.specs.Transactions.{changes_of, items_of}
+use Rattle.std.specs.Prelude.{◌≡◌, ◌⊎◌, ◌+◌, ◌^◌, ◌<◌, All, true, false, List, [], length, Result, Ok, Err}
+use Rattle.mdb_schema.specs.History.{after_writes, writes_in}
+use Rattle.mem_txn.specs.Changes.{Changes, after_commit, begun}
+use Rattle.table_index.specs.Watched.{HoldsRows}
+use Rattle.watch_word.specs.Logs.{Cell, Log}
+use Rattle.mem_txn.specs.CellHistory.{Forest, HasFirings}
+use Rattle.mem_txn.specs.Database.{Caller, cells_seen, state_seen}
+use Rattle.mem_txn.specs.Transactions.{TellsChanges, changes_of, items_of}
 use Rattle.mem_txn.specs.declared.outcome.BeginRefused.{BeginRefused}
 use Rattle.mem_txn.specs.declared.outcome.CommitRefused.{CommitRefused}
 use Rattle.mem_txn.specs.declared.txn_error.BeginError.TheVariants as begin_errors
 use Rattle.mem_txn.specs.declared.txn_error.CommitError.TheVariants.{Memory, Spoiled}
 use Rattle.mem_txn.specs.declared.write_txn.WriteTxn.{WriteTxn}
 use Rattle.mem_txn.specs.inner.VersionTables.{AreWithin}
-use Rattle.mem_txn.specs.inner.Versions.{AreFew, Turned, Version}
+use Rattle.mem_txn.specs.inner.Firing.{AreGone, cells_told}
+use Rattle.mem_txn.specs.inner.Steps.{IsStep, tables_of}
+use Rattle.mem_txn.specs.inner.Values.{AreFew, Version}
+use Rattle.mem_txn.specs.inner.Versions.{Turned}
 
 -- why a caller with the writer's turn doesn't begin; it has its pass back
 abbrev pub RefusesTurn : Caller → BeginRefused → Type 0
@@ -24,26 +30,37 @@ AnswersTurn p (Ok t) =
     (length p.seen < 2 ^ 63) × (changes_of t ≡ begun p) × (items_of t ≡ [])
 AnswersTurn p (Err refused) = RefusesTurn p refused
 
--- the value is the next after what the caller has seen
+-- the value is the next after what the caller has seen, and a step from the last one
 pub record IsNext (p : Turned) (v : Version) : Type 0 where
   pub view : v.view ≡ record {
     schema = p.caller.schema;
     number = length p.caller.seen + 1;
     state = after_writes p.caller.schema (state_seen p.caller) v.writes;
   }
-  pub book : v.ids.book ≡ p.ids.book
   pub within : All (AreWithin v.ids) v.trees
+  pub held : All HoldsRows (tables_of v)
+  pub step : IsStep p.base v
   pub few : AreFew (writes_in p.caller.seen + length v.writes) v.ids
 
--- a turn and the value that its transaction's commit shows
-pub record IsNextOf (t : Changes) (turn : Turned) (v : Version) : Type 0 where
+-- a turn, the value that its transaction's commit shows, and the notices of the cells that are gone
+pub record IsNextOf (t : Changes) (turn : Turned) (v : Version) (gone : List (List (List Cell)))
+    : Type 0 where
   pub caller : turn.caller ≡ t.caller
   pub writes : v.writes ≡ t.writes
   pub next : IsNext turn v
+  pub told : AreGone turn.base.trees v.trees (cells_told gone)
 
--- the pass has made the commit; or it is refused, and exactly a spoiled transaction is told so
-abbrev pub AnswersChanges : Changes → Result Caller CommitRefused → Type 0
-AnswersChanges t (Ok pass) = (t.spoiled ≡ false) × (pass ≡ after_commit t)
+-- the pass has made the commit, and the log has all that the commits up to it fire
+pub record IsShown (t : Changes) (made : Caller × Log) : Type 0 where
+  pub trees : Forest
+  pub pass : made.0 ≡ after_commit t trees
+  pub book : made.1.book ≡ made.0.book
+  pub fired : HasFirings (cells_seen made.0) (length made.0.seen) made.1
+  pub told : TellsChanges (cells_seen made.0) made.1
+
+-- the commit is made; or it is refused, and exactly a spoiled transaction is told so
+abbrev pub AnswersChanges : Changes → Result (Caller × Log) CommitRefused → Type 0
+AnswersChanges t (Ok made) = (t.spoiled ≡ false) × IsShown t made
 AnswersChanges t (Err refused) = (refused.pass ≡ t.caller)
     × (((t.spoiled ≡ true) × (refused.cause ≡ Spoiled))
     ⊎ ((t.spoiled ≡ false) × (refused.cause ≡ Memory)))

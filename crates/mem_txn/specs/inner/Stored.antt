@@ -3,7 +3,7 @@ use Rattle.std.specs.Prelude.{◌≡◌, ℕ, Bool, true, false, List, refl}
 use Rattle.std.specs.Coded.{Coded, code_by, coded×, coded_ℕ, coded_bool, coded_list}
 use Rattle.atomic_table.specs.Seated.{table_id_coded}
 use Rattle.db_front.specs.Passes.{FrontId}
-use Rattle.logbook.specs.Pages.{Book, book_coded}
+use Rattle.radix_node.specs.inner.Stored.{book_coded}
 use Rattle.mdb_datum.specs.Row.{Fields}
 use Rattle.mdb_datum.specs.inner.Stored.{fields_code}
 use Rattle.mdb_encode.specs.Bytes.{Bytes}
@@ -13,13 +13,15 @@ use Rattle.mdb_schema.specs.State.{State}
 use Rattle.mdb_schema.specs.Write.{Write, put, remove}
 use Rattle.mdb_schema.specs.inner.Stored.{name_code, schema_code}
 use Rattle.mdb_schema.specs.inner.StoredQuery.{rows_code}
-use Rattle.radix_node.specs.Ids.{Counter}
+use Rattle.radix_node.specs.Ids.{Book, Counter}
 use Rattle.table_index.specs.Table.{TableChange}
 use Rattle.table_index.specs.inner.Stored.{table_change_code, trees_code}
 use Rattle.mem_txn.specs.Changes.{Changes}
-use Rattle.mem_txn.specs.Database.{Caller, Callers, Database, View}
+use Rattle.mem_txn.specs.CellHistory.{Forest}
+use Rattle.mem_txn.specs.Database.{Caller, Callers, Database, Reading, View}
 use Rattle.mem_txn.specs.inner.VersionTables.{Tables}
-use Rattle.mem_txn.specs.inner.Versions.{Forest, Turned, Version, ViewWithTrees}
+use Rattle.mem_txn.specs.inner.Values.{Version, ViewWithTrees}
+use Rattle.mem_txn.specs.inner.Versions.{Turned}
 
 -- whether a write is a put, with the name of its table and its row
 abbrev pub Parts : Type 0
@@ -60,29 +62,39 @@ counts_code = coded_list coded_ℕ
 abbrev pub front_code : Coded FrontId
 front_code = coded× table_id_coded coded_ℕ
 
--- a caller's number and database, its commits, and its counts and tries
+abbrev pub forest_code : Coded Forest
+forest_code = coded_list trees_code
+
+-- a caller's number and database, its commits with the trees, and its counts and tries
 abbrev pub CallerParts : Type 0
-CallerParts = (ℕ × (FrontId × DbSchema)) × ((History × History) × (List ℕ × List ℕ))
+CallerParts =
+    (ℕ × (FrontId × (DbSchema × Book)))
+    × ((History × (History × List Forest)) × (List ℕ × List ℕ))
 
 abbrev pub caller_parts : Caller → CallerParts
-caller_parts c =
-    ((c.number, (c.database, c.schema)), ((c.seen, c.own), (c.counts, c.tries)))
+caller_parts c = (
+  (c.number, (c.database, (c.schema, c.book))),
+  ((c.seen, (c.own, c.trees)), (c.counts, c.tries)),
+)
 
 abbrev pub caller_from : CallerParts → Caller
 caller_from p = record {
   number = p.0.0;
   database = p.0.1.0;
-  schema = p.0.1.1;
+  schema = p.0.1.1.0;
+  book = p.0.1.1.1;
   seen = p.1.0.0;
-  own = p.1.0.1;
+  trees = p.1.0.1.1;
+  own = p.1.0.1.0;
   counts = p.1.1.0;
   tries = p.1.1.1;
 }
 
 abbrev pub caller_code : Coded Caller
 caller_code = code_by CallerParts
-    (coded× (coded× coded_ℕ (coded× front_code schema_code))
-    (coded× (coded× history_code history_code) (coded× counts_code counts_code)))
+    (coded× (coded× coded_ℕ (coded× front_code (coded× schema_code book_coded)))
+    (coded× (coded× history_code (coded× history_code (coded_list forest_code)))
+    (coded× counts_code counts_code)))
     caller_parts caller_from (λ _. refl)
 
 abbrev pub callers_code : Coded Callers
@@ -104,9 +116,6 @@ abbrev pub counter_code : Coded Counter
 counter_code = code_by (Book × ℕ) (coded× book_coded coded_ℕ)
     (λ i. (i.book, i.next)) (λ p. record { book = p.0; next = p.1 }) (λ _. refl)
 
-abbrev pub forest_code : Coded Forest
-forest_code = coded_list trees_code
-
 abbrev pub view_with_trees_code : Coded ViewWithTrees
 view_with_trees_code = code_by (View × Forest) (coded× view_code forest_code)
     (λ v. (v.view, v.trees)) (λ p. record { view = p.0; trees = p.1 }) (λ _. refl)
@@ -118,8 +127,13 @@ version_code = code_by ((View × Forest) × (List Write × Counter))
     (λ p. record { view = p.0.0; trees = p.0.1; writes = p.1.0; ids = p.1.1 }) (λ _. refl)
 
 abbrev pub turned_code : Coded Turned
-turned_code = code_by (Caller × Counter) (coded× caller_code counter_code)
-    (λ t. (t.caller, t.ids)) (λ p. record { caller = p.0; ids = p.1 }) (λ _. refl)
+turned_code = code_by (Caller × Version) (coded× caller_code version_code)
+    (λ t. (t.caller, t.base)) (λ p. record { caller = p.0; base = p.1 }) (λ _. refl)
+
+abbrev pub reading_code : Coded Reading
+reading_code = code_by (View × (Forest × Book)) (coded× view_code (coded× forest_code book_coded))
+    (λ r. (r.view, (r.trees, r.book)))
+    (λ p. record { view = p.0; trees = p.1.0; book = p.1.1 }) (λ _. refl)
 
 abbrev pub changes_code : Coded Changes
 changes_code = code_by (Caller × (List Write × Bool))

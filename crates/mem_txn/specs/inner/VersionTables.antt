@@ -1,5 +1,5 @@
 -- Lists of tables, each at its place in the schema.
-use Rattle.std.specs.Prelude.{◌≡◌, ◌≤◌, ◌⊎◌, ◌+◌, ◌++◌, ◌^◌, ℕ, Bool, true, false, List, [], ◌∷◌, map, slice_get, slice_set, Some, All}
+use Rattle.std.specs.Prelude.{◌≡◌, ◌≤◌, ◌⊎◌, ◌+◌, ◌++◌, ◌^◌, ℕ, Bool, true, false, List, [], ◌∷◌, map, option_to_list, slice_get, slice_set, Some, All, ⊤}
 use Rattle.std.specs.Prelude.{Option, Result, Ok, Err, MatchResult}
 use Rattle.mdb_datum.specs.Row.{Fields}
 use Rattle.mdb_schema.specs.Answer.{ask_rows}
@@ -7,6 +7,8 @@ use Rattle.mdb_schema.specs.Query.{Query}
 use Rattle.mdb_schema.specs.Refusals.{AnswersAsk, write_error}
 use Rattle.mdb_schema.specs.Schema.{TableSchema, DbSchema}
 use Rattle.mdb_schema.specs.State.{State}
+use Rattle.mdb_encode.specs.Bytes.{Bytes}
+use Rattle.mdb_schema.specs.Touched.{row_put}
 use Rattle.mdb_schema.specs.Write.{Changed, Tested, Write}
 use Rattle.mdb_schema.specs.declared.answer.Answer.{Answer}
 use Rattle.mdb_schema.specs.declared.ask_error.AskError.{AskError}
@@ -14,7 +16,10 @@ use Rattle.mdb_schema.specs.declared.write_error.WriteError.{WriteError}
 use Rattle.mdb_schema.specs.declared.write_error.WriteError.TheVariants.{IdsSpent, Memory}
 use Rattle.radix_node.specs.Cells.{CellTree}
 use Rattle.radix_node.specs.Ids.{Counter}
+use Rattle.radix_txn.specs.Notice.{IsOpened}
 use Rattle.table_index.specs.Table.{AreAllBelow, AreAllOf, IsChanged, IsSpent, TableRows, TableChange}
+use Rattle.table_index.specs.Written.{HasWritten, Writes}
+use Rattle.mem_txn.specs.CellHistory.{Forest}
 
 abbrev pub schemas_of : List TableRows → DbSchema
 schemas_of ts = map (λ (t : TableRows). t.schema) ts
@@ -55,6 +60,32 @@ pub record IsWithin (ids : Counter) (t : TableChange) : Type 0 where
   pub start : AreWithin ids t.start
   pub trees : AreWithin ids t.trees
 
+-- in each tree of the one list a cell is one of the tree at its place in the other, or its id is at least
+-- this
+abbrev pub AreOpened : ℕ → List CellTree → List CellTree → Type 0
+AreOpened first [] [] = ⊤
+AreOpened first (old ∷ olds) (new ∷ news) = IsOpened first old new × AreOpened first olds news
+AreOpened first olds news = ⊥
+
+-- since its beginning a change opened cells from this id on, and wrote full keys of these rows alone
+pub record HasChanged (first : ℕ) (rows : List Fields) (t : TableChange) : Type 0 where
+  pub opened : AreOpened first t.start t.trees
+  pub written : HasWritten rows t
+
+-- the tables of a transaction began with these trees, and have changed so since: which rows were written
+-- goes by the table's name
+pub record AreChangesOf (first : ℕ) (start : Forest) (rows : Bytes → List Fields)
+    (tables : List TableChange) : Type 0 where
+  pub starts : map (λ (t : TableChange). t.start) tables ≡ start
+  pub changed : All (λ (t : TableChange). HasChanged first (rows t.schema.name) t) tables
+
+-- a write of these rows keeps all that is said of the cells that were opened since any id, and adds its
+-- rows to those that were written
+pub record Adds (rows : List Fields) (ids : Counter) (old new : TableChange) : Type 0 where
+  pub opened : (first : ℕ) → first ≤ ids.next → AreOpened first old.start old.trees
+      → AreOpened first new.start new.trees
+  pub written : Writes rows old new
+
 -- the tables of a transaction, and the ids that come next
 pub record Tables : Type 0 where
   pub tables : List TableChange
@@ -62,26 +93,34 @@ pub record Tables : Type 0 where
 
 -- ---- writes
 
--- the answer of a table to a write that leaves these rows, or is refused so, with the ids before and
--- after it; after want of memory its rows mean nothing
-abbrev pub AnswersRows : {A : Type 0} → (Option Fields → A → Type 0) → Tested Changed
+-- what a write that puts in these rows leaves of a table, and which ids
+pub record IsWritten (put : List Fields) (c : Changed) (ids ids' : Counter) (old new : TableChange)
+    : Type 0 where
+  pub changed : IsChanged c.0 old new
+  pub few : ids'.next ≤ ids.next + 2 ^ 26
+  pub later : ids.next ≤ ids'.next
+  pub adds : Adds (put ++ option_to_list c.1) ids old new
+
+-- the answer of a table to a write that puts in these rows, and leaves those or is refused so, with the
+-- ids before and after it; after want of memory its rows mean nothing
+abbrev pub AnswersRows : {A : Type 0} → (Option Fields → A → Type 0) → List Fields → Tested Changed
     → Result A WriteError → Counter → Counter → TableChange → TableChange → Type 0
-AnswersRows gives (Ok c) result ids ids' old new =
+AnswersRows gives put (Ok c) result ids ids' old new =
     MatchResult result
-    (λ x. gives c.1 x × IsChanged c.0 old new × (ids'.next ≤ ids.next + 2 ^ 26))
+    (λ x. gives c.1 x × IsWritten put c ids ids' old new)
     (λ e. (IsSpent ids.next 1 IdsSpent e old new × (ids' ≡ ids)) ⊎ (e ≡ Memory))
-AnswersRows gives (Err why) result ids ids' old new =
+AnswersRows gives put (Err why) result ids ids' old new =
     MatchResult result (λ x. ⊥)
     (λ e. ((e ≡ write_error why) × (new ≡ old) × (ids' ≡ ids)) ⊎ (e ≡ Memory))
 
 -- the same of the table at a place of a list
-pub record AnswersAt {A : Type 0} (gives : Option Fields → A → Type 0)
+pub record AnswersAt {A : Type 0} (gives : Option Fields → A → Type 0) (put : List Fields)
     (change : TableChange → Tested Changed) (place : ℕ) (result : Result A WriteError)
     (old new : Tables) : Type 0 where
   pub before : TableChange
   pub after : TableChange
   pub there : slice_get old.tables place ≡ Some before
-  pub answers : AnswersRows gives (change before) result old.ids new.ids before after
+  pub answers : AnswersRows gives put (change before) result old.ids new.ids before after
   pub set : new.tables ≡ slice_set old.tables place after
   pub book : new.ids.book ≡ old.ids.book
 
@@ -98,8 +137,8 @@ abbrev pub Joins : {A : Type 0} → (Option Fields → A → Type 0) → (TableC
     → ℕ → Write → Result A WriteError → Tables → Tables → List Write → List Write → Type 0
 Joins gives change place w result tables tables' writes writes' =
     MatchResult result
-    (λ x. AnswersAt gives change place (Ok x) tables tables' × (writes' ≡ writes ++ w ∷ []))
-    (λ e. ((e ≡ Memory) ⊎ AnswersAt gives change place (Err e) tables tables') × (writes' ≡ writes))
+    (λ x. AnswersAt gives (row_put w) change place (Ok x) tables tables' × (writes' ≡ writes ++ w ∷ []))
+    (λ e. ((e ≡ Memory) ⊎ AnswersAt gives (row_put w) change place (Err e) tables tables') × (writes' ≡ writes))
 
 -- the error is want of memory
 abbrev pub is_memory : WriteError → Bool

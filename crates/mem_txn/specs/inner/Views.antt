@@ -2,7 +2,8 @@
 use Rattle.std.specs.Prelude.{◌≡◌, ◌≤◌, ◌^◌, All, map}
 use Rattle.std.specs.Arc.{arc_value}
 use Rattle.mdb_schema.specs.Write.{Write}
-use Rattle.mem_txn.specs.Database.{Caller, Callers, Database, View}
+use Rattle.db_front.specs.Commits as front
+use Rattle.mem_txn.specs.Database.{Caller, Callers, Database, Reading, View}
 use Rattle.mem_txn.specs.declared.accepted.Accepted.TheInside as accepted
 use Rattle.mem_txn.specs.declared.db.Db.TheInside as db
 use Rattle.mem_txn.specs.declared.pass.Pass.TheInside as pass
@@ -13,8 +14,10 @@ use Rattle.mem_txn.specs.declared.txn_tables.TxnTables.TheInside as txn_tables
 use Rattle.mem_txn.specs.declared.version.Version.TheInside as version
 use Rattle.mem_txn.specs.declared.view.View.TheInside as view
 use Rattle.mem_txn.specs.inner.Accepted.{write_of}
-use Rattle.mem_txn.specs.inner.VersionTables.{IsWithin, Tables, schemas_of, state_of, trees_of}
-use Rattle.mem_txn.specs.inner.Versions.{AreTokens, IsLogOf, IsToken, StandsFor, Turned, Version, ViewWithTrees, caller_of}
+use Rattle.mem_txn.specs.inner.VersionTables.{AreWithin, IsWithin, Tables, schemas_of, state_of, trees_of}
+use Rattle.mem_txn.specs.inner.Steps.{HasFired}
+use Rattle.mem_txn.specs.inner.Values.{Version, ViewWithTrees}
+use Rattle.mem_txn.specs.inner.Versions.{AreTokens, IsToken, StandsFor, Turned, caller_of}
 
 abbrev pub state_view : view.Inside → ViewWithTrees
 state_view v = record {
@@ -42,8 +45,16 @@ db_view d = record {
   schema = arc_value d.schema;
 }
 
-abbrev pub read_view : read_txn.Inside → View
-read_view t = (arc_value t.version).view
+abbrev pub read_view : read_txn.Inside → Reading
+read_view t =
+    let v = arc_value t.version in
+    record { view = v.view; trees = v.trees; book = v.ids.book }
+
+-- all cells of its trees are of the book
+abbrev pub IsReading : read_txn.Inside → Type 0
+IsReading t =
+    let v = arc_value t.version in
+    All (AreWithin v.ids) v.trees
 
 abbrev pub accepted_view : accepted.Inside → Write
 accepted_view a = write_of a.kind a.table a.row
@@ -62,13 +73,13 @@ abbrev pub AreIdle : passes.Inside → Type 0
 AreIdle p = AreTokens p.list.passes
 
 abbrev pub turn_view : turn.Inside → Turned
-turn_view t = record { caller = caller_of t.token; ids = (arc_value t.base).ids }
+turn_view t = record { caller = caller_of t.token; base = arc_value t.base }
 
--- the value is the state after all commits, and the log is of the book of its cells
+-- the value is the state after all commits, and the log has all that they fire
 pub record IsTurn (t : turn.Inside) : Type 0 where
   pub token : IsToken 1 t.token
   pub stands : StandsFor t.token.seen (arc_value t.base)
-  pub log : IsLogOf t.token.seen t.log
+  pub log : front.HasFirings HasFired (arc_value t.base).view.number t.token.seen t.log
 
 abbrev pub tables_view : txn_tables.Inside → Tables
 tables_view t = record { tables = t.tables.items; ids = t.ids }

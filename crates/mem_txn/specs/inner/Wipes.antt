@@ -16,7 +16,7 @@ use Rattle.table_index.specs.declared.wipe_error.WipeError.{WipeError}
 use Rattle.table_index.specs.declared.wipe_error.WipeError.TheVariants.{IdsSpent, Memory, Refused}
 use Rattle.mem_txn.specs.declared.wipe.Wipe.{Wipe}
 use Rattle.mem_txn.specs.declared.wipe.Wipe.TheVariants.{Listed, ByPrefix}
-use Rattle.mem_txn.specs.inner.VersionTables.{Tables}
+use Rattle.mem_txn.specs.inner.VersionTables.{Adds, Tables}
 
 -- the rows that a wipe of a table takes out
 abbrev pub wiped_by : Wipe → TableSchema → List Fields → Query → Asked (List Fields)
@@ -53,13 +53,20 @@ abbrev pub IsToldWhy : {A : Type 0} → AskRefusal → Result A WipeError → Co
 IsToldWhy why result ids ids' old new =
     (result ≡ Err (Refused (ask_error why))) × (new ≡ old) × (ids' ≡ ids)
 
+-- what a wipe of these rows leaves of a table, and which ids
+pub record IsWiped (gone : List Fields) (ids ids' : Counter) (old new : TableChange) : Type 0 where
+  pub without : IsWithout gone old new
+  pub few : HasDrawnFor (length gone) ids ids'
+  pub later : ids.next ≤ ids'.next
+  pub adds : Adds gone ids old new
+
 -- the answer of a table to a wipe of these rows, or to one that is refused so: the rows; after want
 -- of memory its own rows mean nothing
 abbrev pub AnswersGone : Asked (List Fields) → Result (List Fields) WipeError → Counter → Counter
     → TableChange → TableChange → Type 0
 AnswersGone (Ok gone) result ids ids' old new =
     MatchResult result
-    (λ rows. (rows ≡ gone) × IsWithout gone old new × HasDrawnFor (length gone) ids ids')
+    (λ rows. (rows ≡ gone) × IsWiped gone ids ids' old new)
     (λ e. GivesUp (length gone) e ids ids' old new)
 AnswersGone (Err why) result ids ids' old new = IsToldWhy why result ids ids' old new
 
@@ -79,7 +86,7 @@ abbrev pub JoinsGone : Bytes → Asked (List Fields) → Result ℕ WipeError �
     → TableChange → TableChange → List Write → List Write → Type 0
 JoinsGone name (Ok gone) result ids ids' old new writes writes' =
     MatchResult result
-    (λ n. (n ≡ length gone) × IsWithout gone old new × HasDrawnFor (length gone) ids ids'
+    (λ n. (n ≡ length gone) × IsWiped gone ids ids' old new
     × (writes' ≡ writes ++ removals name gone))
     (λ e. GivesUp (length gone) e ids ids' old new × (writes' ≡ writes))
 JoinsGone name (Err why) result ids ids' old new writes writes' =

@@ -287,7 +287,7 @@ fn all_users(alloc: Global) -> Result<Query, AllocError> {
     let table = Text::of(alloc, "users")?;
     let index = Text::of(alloc, "id")?;
     match read_doc(alloc, b"[]") {
-        Ok(Datum::Items(args)) => Ok(Query::from_parts(Ask::Get, table, index, args)),
+        Ok(Datum::Items(args)) => Ok(Query::from_parts(alloc, Ask::Get, table, index, args)?),
         _ => Err(AllocError),
     }
 }

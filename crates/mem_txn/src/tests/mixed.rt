@@ -160,7 +160,7 @@ fn operate(
 }
 
 /// Whether some operations are answered alike.
-fn operate_often(
+pub fn operate_often(
     alloc: Global,
     random: &mut Random,
     txn: &mut WriteTxn<u8>,

@@ -13,10 +13,10 @@ use std::sync::Wait;
 use std::test::Fail;
 
 /// A write: its word, its table, its row and its answer.
-type Line = (&'static str, &'static str, &'static str, &'static str);
+pub type Line = (&'static str, &'static str, &'static str, &'static str);
 
 /// A question: what is asked, of which table and index, with which arguments, and its answer.
-type Asked = (
+pub type Asked = (
     Ask,
     (&'static str, &'static str),
     &'static str,
@@ -89,7 +89,7 @@ fn is_written(alloc: Global, txn: &mut WriteTxn<u8>, line: &Line) -> Result<bool
 }
 
 /// Whether each write is answered so.
-fn are_written(alloc: Global, txn: &mut WriteTxn<u8>, lines: &[Line]) -> Result<bool, Fail>
+pub fn are_written(alloc: Global, txn: &mut WriteTxn<u8>, lines: &[Line]) -> Result<bool, Fail>
     ensures { (changes_of txn.new).caller ≡ (changes_of txn.old).caller }
 {
     for line in lines {

@@ -1,7 +1,8 @@
 -- How the logic stores cells, leaves and nodes: as trees of numbers that give them back.
 use Rattle.std.specs.Prelude.{◌≡◌, ℕ, Option, refl}
 use Rattle.std.specs.Coded.{Coded, code_by, coded×, coded_ℕ, coded_list, coded_option}
-use Rattle.logbook.specs.Pages.{Book, book_coded}
+use Rattle.logbook.specs.Pages.{Book}
+pub use Rattle.logbook.specs.Pages.{book_coded}
 use base.Stored.{Gv, gnil, gcons}
 use mathlib.Core.Path.{ap}
 use Rattle.mdb_datum.specs.Bytes.{Bytes}

@@ -374,7 +374,7 @@ pub fn made_question(
         _ => Items::new(alloc),
     };
     let name = name_of(alloc, index, by_prefix)?;
-    let query = Query::from_parts(ask, Text::of(alloc, "t")?, name, args);
+    let query = Query::from_parts(alloc, ask, Text::of(alloc, "t")?, name, args)?;
     Ok(Question {
         index,
         by_prefix,

@@ -11,7 +11,7 @@ use Rattle.mem_txn.specs.inner.ChangesView.{changes_view}
 use Rattle.mem_txn.specs.inner.VersionTables.{StandFor, is_memory}
 use Rattle.mem_txn.proofs.IdsCounted.{counted_more, counted_same}
 use Rattle.mem_txn.proofs.TablesFound.{stand_within, table_place_named, table_place_within}
-use Rattle.mem_txn.proofs.WritesAnswered.{joins_answer, joins_few, joins_stand, refuses_answer, refuses_same, refuses_stand}
+use Rattle.mem_txn.proofs.WritesAnswered.{joins_answer, joins_few, joins_later, joins_since, joins_stand, refuses_answer, refuses_same, refuses_since, refuses_stand}
 use Rattle.mem_txn.proofs.changes.Changes.insert.Goals as goal
 
 pub def_at-def-requires : goal.def_at-def-requires
@@ -39,7 +39,10 @@ invariant_of-self c =
       tables = λ sound. joins_stand gives_replaced (put name c.args.row.now) (λ (s : TableSchema) (rows : List Fields). put_row s c.args.row.now rows) (λ schema s. refl) (changes_view t) c.if-self.false c.in-Some.place found t.tables c.put_in.new.tables
           (c.self.invariant.tables c.if-self.false) c.in-Ok.replaced c.in-Ok.ensures.0 c.put_in.new.writes.items joined;
       ids = λ sound. counted_more t.pass t.tables.ids c.put_in.new.tables.ids t.writes.items c.put_in.new.writes.items (c.self.invariant.ids c.if-self.false) (put name c.args.row.now ∷ []) c.in-Ok.ensures.0.book
-          (joins_few gives_replaced (put name c.args.row.now) (λ (s : TableSchema) (rows : List Fields). put_row s c.args.row.now rows) (λ schema s. refl) (changes_view t) c.if-self.false c.in-Some.place found t.tables c.put_in.new.tables (c.self.invariant.tables c.if-self.false) c.in-Ok.replaced c.in-Ok.ensures.0) joined;
+          (joins_few gives_replaced (put name c.args.row.now) (λ (s : TableSchema) (rows : List Fields). put_row s c.args.row.now rows) (λ schema s. refl) (changes_view t) c.if-self.false c.in-Some.place found t.tables c.put_in.new.tables (c.self.invariant.tables c.if-self.false) c.in-Ok.replaced c.in-Ok.ensures.0)
+          (joins_later gives_replaced (put name c.args.row.now) (λ (s : TableSchema) (rows : List Fields). put_row s c.args.row.now rows) (λ schema s. refl) (changes_view t) c.if-self.false c.in-Some.place found t.tables c.put_in.new.tables (c.self.invariant.tables c.if-self.false) c.in-Ok.replaced c.in-Ok.ensures.0) joined;
+      since = λ sound. joins_since gives_replaced (put name c.args.row.now) (λ (s : TableSchema) (rows : List Fields). put_row s c.args.row.now rows) (λ schema s. refl) (changes_view t) c.if-self.false c.in-Some.place found t.tables c.put_in.new.tables (c.self.invariant.tables c.if-self.false)
+          t.pass.base.ids.next t.pass.base.trees (c.self.invariant.ids c.if-self.false).later (c.self.invariant.since c.if-self.false) c.in-Ok.replaced c.in-Ok.ensures.0 c.put_in.new.writes.items joined;
     }
 
 pub invariant_of-self-in-Err : goal.invariant_of-self-in-Err
@@ -63,6 +66,10 @@ invariant_of-self-in-Err c =
           let unchanged = refuses_same gives_replaced w (λ (s : TableSchema) (rows : List Fields). put_row s c.args.row.now rows) (λ schema s. refl) (changes_view t) c.if-self.false c.in-Some.place found t.tables c.put_in.new.tables
           (c.self.invariant.tables c.if-self.false) c.in-Err.error (record (changes_view t) { spoiled = is_memory c.in-Err.error }) refl c.in-Err.ensures.0 quiet in
           counted_same t.pass t.tables.ids c.put_in.new.tables.ids t.writes.items c.put_in.new.writes.items (c.self.invariant.ids c.if-self.false) unchanged.1 same;
+      since = λ sound.
+          let quiet : is_memory c.in-Err.error ≡ false = sym c.is_memory-self-inside.ensures ∙ sound in
+          refuses_since gives_replaced w (λ (s : TableSchema) (rows : List Fields). put_row s c.args.row.now rows) (λ schema s. refl) (changes_view t) c.if-self.false c.in-Some.place found t.tables c.put_in.new.tables (c.self.invariant.tables c.if-self.false) c.in-Err.error (record (changes_view t) { spoiled = is_memory c.in-Err.error }) refl c.in-Err.ensures.0 quiet
+          t.pass.base.ids.next t.pass.base.trees (c.self.invariant.since c.if-self.false) c.put_in.new.writes.items same;
     }
 
 pub returns-in-Ok : goal.returns-in-Ok

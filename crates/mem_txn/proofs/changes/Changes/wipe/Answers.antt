@@ -7,7 +7,7 @@ use Rattle.mem_txn.specs.declared.txn_error.TxnWipeError.TheVariants.{Refused}
 use Rattle.mem_txn.specs.inner.ChangesView.{changes_view}
 use Rattle.mem_txn.specs.inner.Wipes.{JoinsGoneAt, is_memory, wipe_by, wiped_by}
 use Rattle.mem_txn.proofs.TablesFound.{schema_there, stand_within, table_place_named, table_place_within}
-use Rattle.mem_txn.proofs.WipesAnswered.{refused_counted, refused_stand, wipe_answer, wipe_counted, wipe_stand}
+use Rattle.mem_txn.proofs.WipesAnswered.{refused_counted, refused_since, refused_stand, wipe_answer, wipe_counted, wipe_since, wipe_stand}
 use Rattle.mem_txn.proofs.changes.Changes.wipe.Goals as goal
 
 pub def_at-def-requires : goal.def_at-def-requires
@@ -39,6 +39,8 @@ invariant_of-self c =
       number = c.self.invariant.number;
       tables = λ sound. wipe_stand c.args.wipe q (changes_view t) c.if-self.false c.in-Some.place found t.tables c.wipe_in.new.tables stand c.wipe_in.new.writes.items c.in-Ok.count at lawful;
       ids = λ sound. wipe_counted c.args.wipe q (changes_view t) c.if-self.false c.in-Some.place found t.tables c.wipe_in.new.tables stand c.wipe_in.new.writes.items t.pass (c.self.invariant.ids c.if-self.false) c.in-Ok.count at;
+      since = λ sound. wipe_since c.args.wipe q (changes_view t) c.if-self.false c.in-Some.place found t.tables c.wipe_in.new.tables stand c.wipe_in.new.writes.items
+          t.pass.base.ids.next t.pass.base.trees (c.self.invariant.ids c.if-self.false).later (c.self.invariant.since c.if-self.false) c.in-Ok.count at lawful;
     }
 
 pub invariant_of-self-in-Err : goal.invariant_of-self-in-Err
@@ -59,6 +61,10 @@ invariant_of-self-in-Err c =
           let quiet : is_memory c.in-Err.error ≡ false = sym c.is_memory-self-inside.ensures ∙ sound in
           refused_counted c.args.wipe q (changes_view t) c.if-self.false c.in-Some.place found t.tables c.wipe_in.new.tables (c.self.invariant.tables c.if-self.false) c.wipe_in.new.writes.items c.in-Err.error at quiet t.pass
           (c.self.invariant.ids c.if-self.false);
+      since = λ sound.
+          let quiet : is_memory c.in-Err.error ≡ false = sym c.is_memory-self-inside.ensures ∙ sound in
+          refused_since c.args.wipe q (changes_view t) c.if-self.false c.in-Some.place found t.tables c.wipe_in.new.tables (c.self.invariant.tables c.if-self.false) c.wipe_in.new.writes.items c.in-Err.error at quiet
+          t.pass.base.ids.next t.pass.base.trees (c.self.invariant.since c.if-self.false);
     }
 
 pub returns-in-Ok : goal.returns-in-Ok

@@ -2,7 +2,7 @@ use Rattle.std.proofs.Common.{◌≡◌, ◌∙◌, ◌<◌, length, map, sym, a
 use Rattle.std.specs.Arc.{arc_value}
 use Rattle.std.proofs.lemmas.List.{length-map}
 use Rattle.db_front.specs.Commits.{IsHistory}
-use Rattle.mem_txn.specs.Database.{AreAll, AreOf, Callers, Database, IsWhole}
+use Rattle.mem_txn.specs.Database.{AreAll, AreOf, Callers, Database, IsWhole, Reading}
 use Rattle.mem_txn.specs.inner.Versions.{caller_of}
 use Rattle.mem_txn.proofs.OneHistory.{all_tokens, closed, idle_of}
 use Rattle.mem_txn.proofs.db.Db.close.Goals as goal
@@ -27,4 +27,4 @@ returns g c =
     let count = length-map ks caller_of in
     let history = subst (λ n. IsHistory n e.0) (ap (λ (d : Database). d.callers) c.self.view_is) e.1 in
     let k = closed c.args.self e.0 ks (arc_value c.close-value.result.value) c.close-value.result.number (omega (arith, some, count)) each c.passes.invariant own history e.2 e.3 e.5 e.6 in
-    (k.0, subst (λ (ps : Callers). IsWhole c.args.self ps.passes k.0) c.passes.view_is k.1, c.of.ensures ∙ k.2)
+    (k.0, subst (λ (ps : Callers). IsWhole c.args.self ps.passes k.0) c.passes.view_is k.1, ap (λ (r : Reading). r.view) c.of.ensures ∙ k.2)

@@ -1,10 +1,18 @@
-use Rattle.std.proofs.Common.{◌≡◌, ◌∷◌, [], length, sym, subst}
+use Rattle.std.proofs.Common.{◌≡◌, ◌∷◌, [], length, ap, sym, subst}
+use Rattle.db_front.specs.Passes.{Known}
 use Rattle.mem_txn.specs.Database.{Caller, HasRead, HasSeen}
 use Rattle.mem_txn.specs.Transactions.{HasWon}
-use Rattle.mem_txn.specs.inner.Versions.{caller_of}
+use Rattle.mem_txn.specs.inner.Versions.{Version, caller_of}
 use Rattle.mem_txn.proofs.BegunAnswers.{some_has, try_begins, try_refuses, won_at_last}
-use Rattle.mem_txn.proofs.OneHistory.{number_room, numbered, turned}
+use Rattle.mem_txn.proofs.OneHistory.{number_room, numbered, token_at, turned}
 use Rattle.mem_txn.proofs.db.Db.try_write.Goals as goal
+
+-- also where there was no memory a value stands for what the pass has seen
+pub invariant_of-result-in-Err : goal.invariant_of-result-in-Err
+invariant_of-result-in-Err g c =
+    let e = c.try_begin.ensures in
+    let number = ap (λ (k : Known Version). k.number) e.pass in
+    token_at 0 c.pass.inside.token c.try_begin.new.pass c.pass.invariant e.seen 0 number c.in-Err.ensures.memory.1 c.in-Err.ensures.stood.1.steps
 
 pub returns-in-Ok : goal.returns-in-Ok
 returns-in-Ok g c =

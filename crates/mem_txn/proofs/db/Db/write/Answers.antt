@@ -1,10 +1,18 @@
-use Rattle.std.proofs.Common.{◌≡◌, length, sym, subst}
+use Rattle.std.proofs.Common.{◌≡◌, length, ap, sym, subst}
+use Rattle.db_front.specs.Passes.{Known}
 use Rattle.mem_txn.specs.Database.{Caller, HasRead, HasSeen}
 use Rattle.mem_txn.specs.Transactions.{HasWonAtLast}
-use Rattle.mem_txn.specs.inner.Versions.{caller_of}
+use Rattle.mem_txn.specs.inner.Versions.{Version, caller_of}
 use Rattle.mem_txn.proofs.BegunAnswers.{begin_answers}
-use Rattle.mem_txn.proofs.OneHistory.{numbered, turned}
+use Rattle.mem_txn.proofs.OneHistory.{numbered, token_at, turned}
 use Rattle.mem_txn.proofs.db.Db.write.Goals as goal
+
+-- also where there was no memory a value stands for what the pass has seen
+pub invariant_of-result : goal.invariant_of-result
+invariant_of-result g c =
+    let e = c.begin.ensures in
+    let number = ap (λ (k : Known Version). k.number) e.pass in
+    token_at 0 c.pass.inside.token c.begin.new.pass c.pass.invariant e.seen 0 number c.in-Err.ensures.memory e.stood.1.steps
 
 pub returns-in-Ok : goal.returns-in-Ok
 returns-in-Ok g c =

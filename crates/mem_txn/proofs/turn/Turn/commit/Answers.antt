@@ -1,21 +1,79 @@
-use Rattle.std.proofs.Common.{◌++◌, ◌∷◌, ◌-◌, [], length, sym, ap, subst}
+use Rattle.std.proofs.Common.{◌≡◌, ◌∙◌, ◌++◌, ◌∷◌, ◌-◌, [], length, sym, ap, subst}
 use Rattle.std.specs.Arc.{arc_value}
 use Rattle.db_front.specs.Commits.{HasFirings}
 use Rattle.db_front.specs.Passes.{Known}
+use Rattle.notify_walk.specs.Fired.{AreOf}
+use Rattle.radix_node.specs.Ids.{Book}
+use Rattle.watch_word.specs.Logs.{Log}
+use Rattle.mem_txn.specs.Database.{cells_seen}
 use Rattle.mem_txn.specs.inner.Commits.{IsNext}
-use Rattle.mem_txn.specs.inner.Versions.{IsLogOf, Turned, Version, Versions}
-use Rattle.mem_txn.proofs.OneHistory.{log_after, next_stands}
+use Rattle.mem_txn.specs.inner.Firing.{AreGone, cells_told}
+use Rattle.mem_txn.specs.inner.Steps.{AreSteps, HasFired}
+use Rattle.mem_txn.specs.inner.Versions.{IsBegun, Turned, Version, caller_of}
+use Rattle.mem_txn.proofs.AlongHistory.{tells_changes, watches_hold}
+use Rattle.mem_txn.proofs.OneHistory.{committed_token}
+use Rattle.mem_txn.proofs.StepsAlong.{gone_of, log_of, next_stands, same_book, turn_book, turn_fires, turn_fires_seen}
 use Rattle.mem_txn.proofs.turn.Turn.commit.Goals as goal
 
 pub publish-requires-clause-stands : goal.publish-requires-clause-stands
 publish-requires-clause-stands g c =
     let t = c.self.inside in
-    next_stands t.token (arc_value t.base).ids c.args.ready c.self.invariant.token.begun c.self.invariant.stands.book (subst (λ (p : Turned). IsNext p c.args.ready) (sym c.self.view_is) c.requires.next)
+    next_stands t.token (arc_value t.base) c.args.ready c.self.invariant.stands (subst (λ (p : Turned). IsNext p c.args.ready) (sym c.self.view_is) c.requires.next)
 
--- the log of the book serves after the commit too
+-- the cells that are gone are of the log's book
+pub fire_tables-log-requires-clause-book : goal.fire_tables-log-requires-clause-book
+fire_tables-log-requires-clause-book g c =
+    let t = c.self.inside in
+    let v : Version = arc_value t.base in
+    let gone : AreGone v.trees c.args.ready.trees (cells_told c.args.gone.now) = subst (λ (p : Turned). AreGone p.base.trees c.args.ready.trees (cells_told c.args.gone.now)) (sym c.self.view_is) c.requires.gone in
+    let stands = c.self.invariant.stands in
+    let log = log_of v.view.number t.token.seen t.log stands.begun c.self.invariant.log in
+    subst (λ (b : Book). AreOf b (cells_told c.args.gone.now)) (same_book t.token.seen v.ids.book t.log.book stands.book log) (gone_of v.ids v.trees c.args.ready.trees (cells_told c.args.gone.now) stands.within gone)
+
 pub finish-requires-clause-log : goal.finish-requires-clause-log
 finish-requires-clause-log g c =
     let t = c.self.inside in
-    let more : Versions = t.token.seen ++ (t.token.number, c.args.ready) ∷ [] in
-    subst (λ (h : Versions). HasFirings IsLogOf (length h - 1) h t.log) (sym (ap (λ (k : Known Version). k.seen) c.publish.ensures.pass))
-    (log_after (length more - 1) t.token.seen t.token.number c.args.ready t.log c.self.invariant.log)
+    let v : Version = arc_value t.base in
+    let made : c.publish.new.pass.seen ≡ t.token.seen ++ (t.token.number, c.args.ready) ∷ [] = ap (λ (k : Known Version). k.seen) c.publish.ensures.pass in
+    let gone : AreGone v.trees c.args.ready.trees (cells_told c.args.gone.now) = subst (λ (p : Turned). AreGone p.base.trees c.args.ready.trees (cells_told c.args.gone.now)) (sym c.self.view_is) c.requires.gone in
+    let f = c.fire_tables-log.ensures in
+    subst (λ (log : Log). HasFirings HasFired (length c.publish.new.pass.seen - 1) c.publish.new.pass.seen log) (sym c.share.ensures)
+    (turn_fires t.token v c.args.ready c.self.invariant.stands c.publish.new.pass made t.log c.fire_tables-log.result (cells_told c.args.gone.now) c.self.invariant.log f.later gone f.fired)
+
+pub invariant_of-result : goal.invariant_of-result
+invariant_of-result g c =
+    let t = c.self.inside in
+    let next : IsNext (record { caller = caller_of t.token; base = arc_value t.base }) c.args.ready = subst (λ (p : Turned). IsNext p c.args.ready) (sym c.self.view_is) c.requires.next in
+    let stands = next_stands t.token (arc_value t.base) c.args.ready c.self.invariant.stands next in
+    committed_token t.token c.publish.new.pass c.finish.new.pass c.args.ready c.self.invariant.token stands.steps c.publish.ensures.pass c.finish.ensures
+
+pub returns-clause-book : goal.returns-clause-book
+returns-clause-book g c =
+    let t = c.self.inside in
+    let v : Version = arc_value t.base in
+    let made : c.finish.new.pass.seen ≡ t.token.seen ++ (t.token.number, c.args.ready) ∷ [] = ap (λ (k : Known Version). k.seen) c.finish.ensures ∙ ap (λ (k : Known Version). k.seen) c.publish.ensures.pass in
+    let gone : AreGone v.trees c.args.ready.trees (cells_told c.args.gone.now) = subst (λ (p : Turned). AreGone p.base.trees c.args.ready.trees (cells_told c.args.gone.now)) (sym c.self.view_is) c.requires.gone in
+    let f = c.fire_tables-log.ensures in
+    turn_book t.token v c.args.ready c.self.invariant.stands c.finish.new.pass made t.log c.fire_tables-log.result (cells_told c.args.gone.now) c.self.invariant.log f.later gone f.fired
+
+pub returns-clause-fired : goal.returns-clause-fired
+returns-clause-fired g c =
+    let t = c.self.inside in
+    let v : Version = arc_value t.base in
+    let made : c.finish.new.pass.seen ≡ t.token.seen ++ (t.token.number, c.args.ready) ∷ [] = ap (λ (k : Known Version). k.seen) c.finish.ensures ∙ ap (λ (k : Known Version). k.seen) c.publish.ensures.pass in
+    let gone : AreGone v.trees c.args.ready.trees (cells_told c.args.gone.now) = subst (λ (p : Turned). AreGone p.base.trees c.args.ready.trees (cells_told c.args.gone.now)) (sym c.self.view_is) c.requires.gone in
+    let f = c.fire_tables-log.ensures in
+    turn_fires_seen t.token v c.args.ready c.self.invariant.stands c.finish.new.pass made t.log c.fire_tables-log.result (cells_told c.args.gone.now) c.self.invariant.log f.later gone f.fired
+
+pub returns-clause-told : goal.returns-clause-told
+returns-clause-told g c =
+    let t = c.self.inside in
+    let v : Version = arc_value t.base in
+    let next : IsNext (record { caller = caller_of t.token; base = v }) c.args.ready = subst (λ (p : Turned). IsNext p c.args.ready) (sym c.self.view_is) c.requires.next in
+    let made : c.finish.new.pass.seen ≡ t.token.seen ++ (t.token.number, c.args.ready) ∷ [] = ap (λ (k : Known Version). k.seen) c.finish.ensures ∙ ap (λ (k : Known Version). k.seen) c.publish.ensures.pass in
+    let gone : AreGone v.trees c.args.ready.trees (cells_told c.args.gone.now) = subst (λ (p : Turned). AreGone p.base.trees c.args.ready.trees (cells_told c.args.gone.now)) (sym c.self.view_is) c.requires.gone in
+    let f = c.fire_tables-log.ensures in
+    let stands = next_stands t.token v c.args.ready c.self.invariant.stands next in
+    let holds = watches_hold c.finish.new.pass (subst IsBegun (sym made) stands.begun) (subst AreSteps (sym made) stands.steps) in
+    tells_changes (cells_seen (caller_of c.finish.new.pass)) c.fire_tables-log.result holds
+    (turn_fires_seen t.token v c.args.ready c.self.invariant.stands c.finish.new.pass made t.log c.fire_tables-log.result (cells_told c.args.gone.now) c.self.invariant.log f.later gone f.fired)

@@ -2,11 +2,11 @@ use Rattle.std.proofs.Common.{◌≡◌, ◌∙◌, map, sym, ap, subst}
 use Rattle.std.specs.Prelude.{All}
 use Rattle.std.specs.Arc.{arc_value}
 use Rattle.radix_node.specs.Ids.{Counter}
-use Rattle.mem_txn.specs.Changes.{writes_in}
+use Rattle.mdb_schema.specs.History.{writes_in}
 use Rattle.mem_txn.specs.Database.{View, state_seen, view_seen}
 use Rattle.mem_txn.specs.inner.VersionTables.{AreWithin, trees_of}
 use Rattle.mem_txn.specs.inner.Versions.{AreFew, Forest, Turned, Version, ViewWithTrees}
-use Rattle.mem_txn.proofs.BegunAnswers.{begins_counted, tables_stand}
+use Rattle.mem_txn.proofs.BegunAnswers.{begins_counted, begins_since, tables_stand}
 use Rattle.mem_txn.proofs.turn.Turn.tables.Goals as goal
 
 pub of-requires : goal.of-requires
@@ -30,5 +30,11 @@ returns-clause-tables c =
 
 pub returns-clause-ids : goal.returns-clause-ids
 returns-clause-ids c =
-    let ids : c.in_ok-ids.ids ≡ c.args.self.now.ids = c.in_ok-ids.ensures ∙ ap (λ (v : Version). v.ids) c.deref.ensures ∙ ap (λ (t : Turned). t.ids) c.self.view_is in
-    begins_counted c.args.self.now c.in_ok-ids.ids c.of.result ids (subst (λ (t : Turned). AreFew (writes_in t.caller.seen) t.ids) c.self.view_is c.self.invariant.stands.few) c.of.ensures.ids
+    let ids : c.in_ok-ids.ids ≡ c.args.self.now.base.ids = c.in_ok-ids.ensures ∙ ap (λ (v : Version). v.ids) c.deref.ensures ∙ ap (λ (t : Turned). t.base.ids) c.self.view_is in
+    begins_counted c.args.self.now c.in_ok-ids.ids c.of.result ids (subst (λ (t : Turned). AreFew (writes_in t.caller.seen) t.base.ids) c.self.view_is c.self.invariant.stands.few) c.of.ensures.ids
+
+pub returns-clause-since : goal.returns-clause-since
+returns-clause-since c =
+    let trees : trees_of (map arc_value c.tables.result.now) ≡ c.args.self.now.base.trees =
+    c.tables.ensures.trees ∙ ap (λ (v : ViewWithTrees). v.trees) c.view.ensures ∙ ap (λ (v : Version). v.trees) c.deref-2.ensures ∙ ap (λ (t : Turned). t.base.trees) c.self.view_is in
+    begins_since c.args.self.now (map arc_value c.tables.result.now) c.of.result trees c.of.ensures.tables c.of.ensures.changed

@@ -1,10 +1,21 @@
-use Rattle.std.proofs.Common.{sym, subst}
+use Rattle.std.proofs.Common.{◌∷◌, [], sym, subst}
 use Rattle.mdb_schema.specs.Write.{put_row}
 use Rattle.table_index.specs.Table.{TableChange}
-use Rattle.mem_txn.specs.inner.VersionTables.{IsWithin}
+use Rattle.mem_txn.specs.Changes.{gives_replaced}
+use Rattle.mem_txn.specs.inner.VersionTables.{AnswersRows, IsWithin}
 use Rattle.mem_txn.proofs.IdsCounted.{write_within}
+use Rattle.mem_txn.proofs.RowsAdded.{put_answers}
 use Rattle.mem_txn.proofs.TableAnswers.{put_start}
 use Rattle.mem_txn.proofs.txn_table.TxnTable.put.Goals as goal
+
+pub returns-clause-answers : goal.returns-clause-answers
+returns-clause-answers c =
+    let old : TableChange = c.in_ok-txn.txn in
+    let new : TableChange = c.put-told.new.self in
+    let row = c.args.row.now in
+    let e = c.put-told.ensures in
+    subst (λ (t : TableChange). AnswersRows gives_replaced (row ∷ []) (put_row t.schema row t.rows) c.put-told.result c.args.ids.now c.put-told.new.ids t new) c.in_ok-txn.ensures.open
+    (put_answers c.args.front.now c.args.ids.now c.put-told.new.ids old new e.drawn e.ids.0 e.ids.1 row c.put-told.result e.answers e.refused e.written)
 
 pub returns-clause-within : goal.returns-clause-within
 returns-clause-within c =

@@ -1,10 +1,21 @@
-use Rattle.std.proofs.Common.{sym, subst}
+use Rattle.std.proofs.Common.{[], sym, subst}
 use Rattle.mdb_schema.specs.Write.{remove_row}
 use Rattle.table_index.specs.Table.{TableChange}
-use Rattle.mem_txn.specs.inner.VersionTables.{IsWithin}
+use Rattle.mem_txn.specs.Changes.{gives_row}
+use Rattle.mem_txn.specs.inner.VersionTables.{AnswersRows, IsWithin}
 use Rattle.mem_txn.proofs.IdsCounted.{write_within}
+use Rattle.mem_txn.proofs.RowsAdded.{remove_answers}
 use Rattle.mem_txn.proofs.TableAnswers.{removed_start}
 use Rattle.mem_txn.proofs.txn_table.TxnTable.remove.Goals as goal
+
+pub returns-clause-answers : goal.returns-clause-answers
+returns-clause-answers c =
+    let old : TableChange = c.in_ok-txn.txn in
+    let new : TableChange = c.remove-told.new.self in
+    let row = c.args.row.now in
+    let e = c.remove-told.ensures in
+    subst (λ (t : TableChange). AnswersRows gives_row [] (remove_row t.schema row t.rows) c.remove-told.result c.args.ids.now c.remove-told.new.ids t new) c.in_ok-txn.ensures.open
+    (remove_answers c.args.front.now c.args.ids.now c.remove-told.new.ids old new e.drawn e.ids.0 e.ids.1 (remove_row old.schema row old.rows) c.remove-told.result e.answers e.refused e.written)
 
 pub returns-clause-within : goal.returns-clause-within
 returns-clause-within c =

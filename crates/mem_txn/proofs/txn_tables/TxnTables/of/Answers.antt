@@ -7,4 +7,4 @@ use Rattle.mem_txn.proofs.txn_tables.TxnTables.of.Goals as goal
 
 pub invariant_of-result : goal.invariant_of-result
 invariant_of-result c =
-    subst (All (IsWithin c.args.ids)) (sym c.in_ok-tables.ensures) (unwritten_within c.args.ids (map arc_value c.args.shared.now) c.requires.within)
+    subst (All (IsWithin c.args.ids)) (sym c.in_ok-tables.ensures.tables) (unwritten_within c.args.ids (map arc_value c.args.shared.now) c.requires.within)

@@ -1,4 +1,4 @@
-use Rattle.std.proofs.Common.{refl, slice_set, subst}
+use Rattle.std.proofs.Common.{[], refl, slice_set, subst}
 use Rattle.mdb_schema.specs.Write.{remove_row}
 use Rattle.mem_txn.specs.Changes.{gives_row}
 use Rattle.mem_txn.specs.inner.VersionTables.{AnswersAt, Tables}
@@ -27,7 +27,7 @@ returns c =
     let old : Tables = record { tables = items; ids = c.self.inside.ids } in
     let new : Tables = record { tables = slice_set items c.args.place c.remove.new.self; ids = c.remove.new.ids } in
     let there = place_there items c.args.place table (place_within old c.args.self.now c.args.place c.self.view_is c.requires.within) c.index_mut-table.ensures.value in
-    subst (λ (o : Tables). AnswersAt gives_row (λ t. remove_row t.schema c.args.row.now t.rows) c.args.place c.remove.result o new) c.self.view_is (record {
+    subst (λ (o : Tables). AnswersAt gives_row [] (λ t. remove_row t.schema c.args.row.now t.rows) c.args.place c.remove.result o new) c.self.view_is (record {
       before = table;
       after = c.remove.new.self;
       there = there;

@@ -1,0 +1,1 @@
+use Rattle.mem_txn.proofs.CellsWatched.{watch_of_book}

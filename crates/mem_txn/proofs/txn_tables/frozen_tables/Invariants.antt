@@ -1,0 +1,13 @@
+use Rattle.std.proofs.Common.{◌≡◌, ◌++◌, map}
+use Rattle.std.specs.Arc.{arc_value}
+use Rattle.std.specs.Vec.Iter.{into_iter_items}
+use Rattle.mem_txn.specs.inner.Ended.{EndWith}
+use Rattle.mem_txn.specs.inner.VersionTables.{standing}
+use Rattle.mem_txn.proofs.txn_tables.frozen_tables.Given as goal
+
+abbrev pub invariant-loop-table : goal.invariant-loop-table
+invariant-loop-table l = record {
+  tables : map arc_value l.frozen.tables.items ≡ map standing l.yielded;
+  ends : EndWith l.yielded (map arc_value l.frozen.tables.items) l.frozen.gone.items;
+  all : l.fn.tables.items ≡ l.yielded ++ into_iter_items l.table-iterator;
+}

@@ -1,0 +1,26 @@
+use Rattle.std.proofs.Common.{◌≡◌, ◌∙◌, ◌+◌, ◌∷◌, ℕ, [], length, ap, sym, subst, arith}
+use Rattle.std.proofs.lemmas.List.{length-append}
+use Rattle.mem_txn.specs.CellHistory.{HasFirings}
+use Rattle.mem_txn.specs.Changes.{commit_of}
+use Rattle.mem_txn.specs.Database.{Caller, cells_seen}
+use Rattle.mem_txn.proofs.write_txn.WriteTxn.commit.Goals as goal
+
+pub returns-in-Ok : goal.returns-in-Ok
+returns-in-Ok g c =
+    let t = c.args.self.changes in
+    let shown = c.in-Ok.ensures.1 in
+    let number : c.number-number.result + 1 ≡ length t.caller.seen + 1 = ap (λ (n : ℕ). n + 1) c.number-number.ensures.number in
+    let count : length c.in-Ok.pass.seen ≡ length t.caller.seen + 1 = ap (λ (p : Caller). length p.seen) shown.pass ∙ length-append t.caller.seen (commit_of t ∷ []) in
+    let few = c.number-number.ensures.few in (
+      c.in-Ok.ensures.0,
+      record {
+        trees = shown.trees;
+        pass = shown.pass;
+        number = number;
+        few = omega (arith, few);
+        items = c.of-items.ensures;
+        book = shown.book;
+        fired = subst (λ (n : ℕ). HasFirings (cells_seen c.in-Ok.pass) n c.in-Ok.log) (count ∙ sym number) shown.fired;
+        told = shown.told;
+      },
+    )

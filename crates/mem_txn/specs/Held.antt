@@ -1,0 +1,35 @@
+-- Held watches, as contracts see them.
+use Rattle.std.specs.Prelude.{◌≡◌, ℕ, Bool, true, false, Some, Result, Ok, Err, MatchResult}
+use Rattle.mdb_schema.specs.Answer.{Asked}
+use Rattle.mdb_schema.specs.Query.{Query}
+use Rattle.mdb_schema.specs.Refusals.{ask_error}
+use Rattle.mdb_schema.specs.declared.answer.Answer.{Answer}
+use Rattle.mdb_schema.specs.declared.ask_error.AskError.{AskError}
+use Rattle.mdb_schema.specs.declared.ask_error.AskError.TheVariants.{Memory, Unwatchable}
+use Rattle.table_index.specs.Spot.{SpotOf}
+use Rattle.mem_txn.specs.CellHistory.{question_cell}
+use Rattle.mem_txn.specs.Database.{Reading}
+
+-- a watch with its question, where that was looked up, and after how many commits it was asked
+pub record HeldWatch : Type 0 where
+  pub query : Query
+  pub spot : SpotOf
+  pub number : ℕ
+
+-- it watches this question in a state that is read, by the cell of the question there, which is of the
+-- state's book
+pub record IsHeldOf (r : Reading) (q : Query) (h : HeldWatch) : Type 0 where
+  pub query : h.query ≡ q
+  pub number : h.number ≡ r.view.number
+  pub cell : let spot = h.spot in
+      question_cell r.view.schema r.view.state r.trees q ≡ Some spot.watch
+  pub book : let spot = h.spot in
+      let cell = spot.watch in
+      cell.book ≡ r.book
+
+-- the answer to a question that is answered so or refused, with a held watch, where it may be watched or
+-- not
+abbrev pub AnswersHeld : Bool → Asked Answer → Result (Answer × HeldWatch) AskError → Type 0
+AnswersHeld false told result = result ≡ Err Unwatchable
+AnswersHeld true (Ok a) result = MatchResult result (λ r. r.0 ≡ a) (λ e. e ≡ Memory)
+AnswersHeld true (Err why) result = result ≡ Err (ask_error why)

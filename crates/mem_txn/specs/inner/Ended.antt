@@ -1,0 +1,43 @@
+-- What a write transaction ends with.
+use Rattle.std.specs.Prelude.{◌≡◌, List, [], ◌∷◌, Option, Some, None, All, map, ⊤}
+use Rattle.table_index.specs.Frozen.{AreFrozen}
+use Rattle.table_index.specs.Table.{TableChange, TableRows}
+use Rattle.table_index.specs.Watched.{HoldsRows, QuestionsHoldSince}
+use Rattle.table_index.specs.Written.{KeepsOthers}
+use Rattle.watch_word.specs.Logs.{Cell}
+use Rattle.mem_txn.specs.CellHistory.{Forest}
+use Rattle.mem_txn.specs.inner.Firing.{AreGone, cells_told}
+use Rattle.mem_txn.specs.inner.VersionTables.{trees_of}
+
+-- the notices of a change of trees, where the table was opened; else nothing has changed
+abbrev pub AreNoticed : Option (List (List Cell)) → TableChange → Type 0
+AreNoticed None t = t.trees ≡ t.start
+AreNoticed (Some notices) t = AreFrozen notices t.start t.trees
+
+-- a table that a change ends with: what was watched before it holds, and all else is kept
+pub record IsMade (t : TableChange) (made : TableRows) : Type 0 where
+  pub held : HoldsRows made
+  pub questions : QuestionsHoldSince t made
+  pub kept : KeepsOthers t made.trees
+
+-- the same, with its notices
+pub record EndsWith (t : TableChange) (table : TableRows) (notices : Option (List (List Cell)))
+    : Type 0 where
+  pub made : IsMade t table
+  pub noticed : AreNoticed notices t
+
+-- the tables that changes end with
+abbrev pub AreMade : List TableChange → List TableRows → Type 0
+AreMade [] [] = ⊤
+AreMade (t ∷ ts) (made ∷ mades) = IsMade t made × AreMade ts mades
+AreMade ts mades = ⊥
+
+-- the trees that changes began with
+abbrev pub starts_of : List TableChange → Forest
+starts_of ts = map (λ (t : TableChange). t.start) ts
+
+-- the same, with the notices of all
+pub record EndWith (ts : List TableChange) (tables : List TableRows) (gone : List (List (List Cell)))
+    : Type 0 where
+  pub made : AreMade ts tables
+  pub told : AreGone (starts_of ts) (trees_of tables) (cells_told gone)

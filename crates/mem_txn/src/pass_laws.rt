@@ -1,0 +1,34 @@
+//! What is known of every pass, as laws of the definitions. The functions do nothing: their contracts are
+//! the laws.
+ghost use Rattle.mem_txn.specs.CellHistory.{AreComplete, KeepUntouched, StayAway, WatchesHold};
+ghost use Rattle.mem_txn.specs.Database.{cells_seen};
+
+use crate::pass::Pass;
+
+/// Of the commits that a pass has seen: a question's cell that none of them fires since guards its answer.
+pub fn watches_hold(pass: &Pass)
+    ensures { WatchesHold (cells_seen pass.now) }
+{
+    let _ = pass.token.number();
+}
+
+/// Each of them keeps the cells that its writes don't touch.
+pub fn untouched_is_kept(pass: &Pass)
+    ensures { KeepUntouched (cells_seen pass.now) }
+{
+    let _ = pass.token.number();
+}
+
+/// A cell that left a tree never comes back.
+pub fn cells_stay_away(pass: &Pass)
+    ensures { StayAway (cells_seen pass.now) }
+{
+    let _ = pass.token.number();
+}
+
+/// It has seen the trees at the opening and after each commit.
+pub fn trees_are_complete(pass: &Pass)
+    ensures { AreComplete (cells_seen pass.now) }
+{
+    let _ = pass.token.number();
+}
