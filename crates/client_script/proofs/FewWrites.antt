@@ -1,5 +1,5 @@
--- A client that is alone and has fewer than 2^35 lines is never told that there are too few ids: so much
--- as it writes, and as many rows as there are then, are together at most two for each line.
+-- A client that is alone and has fewer than 2^35 lines is never told that there are too few ids: so
+-- much as it writes, and as many rows as there are then, are together at most two for each line.
 use Rattle.std.proofs.Common.{arith, ◌≡◌, refl, ap, subst, sym, ◌∙◌, ℕ, suc, ◌+◌, ◌*◌, ◌^◌, ◌<◌, ◌≤◌, List, [], ◌∷◌, ◌++◌, length, take, false, Option, Ok, Err, IsPermutation}
 use Rattle.std.specs.Bool.{⊤}
 use Rattle.std.specs.List.{enumerate_from}
@@ -31,8 +31,8 @@ use Rattle.client_script.proofs.LongerHistory.{IsWithin, next_within, start_with
 use Rattle.client_script.proofs.OneClient.{AreTurns, IsOn, Keeps, same, commits, keeps, StandsOn, Prints, told_here, later, later_commit, next_commit, within_history, within_up, told_each, as_many, printed_few, one_session, self_le, writing_is}
 use Rattle.client_script.proofs.RowCounts.{rows_in, rows_in-empty, put_count, remove_count, wipe_count, wipe_by_prefix_count, after_both}
 
--- after so many lines: a transaction stands on the first k commits, and all writes until now, with as
--- many rows as it sees, are at most two for each line
+-- after so many lines: a transaction stands on the first k commits, and all writes until now, with
+-- as many rows as it sees, are at most two for each line
 abbrev Bounded : DbSchema → History → (k lines : ℕ) → Transaction → Type 0
 Bounded schema H k lines closed = ⊤
 Bounded schema H k lines (reading m) = ⊤

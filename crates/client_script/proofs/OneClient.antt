@@ -1,5 +1,5 @@
--- A client that is alone in its database has one legal output in which no line is told that there are
--- too few ids.
+-- A client that is alone in its database has one legal output in which no line is told that there
+-- are too few ids.
 use Rattle.std.proofs.Common.{arith, lit≤, ◌≡◌, refl, ap, subst, sym, ◌∙◌, ℕ, suc, ◌+◌, ◌<◌, ◌≤◌, ◌⊎◌, inl, inr, List, [], ◌∷◌, ◌++◌, length, map, Option, Some, None, Ok, Err, slice_get, take, drop, Contains, IsPermutation}
 use Rattle.std.specs.Bool.{⊤}
 use Rattle.std.specs.List.{enumerate_from}
@@ -450,8 +450,8 @@ module _ (schema : DbSchema) (H : History) (script : List Line) (rs : List Reply
       let lines = printed_few schema H 1 at_start script rs end runs in
       only_alone schema H (omega arith) script rs at_start end 0 runs turns (record { last = refl; transaction = tt }) (start_within 0) (search (arith)) told_each
 
--- for one client the legal outputs in which no line is told that there are too few ids are one text,
--- and their histories one history
+-- for one client the legal outputs in which no line is told that there are too few ids are one
+-- text, and their histories one history
 pub one_output : (schema : DbSchema) (name : Bytes) (script : List Line) (out : Bytes) → length script < commit_limit → (l : Legal schema (name ∷ []) (script ∷ []) out) → AllHaveIds l.replies → out ≡ output_text 1 (name ∷ []) (script ∷ []) ((alone schema script [] at_start).0 ∷ [])
 one_output schema name script out few legal ids = of legal.replies ids legal.written legal.numbers legal.sessions
   where

@@ -1,5 +1,5 @@
--- How many rows a state holds: a put adds one at most, a removal takes one, and a wipe takes as many as
--- it has writes.
+-- How many rows a state holds: a put adds one at most, a removal takes one, and a wipe takes as
+-- many as it has writes.
 use Rattle.std.proofs.Common.{arith, ◌≡◌, refl, ap, subst, sym, ℕ, zero, suc, ◌+◌, ◌≤◌, List, [], ◌∷◌, ◌++◌, length, slice_get, slice_set, Bool, true, false, Option, Some, Ok}
 use Rattle.std.specs.Prelude.{if◌then◌else◌}
 use Rattle.std.specs.Ordering.{match_ordering}
@@ -19,7 +19,7 @@ use Rattle.mdb_schema.specs.Wipe.{wipe, wipe_by_prefix, removals}
 use Rattle.mdb_schema.specs.Write.{Write, put, remove, Stepped, Changed, put_row, remove_row, step}
 use Rattle.mdb_schema.proofs.LawfulStates.{step_in-ok}
 use Rattle.mdb_schema.proofs.Removals.{AreRemoved}
-use Rattle.mdb_schema.proofs.Wiped.{IsWipe, wipe-ok, wipe_by_prefix-ok, wipe_removes}
+use Rattle.mdb_schema.proofs.WipeLaws.{IsWipe, wipe-ok, wipe_by_prefix-ok, wipe_removes}
 use Rattle.mdb_schema.proofs.Writes.{put_accepted, remove_accepted}
 
 abbrev pub rows_in : State → ℕ

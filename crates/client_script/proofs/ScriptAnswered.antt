@@ -34,7 +34,8 @@ told_from_kept told (Err (script_errors.BadShape n)) is = refused_told told (bro
 told_from_kept told (Err (script_errors.BadName n)) is = refused_told told (broken_line n bad_name) is
 told_from_kept told (Err (script_errors.BadDoc n)) is = refused_told told (broken_line n bad_doc) is
 
--- a refusal of a part is one of the whole, where each rule that the part breaks the whole breaks too
+-- a refusal of a part is one of the whole, where each rule that the part breaks the whole breaks
+-- too
 pub refusal_kept : {A B C D : Type 0} (view : A → B) (seen : C → D) (part : Result B ScriptRefusal) (whole : Result D ScriptRefusal) (e : ScriptError)
     → ((why : ScriptRefusal) → part ≡ Err why → whole ≡ Err why) → Answers view part (Err e) → Answers seen whole (Err e)
 refusal_kept view seen part whole script_errors.Memory same is = tt

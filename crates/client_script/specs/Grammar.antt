@@ -1,6 +1,6 @@
 -- The command of a line. The tests of each stand in the order in which they are made: its words (a
--- question's own as soon as it is there), a limit, then the forms of its names, then its document or
--- list.
+-- question's own as soon as it is there), a limit, then the forms of its names, then its document
+-- or list.
 use Rattle.std.specs.Prelude.{[], ◌∷◌, if◌then◌else◌, codes, Ok}
 use Rattle.std.specs.Str.{bytes_eq}
 use Rattle.mdb_datum.specs.Bytes.{Bytes}

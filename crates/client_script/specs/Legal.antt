@@ -1,5 +1,5 @@
--- Legal output: the bytes are the text of answers in one history, which the scripts and these answers
--- fix (`OneHistory`).
+-- Legal output: the bytes are the text of answers in one history, which the scripts and these
+-- answers fix (`OneHistory`).
 use Rattle.std.specs.Prelude.{◌≡◌, ◌+◌, ℕ, List, [], ◌∷◌, ◌++◌, length, map, IsPermutation}
 use Rattle.std.specs.List.{enumerate_from}
 use Rattle.mdb_datum.specs.Bytes.{Bytes}
@@ -28,11 +28,11 @@ abbrev pub callers : History → List ℕ
 callers H = map (λ (c : Commit). c.caller) H
 
 -- A text is legal for clients whose files have these names and whose lines are `scripts` where four
--- things hold: it is the heading and one reply for each line of each client; each client has a name;
--- the commits printed are those of one history, numbered from 1, each once, under the client that made
--- it; and in that history each client's replies are a session, which says what each commit wrote. Such
--- a history has at most 2^63 commits, and a `write` is told `commits-spent` exactly after that many
--- (`FewCommits`).
+-- things hold: it is the heading and one reply for each line of each client; each client has a
+-- name; the commits printed are those of one history, numbered from 1, each once, under the client
+-- that made it; and in that history each client's replies are a session, which says what each
+-- commit wrote. Such a history has at most 2^63 commits, and a `write` is told `commits-spent`
+-- exactly after that many (`FewCommits`).
 pub record Legal (schema : DbSchema) (names : List Bytes) (scripts : List (List Line)) (out : Bytes)
     : Type 0 where
   pub replies : List (List Reply)

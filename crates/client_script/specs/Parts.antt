@@ -36,8 +36,8 @@ name_in w = do
   good ← passed bad_name (is_word w)
   Ok w
 
--- INDEX: 1 to 71 of these bytes, so that a name of 64 has room for `_prefix`; one of 65 to 71 without
--- it is well formed too
+-- INDEX: 1 to 71 of these bytes, so that a name of 64 has room for `_prefix`; one of 65 to 71
+-- without it is well formed too
 abbrev pub is_index_word : Bytes → Bool
 is_index_word w = nat_lt 0 (length w) && nat_le (length w) 71 && list_all is_name_byte w
 

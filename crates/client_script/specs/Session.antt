@@ -37,7 +37,8 @@ pub record Answers (schema : DbSchema) (H : History) (client : ℕ) (v : Client)
   pub says : IsTold schema H now v c r next
   pub entry : IsEntry H client v.transaction r
 
--- each line has its reply, which answers it; from what the client knows at first to what it knows then
+-- each line has its reply, which answers it; from what the client knows at first to what it knows
+-- then
 abbrev pub Runs : DbSchema → History → ℕ → Client → List Line → List Reply → Client → Type 0
 Runs schema H client v [] [] end = end ≡ v
 Runs schema H client v [] (r ∷ rs) end = ⊥

@@ -23,8 +23,8 @@ ids_spent = refused (codes "ids-spent")
 abbrev pub IsFull : History → Writing → Type 0
 IsFull H t = 2 ^ 36 ≤ writes_in (take t.number H) + length t.writes
 
--- A line that writes rows and breaks no rule is told that there are too few ids, and changes nothing.
--- It may be told so only where the transaction would be full with the writes of this line.
+-- A line that writes rows and breaks no rule is told that there are too few ids, and changes
+-- nothing. It may be told so only where the transaction would be full with the writes of this line.
 pub record IsSpent (schema : DbSchema) (H : History) (now : ℕ) (v : Client) (c : Command)
     (r : Reply) (next : Client) : Type 0 where
   pub write : is_write c ≡ true

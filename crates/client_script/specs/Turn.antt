@@ -1,5 +1,5 @@
--- What a line is answered: the reply, with what the client then knows, or the name of the first rule
--- that the line breaks.
+-- What a line is answered: the reply, with what the client then knows, or the name of the first
+-- rule that the line breaks.
 use Rattle.std.specs.Prelude.{◌+◌, ◌^◌, ◌++◌, ℕ, Bool, true, false, not, nat_lt, List, [], ◌∷◌, length, reverse, Option, Some, None, is_some, Ok, Err, slice_get, codes}
 use Rattle.mdb_datum.specs.Bytes.{Bytes}
 use Rattle.mdb_datum.specs.Row.{Fields}
@@ -171,8 +171,8 @@ is_of_watches (command.Size set) = true
 is_of_watches (command.Wait set) = true
 is_of_watches (command.WaitUntil set until) = true
 
--- what is printed, and what the client knows then: a line that breaks a rule is answered with its name
--- and changes nothing
+-- what is printed, and what the client knows then: a line that breaks a rule is answered with its
+-- name and changes nothing
 abbrev pub outcome : Client → Turn → Reply × Client
 outcome v (Ok t) = t
 outcome v (Err rule) = (refused rule, v)

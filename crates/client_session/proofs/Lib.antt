@@ -1,5 +1,5 @@
 mod BegunNumbers
-mod Carrying
+mod OneMoreLine
 mod DeskTurns
 mod KeptSteps
 mod KnownLines
@@ -7,3 +7,4 @@ mod OpenTurns
 mod ReplyLines
 mod RequestTurns
 mod RowRules
+pub mod Threads

@@ -22,7 +22,7 @@ use Rattle.client_session.specs.declared.open.Open.{Open}
 use Rattle.client_session.specs.declared.open.Open.TheVariants as opens
 use Rattle.client_session.specs.declared.reply.Reply.TheVariants as replies
 use Rattle.client_session.specs.inner.ReplyOf.{reply_of}
-use Rattle.client_session.specs.inner.OpenView.{Grows, IsNumbered, Looks, LooksAndTurns, Stands, TurnsTo, caller_of, made, transaction_of}
+use Rattle.client_session.specs.inner.OpenView.{Grows, IsNumbered, Looks, LooksAndTurns, Stands, TurnsTo, caller_of, transaction_of}
 use Rattle.client_session.proofs.BegunNumbers.{StartsNone, starts_none}
 use Rattle.mdb_schema.specs.Schema.{DbSchema}
 

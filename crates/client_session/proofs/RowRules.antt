@@ -1,4 +1,5 @@
--- The names of the rules of rows: a write to a table of the schema is never told that there is no table.
+-- The names of the rules of rows: a write to a table of the schema is never told that there is no
+-- table.
 use Rattle.std.proofs.Common.{◌≡◌, refl, ap, subst, sym, ◌∙◌, ℕ, List, [], ◌∷◌, ◌++◌, Option, Some, None, Ok, Err, Bool, true, false, slice_get}
 use Rattle.std.specs.Bool.{⊤}
 use Rattle.std.specs.Prelude.{codes, option_and_then, option_map}
@@ -12,7 +13,7 @@ use Rattle.mdb_schema.specs.Schema.{DbSchema, TableSchema, IndexSchema, table_pl
 use Rattle.mdb_schema.specs.State.{State, Table, table_at, row_at, id_keys}
 use Rattle.mdb_schema.specs.Tests.{◌>>=◌, needed, passed, each}
 use Rattle.mdb_schema.specs.Write.{WriteRefusal, unknown_table, no_id, bad_key, missing, key_taken, not_found, Tested, keys_at, id_of, takes, leaves_free, Placed, indexes_of, put_row, remove_row, Write, put, remove, step, Stepped, table_of}
-use Rattle.client_script.specs.RefusedWord.{write_word, key_word, index_part}
+use Rattle.client_script.specs.RefusedWord.{write_word, index_part}
 use Rattle.client_script.specs.RefusedWord as said
 use Rattle.client_script.specs.Turn as turns
 use Rattle.client_session.specs.inner.RuleName.{write_name, write_place, index_part_at, index_at, name_part}

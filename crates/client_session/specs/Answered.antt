@@ -1,6 +1,6 @@
--- What a session has done: the text of its answers is that of replies that are a session in the history
--- that its pass has seen, the commits that they tell are just those that its pass has made, and the
--- transactions that they begin stand on counts that its pass has read.
+-- What a session has done: the text of its answers is that of replies that are a session in the
+-- history that its pass has seen, the commits that they tell are just those that its pass has made,
+-- and the transactions that they begin stand on counts that its pass has read.
 use Rattle.std.specs.Prelude.{◌≡◌, ◌-◌, ◌<◌, ◌≤◌, ◌++◌, ℕ, List, [], ◌∷◌, Option, Some, length, map, take, slice_get}
 use mathlib.Core.List.{IsPrefix}
 use Rattle.mdb_datum.specs.Bytes.{Bytes}
@@ -12,8 +12,8 @@ use Rattle.client_script.specs.Reply.{Reply, lines_text}
 use Rattle.client_script.specs.Session.{Session}
 use Rattle.client_script.specs.declared.line.Line.{Line}
 
--- the pass of the same caller of the same database, which has seen, read and tried as much or more; the
--- trees after the commits are part of what is seen
+-- the pass of the same caller of the same database, which has seen, read and tried as much or more;
+-- the trees after the commits are part of what is seen
 pub record IsLater (old new : Caller) : Type 0 where
   pub number : new.number ≡ old.number
   pub database : new.database ≡ old.database
@@ -34,8 +34,8 @@ AreRising low [] high = low ≤ high
 AreRising low (m ∷ ms) high = (low < m) × AreRising m ms high
 
 -- The text is that of replies to these lines, which are a session in the history that the pass has
--- seen. The numbers that the replies to `read` and `write` print are, in order, some of the counts that
--- the pass has read since.
+-- seen. The numbers that the replies to `read` and `write` print are, in order, some of the counts
+-- that the pass has read since.
 pub record Tells (old new : Caller) (lines : List Line) (text : Bytes) : Type 0 where
   pub replies : List Reply
   pub session : Session old.schema new.seen old.number lines replies

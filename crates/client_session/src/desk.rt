@@ -30,7 +30,8 @@ pub(crate) struct Desk {
 }
 
 impl Desk {
-    /// The desk at the start of a session: nothing is open, and no snapshot is kept. It takes no memory.
+    /// The desk at the start of a session: nothing is open, and no snapshot is kept. It takes no
+    /// memory.
     pub(crate) fn new(alloc: Global, pass: Pass) -> Desk
         ensures { (text : Bytes) → Carried pass [] result text text }
     {
@@ -40,8 +41,8 @@ impl Desk {
         }
     }
 
-    /// Carries out a command, and gives the reply. After `AllocError` a write transaction may still be
-    /// open.
+    /// Carries out a command, and gives the reply. After `AllocError` a write transaction may still
+    /// be open.
     pub(crate) fn turn<R: Wait>(
         self,
         rt: &R,

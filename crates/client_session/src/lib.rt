@@ -1,8 +1,8 @@
 //! One client's session: its script carried out line by line on a database, and the text of its
 //! answers.
 //!
-//! [`Session::run`] carries out every line. The text kept is that of replies that the definitions of
-//! `client_script` allow (`specs/Session.antt` there), in the history that the client's pass has
+//! [`Session::run`] carries out every line. The text kept is that of replies that the definitions
+//! of `client_script` allow (`specs/Session.antt` there), in the history that the client's pass has
 //! seen.
 #![tactic(auto)]
 

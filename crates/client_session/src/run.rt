@@ -39,7 +39,8 @@ pub(crate) fn carry_out<R: Wait, G: Gate>(
     (desk.close(db), told)
 }
 
-/// Carries out each line, and adds its answer, till one finds no memory. It gives what is there then.
+/// Carries out each line, and adds its answer, till one finds no memory. It gives what is there
+/// then.
 fn answer_lines<R: Wait, G: Gate>(
     rt: &R,
     alloc: Global,

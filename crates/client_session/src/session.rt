@@ -12,8 +12,8 @@ use std::alloc::{AllocError, Global};
 use std::marker::Model;
 use std::sync::Wait;
 
-/// A client's script, its pass, and the text of its answers; seen as a `Progress`. It can't be dropped:
-/// [`Session::end`] gives the pass back.
+/// A client's script, its pass, and the text of its answers; seen as a `Progress`. It can't be
+/// dropped: [`Session::end`] gives the pass back.
 pub struct Session {
     client: u32,
     script: Script,
@@ -69,9 +69,9 @@ impl Session {
     }
 
     /// Carries out every line of the script, and keeps the answers. A transaction that the script
-    /// leaves open is aborted. After `AllocError` an open transaction was aborted, the answers kept are
-    /// those to some first lines, and each later call answers it again. A script that was carried out
-    /// isn't carried out again.
+    /// leaves open is aborted. After `AllocError` an open transaction was aborted, the answers kept
+    /// are those to some first lines, and each later call answers it again. A script that was
+    /// carried out isn't carried out again.
     pub fn run<R: Wait, G: Gate>(&mut self, rt: &R, db: &Db, gate: &G) -> Result<(), AllocError>
         requires own { IsOf db.now self.old.caller }
         requires known { AreKnown self.old.script }

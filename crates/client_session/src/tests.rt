@@ -136,3 +136,14 @@ fn is_answered<R: Wait>(
     close(rt, db, passes, session);
     told
 }
+
+/// What goes to a thread.
+fn may_be_sent<T: Send>(_value: &T) {}
+
+#[test]
+fn all_may_go_to_threads(rt: HostRuntime) -> Result<(), Fail> {
+    let (db, passes, session) = opened(rt.alloc(), users::SCHEMA, "")?;
+    may_be_sent(&session);
+    close(&rt, db, passes, session);
+    Ok(())
+}

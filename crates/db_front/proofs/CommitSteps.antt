@@ -11,7 +11,7 @@ use Rattle.db_front.specs.inner.Kept.{Now, log_of, Carries, Covers, IsKept}
 use Rattle.db_front.specs.inner.Plays.{Sat, laid, committed, finished}
 use Rattle.db_front.proofs.CommitLists.{set_at, prefix_self, take_more, by_own, named_snoc}
 use Rattle.db_front.proofs.Hands.{carries_grown, hands_grown, hands_lack}
-use Rattle.db_front.proofs.Unchanged.{seats_set}
+use Rattle.db_front.proofs.OtherSeats.{seats_set}
 
 module _ {V : Type 0} (stands : List (ℕ × V) → V → Type 0) (fired : List (ℕ × V) → Log → Type 0) where
   abbrev Rule : ℕ → State (Option (V × Log)) (View V) → Type 0

@@ -4,7 +4,8 @@ use Rattle.db_front.specs.Commits.{commits_by}
 use Rattle.db_front.specs.inner.Kept.{Hand, Carries, Hands, Lacks, Apart, Made, start, dealt}
 use Rattle.db_front.proofs.CommitLists.{prefix_self, prefix_more, by_other}
 
--- the owners after the number c goes to the seat to, and after all of the seat one go to the seat to
+-- the owners after the number c goes to the seat to, and after all of the seat one go to the seat
+-- to
 abbrev pub moves : (ℕ → ℕ) → ℕ → ℕ → ℕ → ℕ
 moves owner c to k = if k == c then to else owner k
 

@@ -2,9 +2,9 @@ pub mod CommitLists
 pub mod FreshPasses
 pub mod AllPasses
 pub mod IdlePasses
-pub mod Gathered
+pub mod SeatNumbers
 pub mod Hands
-pub mod Unchanged
+pub mod OtherSeats
 pub mod LoadSteps
 pub mod TurnSteps
 pub mod CommitSteps

@@ -13,7 +13,7 @@ use Rattle.db_front.specs.inner.Kept.{log_of, IsKept}
 use Rattle.db_front.specs.inner.Plays.{Sat, counted, noted}
 use Rattle.db_front.specs.inner.Seats.{Sees}
 use Rattle.db_front.proofs.CommitLists.{snoc_last}
-use Rattle.db_front.proofs.Unchanged.{quiet, others_turn}
+use Rattle.db_front.proofs.OtherSeats.{quiet, others_turn}
 
 module _ {V : Type 0} (stands : List (ℕ × V) → V → Type 0) (fired : List (ℕ × V) → Log → Type 0) where
   abbrev Rule : ℕ → State (Option (V × Log)) (View V) → Type 0

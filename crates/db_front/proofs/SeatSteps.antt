@@ -14,7 +14,7 @@ use Rattle.db_front.specs.inner.Plays.{Sat, counted, noted}
 use Rattle.db_front.specs.inner.Seats.{begun, hand_of}
 use Rattle.db_front.proofs.CommitLists.{at_end, set_length, prefix_self}
 use Rattle.db_front.proofs.Hands.{moves, merges, moves_here, merges_here, carries_moved, carries_merged, hands_lack, hands_moved, hands_merged, hands_more, hands_made, lacks_more, apart_more, dealt_lack_above, dealt_apart, dealt_hands, none_made}
-use Rattle.db_front.proofs.Unchanged.{seats_set, turns_set}
+use Rattle.db_front.proofs.OtherSeats.{seats_set, turns_set}
 
 module _ {V : Type 0} (stands : List (ℕ × V) → V → Type 0) (fired : List (ℕ × V) → Log → Type 0) where
   abbrev Rule : ℕ → State (Option (V × Log)) (View V) → Type 0

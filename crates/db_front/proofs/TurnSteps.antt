@@ -9,7 +9,7 @@ use Rattle.db_front.specs.declared.board.View.{View}
 use Rattle.db_front.specs.inner.Kept.{Now, log_of, Carries, Covers, Fits, IsKept}
 use Rattle.db_front.specs.inner.Plays.{Sat, tried, left, laid, took}
 use Rattle.db_front.proofs.CommitLists.{set_at, prefix_self, missed}
-use Rattle.db_front.proofs.Unchanged.{seats_set, turns_set, quiet, turn_named, others_turn}
+use Rattle.db_front.proofs.OtherSeats.{seats_set, turns_set, quiet, turn_named, others_turn}
 
 module _ {V : Type 0} (stands : List (ℕ × V) → V → Type 0) (fired : List (ℕ × V) → Log → Type 0) where
   abbrev Rule : ℕ → State (Option (V × Log)) (View V) → Type 0

@@ -84,9 +84,9 @@ fn settle<V: Version, R: Wait>(
 }
 
 impl<V: Version> Shared<V> {
-    /// Ends the front, with the passes of all its callers. It gives the last value with the number of
-    /// all commits, and a log with all their firings. In their list are the own commits of each caller,
-    /// each once and in order, and no others. It takes no memory.
+    /// Ends the front, with the passes of all its callers. It gives the last value with the number
+    /// of all commits, and a log with all their firings. In their list are the own commits of each
+    /// caller, each once and in order, and no others. It takes no memory.
     pub fn close<R: Wait>(self, rt: &R, mut passes: Passes<V>) -> Shown<V>
         requires there { 0 < length passes.passes }
         requires all { AreAll self.callers passes.passes }

@@ -4,22 +4,22 @@
 //! [`make_shared`] makes a [`Shared`] with one [`Pass`] for each caller, in [`Passes`]. A value
 //! shown ([`Shown`]) stands, by the trait [`Version`], for the whole list of commits that the pass
 //! has seen, and all passes see beginnings of one list. One caller at a time has the writer's turn,
-//! from `begin` to `finish` or `leave`; `publish` is the commit. `close` ends all and gives the last
-//! value. The layer above may use the clauses of these calls and the definitions of
+//! from `begin` to `finish` or `leave`; `publish` is the commit. `close` ends all and gives the
+//! last value. The layer above may use the clauses of these calls and the definitions of
 //! `specs/Commits.antt` and `specs/Passes.antt`.
 //!
 //! A `Pass`, a list of them and a [`Ready`] can't be let go: a program that drops one doesn't
 //! compile. `close` takes the passes back, and `publish` the value made ready.
 //!
 //! All readers share one turn at the slot with the value. A reader holds it to share the value and
-//! its log, and never while values are made or dropped. A look costs a fixed number of atomic steps,
-//! where it needn't wait. A caller that finds a turn taken looks at it for a short while, and then
-//! sleeps until it is given back. A call that takes a runtime may wait for another caller, and its
-//! clauses hold if it returns. That a caller is ever served is not proved.
+//! its log, and never while values are made or dropped. A look costs a fixed number of atomic
+//! steps, where it needn't wait. A caller that finds a turn taken looks at it for a short while,
+//! and then sleeps until it is given back. A call that takes a runtime may wait for another caller,
+//! and its clauses hold if it returns. That a caller is ever served is not proved.
 //!
-//! The log is a [`watch_word::Front`], which contracts see as its book and its cells. This crate knows
-//! no book and no cell: what a log must have is said by [`Version`] alone, of the opening value too,
-//! so that a database can say there that all its logs are of its one book.
+//! The log is a [`watch_word::Front`], which contracts see as its book and its cells. This crate
+//! knows no book and no cell: what a log must have is said by [`Version`] alone, of the opening
+//! value too, so that a database can say there that all its logs are of its one book.
 //!
 //! `AllocError` means want of memory alone. Only `make_shared`, `ready`, `look`, `begin` and
 //! `try_begin` answer it, and the pass then holds no turn that it didn't hold before.

@@ -1,6 +1,7 @@
 //! The front at its start, with its passes.
-ghost use Rattle.std.specs.Prelude.{IfOk, ◌≡◌, ℕ, ◌+◌, ◌-◌, ◌<◌, ◌≤◌, [], ◌∷◌, ◌++◌, length};
+ghost use Rattle.std.specs.Prelude.{IfOk, Some, ◌≡◌, ℕ, ◌+◌, ◌-◌, ◌<◌, ◌≤◌, [], ◌∷◌, ◌++◌, length};
 ghost use Rattle.std.specs.Arc.{arc_value};
+ghost use Rattle.watch_word.specs.Logs.{Log};
 ghost use Rattle.db_front.specs.Passes.{fresh, all_fresh, AreAll, AreIdle};
 ghost use Rattle.db_front.specs.inner.Kept.{start, dealing};
 ghost use Rattle.db_front.specs.inner.Seats.{IsSized};
@@ -54,31 +55,85 @@ fn deal<V: Version>(board: &Board<V>, place: &mut Place<V>, passes: &mut Passes<
     }
 }
 
-/// The table with the value and the log in its slot, and its first seat.
-fn lay<V: Version>(
+/// The passes of all callers, in order. The last one keeps the seat that the others are split off.
+/// It takes memory for their list.
+fn deal_all<V: Version>(
     alloc: Global,
-    value: Arc<V>,
-    log: Front,
+    board: &Board<V>,
+    mut place: Place<V>,
     callers: u64,
-) -> Result<(BoardTable<V>, Place<V>), AllocError>
-    requires callers { 0 < callers }
-    requires stands { V.stands (start (arc_value value)) (arc_value value) }
-    requires log { V.fired (start (arc_value value)) log }
-    ensures sized { IfOk result (λ t. IsSized t.0.shared.table_id) }
-    ensures key { IfOk result (λ t. t.0.shared.key ≡ (arc_value value, callers)) }
-    ensures table { IfOk result (λ t. t.1.table_id ≡ t.0.shared.table_id) }
-    ensures seat { IfOk result (λ t. t.1.me ≡ (dealing (arc_value value, callers) 1, [])) }
+) -> Result<Passes<V>, AllocError>
+    requires table { (place.table_id ≡ board.now.table_id) × IsSized board.now.table_id }
+    requires callers { (0 < callers) × (callers ≡ board.now.key.1) }
+    requires dealing { place.me ≡ (dealing board.now.key 1, []) }
+    ensures { IfOk result (λ p. p ≡ record {
+      room = callers;
+      passes = all_fresh (board.now.table_id, board.now.key.1) board.now.key.0 callers;
+    }) }
 {
-    let opening = Opening {
-        value: Arc::try_clone(&value)?,
-        callers,
-    };
-    let mut slots = Vec::with_capacity(alloc, 1)?;
-    slots.push(Some(Card { value, log }))?;
+    let mut passes = Passes::with_room(alloc, callers as usize)?;
+    deal(board, &mut place, &mut passes, callers);
+    passes.give(Pass {
+        place,
+        number: callers,
+        last: 0,
+    });
+    Ok(passes)
+}
+
+/// What the table begins with: the value of a card, and the number of the callers.
+fn opening_of<V: Version>(card: &Card<V>, callers: u64) -> Result<Opening<V>, AllocError>
+    ensures { IfOk result (λ o. o ≡ (card.now.0, callers)) }
+{
+    let value = Arc::try_clone(&card.value)?;
+    Ok(Opening { value, callers })
+}
+
+/// The only slot, with a card in it.
+fn slot_of<V: Version>(alloc: Global, card: Card<V>) -> Result<Vec<Option<Card<V>>>, AllocError>
+    ensures { IfOk result (λ slots. slots.items ≡ Some card ∷ []) }
+{
+    Ok(vec![in alloc; Some(card)]?)
+}
+
+/// The table whose slot is filled, and its first seat.
+fn table_of<V: Version>(
+    alloc: Global,
+    slots: Vec<Option<Card<V>>>,
+    opening: Opening<V>,
+) -> Result<(BoardTable<V>, Place<V>), AllocError>
+    requires callers { 0 < opening.1 }
+    requires stands { V.stands (start opening.0) opening.0 }
+    requires slot { (log : Log) × (slots.items ≡ Some (opening.0, log) ∷ [])
+        × V.fired (start opening.0) log }
+    ensures sized { IfOk result (λ t. IsSized t.0.shared.table_id) }
+    ensures key { IfOk result (λ t. t.0.shared.key ≡ opening) }
+    ensures table { IfOk result (λ t. t.1.table_id ≡ t.0.shared.table_id) }
+    ensures seat { IfOk result (λ t. t.1.me ≡ (dealing opening 1, [])) }
+{
     match Table::new(alloc, &[0, 0, 0, 0], slots, &opening) {
         Ok(made) => Ok(made),
         Err(_) => Err(AllocError),
     }
+}
+
+/// The table with a card in its slot, and its first seat.
+fn lay<V: Version>(
+    alloc: Global,
+    card: Card<V>,
+    callers: u64,
+) -> Result<(BoardTable<V>, Place<V>), AllocError>
+    requires callers { 0 < callers }
+    requires stands { V.stands (start card.0) card.0 }
+    requires log { V.fired (start card.0) card.1 }
+    ensures sized { IfOk result (λ t. IsSized t.0.shared.table_id) }
+    ensures key { IfOk result (λ t. t.0.shared.key ≡ (card.0, callers)) }
+    ensures table { IfOk result (λ t. t.1.table_id ≡ t.0.shared.table_id) }
+    ensures seat { IfOk result (λ t. t.1.me ≡ (dealing (card.0, callers) 1, [])) }
+{
+    let opening = opening_of(&card, callers)?;
+    let slots = slot_of(alloc, card)?;
+    table_of(alloc, slots, opening)
 }
 
 /// A front that shows the value with the number 0, and the passes of the callers 1 to `callers`, in
@@ -101,15 +156,8 @@ pub fn make_shared<V: Version>(
     ensures all { IfOk result (λ t. AreAll t.0.callers t.1.passes) }
     ensures idle { IfOk result (λ t. AreIdle t.0.table t.1.passes) }
 {
-    let (table, mut place) = lay(alloc, value, log, callers as u64)?;
-    let mut passes = Passes::with_room(alloc, callers as usize)?;
-    let callers = callers as u64;
-    deal(&table.shared, &mut place, &mut passes, callers);
-    passes.give(Pass {
-        place,
-        number: callers,
-        last: 0,
-    });
+    let (table, place) = lay(alloc, Card { value, log }, callers as u64)?;
+    let passes = deal_all(alloc, &table.shared, place, callers as u64)?;
     let sleepers = AtomicU64::new(0);
     Ok((Shared { table, sleepers }, passes))
 }

@@ -4,9 +4,9 @@ ghost use Rattle.std.specs.Prelude.{◌≡◌};
 use crate::board::Place;
 use std::marker::Model;
 
-/// The token of one caller. Contracts see the caller's number, whether it has the writer's turn, and
-/// the lists that it knows: the commits that it has seen, its own ones, the counts that it has read
-/// and what its tries for the turn found.
+/// The token of one caller. Contracts see the caller's number, whether it has the writer's turn,
+/// and the lists that it knows: the commits that it has seen, its own ones, the counts that it has
+/// read and what its tries for the turn found.
 ///
 /// It can't be dropped. It goes back into [`Passes`](crate::Passes), which `close` takes.
 pub struct Pass<V: Drop> {

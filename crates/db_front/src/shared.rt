@@ -78,8 +78,8 @@ impl<V: Version> Shared<V> {
         })
     }
 
-    /// Takes the writer's turn, and waits until it is free. The value shown is the current one until
-    /// the turn is given back or the pass publishes.
+    /// Takes the writer's turn, and waits until it is free. The value shown is the current one
+    /// until the turn is given back or the pass publishes.
     ///
     /// After `AllocError`, which comes as in `look`, the pass doesn't have the turn.
     pub fn begin<R: Wait>(&self, rt: &R, pass: &mut Pass<V>) -> Result<Shown<V>, AllocError>
@@ -117,8 +117,8 @@ impl<V: Version> Shared<V> {
         })
     }
 
-    /// Makes one try to take the writer's turn. `None` comes exactly where the try found the number of
-    /// another caller. It may wait while another caller looks, and never for the writer's turn.
+    /// Makes one try to take the writer's turn. `None` comes exactly where the try found the number
+    /// of another caller. It may wait while another caller looks, and never for the writer's turn.
     ///
     /// After `AllocError`, which comes as in `look`, the pass doesn't have the turn.
     pub fn try_begin<R: Wait>(
@@ -162,8 +162,8 @@ impl<V: Version> Shared<V> {
         }))
     }
 
-    /// Makes a value ready to be published: takes the owners that its commit needs, one for each slot.
-    /// With one slot that is the owner given, and no memory is taken.
+    /// Makes a value ready to be published: takes the owners that its commit needs, one for each
+    /// slot. With one slot that is the owner given, and no memory is taken.
     pub fn ready(&self, value: Arc<V>) -> Result<Ready<V>, AllocError>
         ensures { IfOk result (λ r. r ≡ arc_value value) }
     {
@@ -197,8 +197,8 @@ impl<V: Version> Shared<V> {
         count
     }
 
-    /// Shows the log and the finished number, and gives the writer's turn back. It takes no memory, and
-    /// may wait while another caller looks.
+    /// Shows the log and the finished number, and gives the writer's turn back. It takes no memory,
+    /// and may wait while another caller looks.
     pub fn finish<R: Wait>(&self, rt: &R, pass: &mut Pass<V>, log: Front)
         requires own { pass.old.table ≡ self.now.table }
         requires published { pass.old.stage ≡ 2 }

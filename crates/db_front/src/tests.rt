@@ -325,8 +325,8 @@ fn a_look_before_finish_sees_the_commit_unfinished(rt: HostRuntime) -> Result<()
     Ok(())
 }
 
-/// How many owners the opening value's token has: while a reader still has the value after a commit,
-/// and once it has let it go.
+/// How many owners the opening value's token has: while a reader still has the value after a
+/// commit, and once it has let it go.
 fn owners<R: Wait>(
     rt: &R,
     alloc: Global,

@@ -16,8 +16,8 @@ use std::sync::atomic::Ordering::SeqCst;
 /// How often a caller looks at a turn that is taken before it sleeps: a turn at the slot is short.
 const LOOKS: u32 = 100;
 
-/// Returns when the turn may be free: looks at it for a short while, and then sleeps until it is given
-/// back.
+/// Returns when the turn may be free: looks at it for a short while, and then sleeps until it is
+/// given back.
 fn rest<V: Version, R: Wait>(
     rt: &R,
     board: &Board<V>,
@@ -38,8 +38,8 @@ fn rest<V: Version, R: Wait>(
     sleepers.fetch_sub(1, SeqCst);
 }
 
-/// Wakes a caller that sleeps until the turn is given back. A caller counts itself before it sleeps, and
-/// doesn't sleep where the turn was given back meanwhile, so none is missed.
+/// Wakes a caller that sleeps until the turn is given back. A caller counts itself before it
+/// sleeps, and doesn't sleep where the turn was given back meanwhile, so none is missed.
 pub(crate) fn wake<V: Version>(board: &Board<V>, sleepers: &AtomicU64, turn: usize)
     requires { turn < board.now.table_id.words }
 {

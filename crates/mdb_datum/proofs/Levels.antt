@@ -1,4 +1,5 @@
--- One level of the types: a list stands for the documents of its items, an object for those of its pairs.
+-- One level of the types: a list stands for the documents of its items, an object for those of its
+-- pairs.
 use Rattle.std.proofs.Common.{◌≡◌, ℕ, ◌<◌, ◌≤◌, List, length, map, get_or, Some, None, option_map, sym, ap, ◌∙◌, refl, rules}
 use Rattle.std.specs.List.{slice_get}
 use Rattle.std.proofs.lemmas.Option.{slice_get-map, slice_get_read, slice_get_past}

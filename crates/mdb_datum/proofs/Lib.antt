@@ -1,9 +1,9 @@
-mod Found
+mod MemberSearch
 pub mod Levels
 pub mod Numbers
 pub mod OnLiterals
-pub mod Reading
+pub mod Readings
 pub mod Regular
 pub mod RoundTrip
 pub mod Variants
-pub mod Writing
+pub mod TokenText

@@ -29,8 +29,8 @@ use Rattle.mdb_datum.specs.Reading.{reading, read_as, or_not_whole, whole_doc, w
 use Rattle.mdb_datum.specs.inner.Tokens.{json_of, json_items, json_members, doc_tokens}
 use Rattle.mdb_datum.specs.Written.{comma, compact, docs_text, fields_text}
 use Rattle.mdb_datum.proofs.Numbers.{IsNumber-signed_decimal}
-use Rattle.mdb_datum.proofs.Reading.{reading-shallow}
-use Rattle.mdb_datum.proofs.Writing.{print_doc_tokens}
+use Rattle.mdb_datum.proofs.Readings.{reading-shallow}
+use Rattle.mdb_datum.proofs.TokenText.{print_doc_tokens}
 
 -- ---- the document as a value of `serde_json`
 

@@ -1,4 +1,5 @@
--- The form of a document that was read from a text. The text of a document in this form reads as that document.
+-- The form of a document that was read from a text. The text of a document in this form reads as
+-- that document.
 use Rattle.std.specs.Prelude.{ℕ, suc, ◌^◌, ◌<◌, ◌≤◌, max, ℤ, pos, negsuc, List, [], ◌∷◌, ⊤}
 use Rattle.std.specs.List.Sorted.{IsStrictlySortedBy}
 use Rattle.std.specs.Str.{IsUtf8}
@@ -20,7 +21,8 @@ names_in (field name d fs) = name ∷ names_in fs
 abbrev pub NamesRise : FieldList → Type 0
 NamesRise fs = IsStrictlySortedBy byte_order (names_in fs)
 
--- at every level, numbers fit 64 bits, texts and names are UTF-8, and the names of an object rise by their bytes
+-- at every level, numbers fit 64 bits, texts and names are UTF-8, and the names of an object rise
+-- by their bytes
 abbrev mutual
   pub IsRegular : Doc → Type 0
   IsRegular nil = ⊤

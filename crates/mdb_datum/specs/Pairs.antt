@@ -1,5 +1,5 @@
--- Pairs of a key and a row, sorted by the key, as a radix tree and an index hold them, and what look-ups, walks and questions
--- take of them.
+-- Pairs of a key and a row, sorted by the key, as a radix tree and an index hold them, and what
+-- look-ups, walks and questions take of them.
 use Rattle.std.specs.Prelude.{List, [], ◌∷◌, map, reverse, length, nat_lt, if◌then◌else◌, Option, Some, None}
 use Rattle.std.specs.FinMap.Entries.{where_key}
 use Rattle.std.specs.Ordering.{is_le, is_ge}

@@ -1,4 +1,5 @@
--- What a text reads as (RFC 8259, as `serde_json` reads it): a document, or the first of three refusals.
+-- What a text reads as (RFC 8259, as `serde_json` reads it): a document, or the first of three
+-- refusals.
 use Rattle.std.specs.Prelude.{ℕ, pos, List, Option, Some, None, option_map, option_and_then, if◌then◌else◌, nat_lt}
 use Rattle.std.specs.Str.{is_utf8}
 use Rattle.serde_json.specs.Data as json
@@ -43,7 +44,8 @@ abbrev pub or_not_whole : Option Doc → Reading
 or_not_whole (Some d) = read_as d
 or_not_whole None = not_whole
 
--- the value that `serde_json` reads, of which each object has a name once, in byte order, with its last value
+-- the value that `serde_json` reads, of which each object has a name once, in byte order, with its
+-- last value
 abbrev pub value_reading : Option json.Data → Reading
 value_reading None = no_json
 value_reading (Some d) = if nat_lt nesting_limit (json.depth d) then too_deep else or_not_whole (whole_doc d)

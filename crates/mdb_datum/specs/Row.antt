@@ -12,6 +12,7 @@ Fields = List Field
 abbrev pub Pair : Type 0
 Pair = Bytes × Fields
 
--- the object of these members is in canonical form: their names rise, and so it is at every level below
+-- the object of these members is in canonical form: their names rise, and so it is at every level
+-- below
 abbrev pub IsCanonicalRow : Fields → Type 0
 IsCanonicalRow fields = IsCanonical (object (field_list fields))

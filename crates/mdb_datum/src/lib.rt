@@ -5,8 +5,9 @@
 //! `Row`, an object that is shared between threads and never changes. What was read is in canonical
 //! form, and the text of a canonical document reads as that document.
 //!
-//! Reading and writing take time and memory in proportion to the text, a look-up by place takes
-//! constant time, a look-up by name walks over the members, and sharing a row takes no memory.
+//! Reading and writing take time and memory in proportion to the text. A look-up by place takes
+//! constant time, and one by name time in the logarithm of the number of members. Sharing a row
+//! takes no memory.
 #![tactic(auto)]
 
 mod datum;

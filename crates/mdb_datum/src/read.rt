@@ -62,6 +62,7 @@ fn is_deeper(value: &Value, limit: usize) -> bool
     }
 }
 
+/// Whether an item of a list nests deeper than the limit.
 #[cycle(is_deeper)]
 fn any_item_is_deeper(list: &Vec<Value>, limit: usize) -> bool
     ensures { result ≡ nat_lt limit (items_depth (items_view list.now.items)) }
@@ -74,6 +75,7 @@ fn any_item_is_deeper(list: &Vec<Value>, limit: usize) -> bool
     false
 }
 
+/// Whether a member of an object does.
 #[cycle(is_deeper)]
 fn any_member_is_deeper(map: &Map<String, Value>, limit: usize) -> bool
     ensures { result ≡ nat_lt limit (members_depth (members_view map.now.entries)) }
@@ -116,6 +118,7 @@ fn datum_from(alloc: Global, value: Value) -> Result<Datum, DocError>
     }
 }
 
+/// The documents of a list. A number that isn't whole is refused.
 #[cycle(datum_from)]
 fn items_from(alloc: Global, list: Vec<Value>) -> Result<Items, DocError>
     ensures ok { IfOk result
@@ -132,6 +135,7 @@ fn items_from(alloc: Global, list: Vec<Value>) -> Result<Items, DocError>
     Ok(items)
 }
 
+/// The members of an object. A number that isn't whole is refused.
 #[cycle(datum_from)]
 fn members_from(alloc: Global, map: Map<String, Value>) -> Result<Members, DocError>
     ensures ok { IfOk result

@@ -57,6 +57,7 @@ pub(crate) fn append_members(members: &Members, out: &mut Vec<u8>) -> Result<(),
     written
 }
 
+/// Writes a document's tokens.
 #[cycle(put)]
 fn put(document: &Datum, out: &mut Writer) -> Result<(), AllocError>
     ensures ok { OnOk result (out.new.tokens ≡ out.old.tokens ++ doc_tokens (doc_of document.now)) }
@@ -72,6 +73,7 @@ fn put(document: &Datum, out: &mut Writer) -> Result<(), AllocError>
     }
 }
 
+/// Writes a number in decimal.
 fn put_number(whole: i128, out: &mut Writer) -> Result<(), AllocError>
     ensures ok { OnOk result
         (out.new.tokens ≡ out.old.tokens ++ number (signed_decimal whole) ∷ []) }
@@ -81,6 +83,7 @@ fn put_number(whole: i128, out: &mut Writer) -> Result<(), AllocError>
     out.number(buffer.format(whole))
 }
 
+/// Writes a list.
 #[cycle(put)]
 fn put_items(items: &Items, out: &mut Writer) -> Result<(), AllocError>
     ensures ok { OnOk result
@@ -94,6 +97,7 @@ fn put_items(items: &Items, out: &mut Writer) -> Result<(), AllocError>
     out.end_array()
 }
 
+/// Writes an object, its members in their order.
 #[cycle(put)]
 fn put_members(members: &Members, out: &mut Writer) -> Result<(), AllocError>
     ensures ok { OnOk result (out.new.tokens

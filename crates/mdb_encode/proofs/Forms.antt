@@ -8,8 +8,8 @@ use Rattle.mdb_encode.specs.Indexer.{Indexer, str, str_list, str_map, uint, sint
 use Rattle.mdb_encode.specs.Arguments.{Argued, one, raw_arg, raw_pre, joined_arg, joined_pre, then_with, part_count}
 use Rattle.mdb_encode.specs.inner.ArgReading.{joined_form}
 use Rattle.mdb_encode.specs.Kind.{part_list}
-use Rattle.mdb_encode.specs.Lawful.{TakesOne, HasPrefix}
 use Rattle.mdb_encode.specs.ArgRefusal.{arg_count}
+use Rattle.mdb_encode.specs.inner.ArgForms.{TakesOne, HasPrefix}
 use Rattle.mdb_encode.proofs.Walk.{drop_at}
 
 joined_arg_end : (so_far : Bytes) (ps : PartList) → joined_arg so_far ps [] ≡ Ok so_far

@@ -1,4 +1,4 @@
-pub mod Answered
+pub mod AnswerMeanings
 pub mod BigEndian
 pub mod Blank
 pub mod Exact

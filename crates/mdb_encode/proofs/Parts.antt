@@ -3,8 +3,9 @@ use Rattle.std.proofs.Common.{◌≡◌, ℕ, ◌<◌, ◌≤◌, List, length, 
 use Rattle.std.specs.List.{slice_get}
 use Rattle.std.proofs.lemmas.Option.{slice_get-map, slice_get_read, slice_get_past}
 use Rattle.mdb_encode.specs.Indexer.{Indexer, str, str_list, str_map, uint, sint, truth, uuid, is_set, equals, compound}
-use Rattle.mdb_encode.specs.Lawful.{IsPart, IsLawful, TakesOne}
+use Rattle.mdb_encode.specs.Lawful.{IsPart, IsLawful}
 use Rattle.mdb_encode.specs.Kind.{indexer_of, indexers_of, kind_step, kinds_step}
+use Rattle.mdb_encode.specs.inner.ArgForms.{TakesOne}
 use Rattle.mdb_encode.specs.declared.kind.Kind.{Kind}
 use Rattle.mdb_encode.specs.declared.kind.Kinds.{Kinds, out-Kinds, fold_out-Kinds}
 

@@ -1,11 +1,10 @@
 -- A walk over a list by place.
-use Rattle.std.proofs.Common.{◌≡◌, ℕ, zero, suc, ◌+◌, ◌<◌, List, [], ◌∷◌, length, drop, Some, Bool, sym, ap, subst, ◌∙◌, add-one, get_or, drop-cons}
+use Rattle.std.proofs.Common.{◌≡◌, ℕ, zero, suc, ◌+◌, ◌<◌, List, [], ◌∷◌, length, drop, Some, Bool, ap, subst, ◌∙◌, add-one, get_or, drop-cons}
 use Rattle.std.proofs.lemmas.Option.{slice_get_within, get_or_from_slice_get}
 use Rattle.std.specs.List.{slice_get}
 use Rattle.mdb_datum.specs.Doc.{Doc, DocList, doc, doc_list, Field, FieldList, field, field_list}
-use Rattle.mdb_encode.specs.Bytes.{Bytes}
 use Rattle.mdb_encode.specs.Indexer.{Indexer}
-use Rattle.mdb_encode.specs.Keys.{Keyed, item_keys, pair_keys, raw_keys, joined_keys, after_part}
+use Rattle.mdb_encode.specs.Keys.{Keyed, item_keys, pair_keys}
 use Rattle.mdb_encode.specs.Kind.{part_list}
 use Rattle.mdb_encode.specs.Lawful.{IsPart, AreParts}
 use Rattle.mdb_encode.specs.inner.Texts.{followed}

@@ -34,7 +34,3 @@ indexer_of = fold-Kind Indexer (List Indexer) kind_step kinds_step
 -- the parts of a compound indexer
 abbrev pub indexers_of : Kinds → List Indexer
 indexers_of = fold-Kinds Indexer (List Indexer) kind_step kinds_step
-
--- the same, as a compound indexer holds them
-abbrev pub parts_of : Kinds → PartList
-parts_of l = part_list (indexers_of l)

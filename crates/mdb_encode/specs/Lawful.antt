@@ -47,16 +47,3 @@ IsLawful (str_list name fold) = IsFieldName name
 IsLawful (str_map name fold) = IsFieldName name
 IsLawful (compound parts allow_missing) = IsPartList parts
 IsLawful i = IsPart i
-
--- an indexer whose exact key has one argument, for the value of one member
-abbrev pub TakesOne : Indexer → Type 0
-TakesOne (str_map name fold) = ⊥
-TakesOne (compound parts allow_missing) = ⊥
-TakesOne i = ⊤
-
--- an indexer of one member with a prefix form
-abbrev pub HasPrefix : Indexer → Type 0
-HasPrefix (str name fold) = ⊤
-HasPrefix (str_list name fold) = ⊤
-HasPrefix (uuid name) = ⊤
-HasPrefix i = ⊥

@@ -1,5 +1,5 @@
 -- Why the keys serve: their order, their ends, and what they tell of a row.
-use Rattle.std.specs.Prelude.{◌≡◌, ◌<◌, [], ◌∷◌, ℕ, ℤ, List, Bool, IsTrue, All, Option, Some, Ok}
+use Rattle.std.specs.Prelude.{◌≡◌, ◌<◌, [], ◌∷◌, ℕ, ℤ, Bool, IsTrue, All, Option, Some, Ok}
 use Rattle.std.specs.Ordering.{int_cmp}
 use Rattle.uuid.specs.Text.{parsed_hyphenated}
 use Rattle.mdb_datum.specs.Doc.{text}

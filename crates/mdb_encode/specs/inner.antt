@@ -1,4 +1,6 @@
+pub mod ArgForms
 pub mod ArgReading
+pub mod CompoundParts
 pub mod KeyLength
 pub mod Piece
 pub mod Refusals

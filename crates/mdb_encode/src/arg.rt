@@ -4,8 +4,9 @@ ghost use Rattle.mdb_datum.specs.Datum.{items_of};
 ghost use Rattle.mdb_encode.specs.Answers.{AnswersKey};
 ghost use Rattle.mdb_encode.specs.Arguments.{arg, pre, raw_arg, raw_pre, map_arg, limited_arg};
 ghost use Rattle.mdb_encode.specs.Kind.{indexer_of};
-ghost use Rattle.mdb_encode.specs.Lawful.{IsLawful, TakesOne, HasPrefix};
+ghost use Rattle.mdb_encode.specs.Lawful.{IsLawful};
 ghost use Rattle.mdb_encode.specs.inner.ArgReading.{arg_read};
+ghost use Rattle.mdb_encode.specs.inner.ArgForms.{TakesOne, HasPrefix};
 
 mod compound;
 mod read;

@@ -53,7 +53,26 @@ pub(crate) fn read_piece<R: HostFiles>(
         → IfSome opened.new (λ g.
         ReadConsumes (R.File.remaining f.file) (R.File.remaining g.file) result into.new)) }
 {
-    let mut file = file_named(rt, opened.take(), name)?;
+    let file = file_named(rt, opened.take(), name)?;
+    read_kept(opened, file, at, into)
+}
+
+/// Reads bytes of a file from an offset on into the front of a buffer, and gives how many. The file
+/// stays open then, and after a failure it is closed.
+fn read_kept<F: Read + Seek + Drop>(
+    opened: &mut Option<NamedFile<F>>,
+    mut file: NamedFile<F>,
+    at: u64,
+    into: &mut [u8],
+) -> io::Result<usize>
+    requires { opened.old ≡ None }
+    ensures bound { IfOk result (λ n. n ≤ length into.old) }
+    ensures kept { IfOk result (λ n. IsSomeAnd opened.new
+        (λ f. (f.name ≡ file.name) × (f.place ≡ min (at + n) (2 ^ 64 - 1)))) }
+    ensures closed { OnErr result (opened.new ≡ None) }
+    ensures in_order { file.place ≡ at → IfSome opened.new (λ f.
+        ReadConsumes (F.remaining file.file) (F.remaining f.file) result into.new) }
+{
     let n = file.read_from(at, into)?;
     *opened = Some(file);
     Ok(n)

@@ -1,4 +1,6 @@
-//! What no clause says: that each call can succeed, the bytes of worked examples, and the real ends.
+//! What no clause says: that each call can succeed, the bytes of worked examples, and the real
+//! ends.
+mod holds;
 mod host;
 mod interrupted;
 mod memory;

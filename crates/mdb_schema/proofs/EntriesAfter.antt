@@ -1,6 +1,6 @@
 -- What a write does to the entries of an index: after a put, the full keys of the old row that the
--- new one doesn't have are taken out, and those of the new one are put in; after a removal, those of
--- the old row are taken out.
+-- new one doesn't have are taken out, and those of the new one are put in; after a removal, those
+-- of the old row are taken out.
 use Rattle.std.proofs.Common.{◌≡◌, ◌∙◌, ◌&&◌, List, Bool, true, false, not, cond, Option, Some, None, Ok, Contains, refl, sym, ap, inl, inr}
 use Rattle.std.specs.Prelude.{if◌then◌else◌}
 use Rattle.std.specs.List.{find}
@@ -11,9 +11,8 @@ use Rattle.mdb_encode.specs.Bytes.{Bytes}
 use Rattle.mdb_schema.specs.Entries.{entries}
 use Rattle.mdb_schema.specs.Schema.{IndexSchema, TableSchema}
 use Rattle.mdb_schema.specs.State.{id_key, full_keys, row_at, with_row, without_row, AreLawfulRows}
-use Rattle.mdb_schema.specs.Touched.{full_keys_of}
 use Rattle.mdb_schema.specs.Write.{Changed, is_among, put_row, remove_row}
-use Rattle.mdb_schema.specs.inner.Edits.{put_all, without_all, stale_keys}
+use Rattle.mdb_schema.specs.inner.Edits.{put_all, without_all, stale_keys, full_keys_of}
 use Rattle.mdb_schema.proofs.EntriesOfRows.{has_full_key, AreApart, apart_in, one_with_key, sorted-entries, entry_at-entries}
 use Rattle.mdb_schema.proofs.EntryEdits.{entry_at, sorted-put_all, sorted-without_all, same_pairs, entry_at-put_all, entry_at-without_all, is_among-stale_keys}
 use Rattle.mdb_schema.proofs.FirstFound.{find-nothing, find-only, find-alike}
@@ -21,7 +20,7 @@ use Rattle.mdb_schema.proofs.Membership.{is_among-true, bytes_eq-itself, bytes_e
 use Rattle.mdb_schema.proofs.RowsById.{AreRising, row_at-some, row_at-row}
 use Rattle.mdb_schema.proofs.RowsWith.{Contains-with_row, Contains-with_row_other, with_row-cases}
 use Rattle.mdb_schema.proofs.RowsWithout.{Contains-without_row, without_row-cases}
-use Rattle.mdb_schema.proofs.Tested.{IsFree}
+use Rattle.mdb_schema.proofs.WriteTests.{IsFree}
 use Rattle.mdb_schema.proofs.Writes.{put_accepted, remove_accepted}
 
 module _ (t : TableSchema) (i : IndexSchema) (rows : List Fields) (rising : AreRising t rows) (apart : AreApart t i rows) where

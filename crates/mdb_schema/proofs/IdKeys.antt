@@ -16,7 +16,7 @@ use Rattle.mdb_schema.specs.Tests.{◌>>=◌, needed}
 use Rattle.mdb_schema.specs.Write.{Tested, no_id, keys_at, id_of}
 use Rattle.mdb_schema.proofs.Chains.{passed_on}
 use Rattle.mdb_schema.proofs.Membership.{Contains-nil, Contains-first, Contains-later, Contains-cons_cases, Contains-map, same_key, bytes_eq-itself}
-use Rattle.mdb_schema.proofs.Passed.{needed_some, needed_on, goes_on}
+use Rattle.mdb_schema.proofs.PassedTests.{needed_some, needed_on, goes_on}
 use Rattle.mdb_schema.proofs.RowsById.{apart_from_less}
 
 -- ---- an index by its name

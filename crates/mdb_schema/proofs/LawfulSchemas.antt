@@ -21,7 +21,7 @@ use Rattle.mdb_schema.specs.declared.error.SchemaError.{SchemaError}
 use Rattle.mdb_schema.specs.declared.schema_rule.SchemaRule.TheVariants as rule
 use Rattle.mdb_schema.proofs.Chains.{passed_on, passed_true, unnamed, each_parts, same_length, all_of}
 use Rattle.mdb_schema.proofs.LawfulIndexers.{indexer_lawful}
-use Rattle.mdb_schema.proofs.Listed.{index_list_found, table_list_found}
+use Rattle.mdb_schema.proofs.IndexLists.{index_list_found, table_list_found}
 
 id_kept : (u m : Bool) (i : Indexer) (x : Unit {0}) → id_in u m i ≡ Ok x → (is_multi i ≡ false) × (u ≡ true) × (m ≡ false)
 id_kept u m i x e = of (is_multi i) u m x e

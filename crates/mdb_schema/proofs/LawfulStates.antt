@@ -9,7 +9,7 @@ use Rattle.mdb_schema.specs.Tests.{◌>>=◌, needed}
 use Rattle.mdb_schema.specs.Write.{Write, put, remove, Tested, Changed, Stepped, unknown_table, put_row, remove_row, step_in, step}
 use Rattle.mdb_schema.proofs.Chains.{passed_on}
 use Rattle.mdb_schema.proofs.LawfulRows.{no_rows_lawful, put_keeps, remove_keeps}
-use Rattle.mdb_schema.proofs.Passed.{needed_some, needed_on, goes_on}
+use Rattle.mdb_schema.proofs.PassedTests.{needed_some, needed_on, goes_on}
 use Rattle.mdb_schema.proofs.Tables.{IsTableAt, table_at-there, table_at-some, put_rows, table_rows_lawful, put_rows_lawful}
 
 pub empty_lawful : (schema : DbSchema) → IsLawfulState schema (empty_state schema)

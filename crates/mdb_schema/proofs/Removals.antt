@@ -1,5 +1,5 @@
--- Removals of rows of a table, one after the other: each is accepted and returns its row, and what is
--- left stands in the place of the table's rows.
+-- Removals of rows of a table, one after the other: each is accepted and returns its row, and what
+-- is left stands in the place of the table's rows.
 use Rattle.std.proofs.Common.{◌≡◌, ◌∙◌, List, [], ◌∷◌, map, false, Some, Ok, Contains, sym, ap}
 use Rattle.std.specs.List.{IsDistinct}
 use Rattle.std.specs.Prelude.{⊤}

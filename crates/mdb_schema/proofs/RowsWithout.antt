@@ -1,5 +1,5 @@
--- The rows of a table without the row of an `id` key: what is found, what stands there, and that the
--- keys rise.
+-- The rows of a table without the row of an `id` key: what is found, what stands there, and that
+-- the keys rise.
 use Rattle.std.proofs.Common.{◌≡◌, ◌∙◌, List, [], ◌∷◌, filter, Bool, true, false, not, cond, if◌then◌else◌, Option, Some, None, Contains, refl, sym, ap, subst, inl, inr}
 use Rattle.std.specs.Str.{bytes_eq}
 use Rattle.std.proofs.lemmas.Bool.{cond-true, cond-false, not-true}

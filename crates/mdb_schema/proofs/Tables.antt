@@ -1,5 +1,5 @@
--- A table of a state by its name: its place, its schema and its rows; and the state with other rows in
--- that place.
+-- A table of a state by its name: its place, its schema and its rows; and the state with other rows
+-- in that place.
 use Rattle.std.proofs.Common.{◌≡◌, ◌≢◌, ◌∙◌, ◌+◌, ℕ, zero, suc, List, [], ◌∷◌, Bool, true, false, slice_get, slice_set, Option, Some, None, option_map, option_and_then, add-one, refl, sym, ap, subst}
 use Rattle.std.specs.Prelude.{if◌then◌else◌}
 use Rattle.std.specs.Str.{bytes_eq}

@@ -8,8 +8,8 @@ use Rattle.mdb_schema.specs.Tests.{◌>>=◌, needed, each}
 use Rattle.mdb_schema.specs.Write.{Tested, Changed, not_found, id_of, indexes_of, takes, leaves_free, put_row, remove_row}
 use Rattle.mdb_schema.proofs.Chains.{passed_on}
 use Rattle.mdb_schema.proofs.IdKeys.{id_of-key, id_of-own}
-use Rattle.mdb_schema.proofs.Passed.{needed_some, needed_on, goes_on}
-use Rattle.mdb_schema.proofs.Tested.{IsFree, each_takes, each_takes-from, each_free, each_free-from}
+use Rattle.mdb_schema.proofs.PassedTests.{needed_some, needed_on, goes_on}
+use Rattle.mdb_schema.proofs.WriteTests.{IsFree, each_takes, each_takes-from, each_free, each_free-from}
 
 -- a row may be put: it has an `id` key, each index takes it, and no other row has a key of it
 pub record MayPut (t : TableSchema) (row : Fields) (rows : List Fields) : Type 0 where

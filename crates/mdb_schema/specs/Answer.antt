@@ -1,8 +1,8 @@
 -- Questions: a filter of the entries of an index, or the first rule that the question breaks. The
--- tests stand in the order in which they are made: the table, the name's ending, the index, then its
--- arguments.
+-- tests stand in the order in which they are made: the table, the name's ending, the index, then
+-- its arguments.
 use Rattle.std.specs.Prelude.{◌&&◌, ◌||◌, ◌-◌, ℕ, List, [], ◌∷◌, Bool, true, false, not, if◌then◌else◌}
-use Rattle.std.specs.Prelude.{Option, Some, None, option_map, Result, Ok, Err, slice_get}
+use Rattle.std.specs.Prelude.{option_map, Result, Ok, Err, slice_get}
 use Rattle.std.specs.Prelude.{reverse, take, length, nat_eq, nat_lt, codes}
 use Rattle.std.specs.List.{ends_with}
 use Rattle.std.specs.FinMap.Entries.{where_key}
@@ -77,8 +77,8 @@ needs_argument Longest = true
 needs_argument ReverseLower = true
 needs_argument a = false
 
--- on a unique index an argument by the index's own name asks for the entry of that very full key, else
--- for those that begin with it
+-- on a unique index an argument by the index's own name asks for the entry of that very full key,
+-- else for those that begin with it
 abbrev pub is_exact : IndexSchema → Query → Bool
 is_exact i q = i.unique && not (is_prefix_name q.index) && has_argument q
 

@@ -1,5 +1,5 @@
--- The entries of an index: all pairs of a full key and its row, sorted by the key, without repeats. In
--- lawful rows no two share a full key; where rows do, the entry is the first one's.
+-- The entries of an index: all pairs of a full key and its row, sorted by the key, without repeats.
+-- In lawful rows no two share a full key; where rows do, the entry is the first one's.
 use Rattle.std.specs.Prelude.{List, [], ◌∷◌}
 use Rattle.std.specs.FinMap as finite
 use Rattle.mdb_datum.specs.Row.{Fields, Pair}

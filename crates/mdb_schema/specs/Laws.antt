@@ -1,7 +1,7 @@
 -- What holds of every lawful state.
 use Rattle.std.specs.Prelude.{◌≡◌, ◌≢◌, ℕ, List, [], Option, Some, Ok, IsTrue, Contains}
 use Rattle.std.specs.FinMap as finite
-use Rattle.mdb_datum.specs.Row.{Fields, Pair}
+use Rattle.mdb_datum.specs.Row.{Fields}
 use Rattle.mdb_encode.specs.Bytes.{Bytes, byte_order}
 use Rattle.mdb_schema.specs.Entries.{entries}
 use Rattle.mdb_schema.specs.History.{History, after_writes, state_at}

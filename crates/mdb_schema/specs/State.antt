@@ -78,7 +78,8 @@ table_at schema s name = option_and_then at_place (table_place name schema)
         option_and_then (λ t. option_map (λ rows. record { place = place; schema = t; rows = rows })
         (slice_get s place)) (slice_get schema place)
 
--- an index takes a row: its keys are no refusal, and there is one where the index doesn't allow a missing key
+-- an index takes a row: its keys are no refusal, and there is one where the index doesn't allow a
+-- missing key
 pub record Takes (row : Fields) (i : IndexSchema) : Type 0 where
   pub found : List Bytes
   pub lawful : keys i.indexer row ≡ Ok found

@@ -1,24 +1,12 @@
 -- The full keys that writes touch.
-use Rattle.std.specs.Prelude.{List, [], ◌∷◌, ◌++◌, Contains, if◌then◌else◌, option_to_list, Option, Some, None, Ok, Err}
+use Rattle.std.specs.Prelude.{List, [], ◌∷◌, ◌++◌, Contains, if◌then◌else◌, option_to_list, Ok, Err}
 use Rattle.std.specs.Str.{bytes_eq}
 use Rattle.mdb_datum.specs.Row.{Fields}
 use Rattle.mdb_encode.specs.Bytes.{Bytes}
 use Rattle.mdb_schema.specs.History.{state_or}
 use Rattle.mdb_schema.specs.Schema.{DbSchema, IndexSchema, TableSchema}
-use Rattle.mdb_schema.specs.State.{State, full_keys, row_at}
+use Rattle.mdb_schema.specs.State.{State, full_keys}
 use Rattle.mdb_schema.specs.Write.{Stepped, Write, put, remove, step, table_of}
-
-abbrev pub full_keys_of : TableSchema → IndexSchema → Option Fields → List Bytes
-full_keys_of t i None = []
-full_keys_of t i (Some row) = full_keys t i row
-
--- in an index a write of an `id` key touches the full keys of the row that had it before, and of the
--- one that has it after
-abbrev pub touched : TableSchema → IndexSchema → Bytes → List Fields → List Fields → List Bytes
-touched t i id before after =
-    full_keys_of t i (row_at t id before) ++ full_keys_of t i (row_at t id after)
-
--- ---- writes one after another
 
 -- the row that a write puts in
 abbrev pub row_put : Write → List Fields

@@ -2,8 +2,6 @@
 -- first listing; or the first rule that the question breaks (go-memdb's `Txn.DeleteAll` and
 -- `Txn.DeletePrefix`).
 use Rattle.std.specs.Prelude.{List, [], ◌∷◌, not, if◌then◌else◌, filter, map, Ok}
-use Rattle.std.specs.List.{list_any}
-use Rattle.std.specs.Str.{bytes_eq}
 use Rattle.mdb_datum.specs.Pairs.{rows_of, with_prefix}
 use Rattle.mdb_datum.specs.Row.{Fields}
 use Rattle.mdb_encode.specs.Bytes.{Bytes}
@@ -26,8 +24,8 @@ once_after t seen (r ∷ rs) =
 abbrev pub once : TableSchema → List Fields → List Fields
 once t rs = once_after t [] rs
 
--- the rows that a wipe takes out: those that Get lists by the question's index and arguments, whatever
--- the question's own word
+-- the rows that a wipe takes out: those that Get lists by the question's index and arguments,
+-- whatever the question's own word
 abbrev pub wiped_rows : TableSchema → List Fields → Query → Asked (List Fields)
 wiped_rows t rows q = do
   at ← lookup_of t (record q { ask = Get })

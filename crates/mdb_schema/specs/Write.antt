@@ -1,8 +1,8 @@
 -- One write: the state after it with the row that was there, or the first rule that the request
--- breaks. The tests stand in the order in which they are made: the table, then the `id` key, then the
--- keys of each index, then what the other rows allow.
+-- breaks. The tests stand in the order in which they are made: the table, then the `id` key, then
+-- the keys of each index, then what the other rows allow.
 use Rattle.std.specs.Prelude.{◌||◌, ◌&&◌, ℕ, List, [], ◌∷◌, Bool, true, false, not, slice_set, codes}
-use Rattle.std.specs.Prelude.{Option, Some, None, Result, Ok, Err}
+use Rattle.std.specs.Prelude.{Option, Some, Result, Ok, Err}
 use Rattle.std.specs.List.{list_any, enumerate_from}
 use Rattle.std.specs.Str.{bytes_eq}
 use Rattle.mdb_datum.specs.Pairs.{first_item}
@@ -65,7 +65,8 @@ abbrev pub has_key : List Bytes → Bool
 has_key [] = false
 has_key (k ∷ ks) = true
 
--- an index takes the row: it breaks no rule, and has a key where the index doesn't allow a missing one
+-- an index takes the row: it breaks no rule, and has a key where the index doesn't allow a missing
+-- one
 abbrev pub takes : Fields → Placed → Tested (Unit {0})
 takes row (place, i) = do
   ks ← keys_at place (keys i.indexer row)

@@ -8,8 +8,8 @@ use mdb_datum::Text;
 use mdb_encode::Kind;
 use std::marker::Model;
 
-/// An index of a table, seen as an `IndexSchema`: its name, its rules, and how its keys are made. It
-/// is lawful by its type, which `name` tells.
+/// An index of a table, seen as an `IndexSchema`: its name, its rules, and how its keys are made.
+/// It is lawful by its type, which `name` tells.
 #[derive(Drop)]
 pub struct IndexDef {
     name: Text,

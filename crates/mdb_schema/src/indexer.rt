@@ -235,6 +235,7 @@ pub(crate) fn read_indexer(alloc: Global, document: &Datum) -> Result<Kind, Inde
     indexer_in(alloc, document)
 }
 
+/// The kind of an indexer, or the first rule that it breaks.
 fn indexer_in(alloc: Global, document: &Datum) -> Result<Kind, IndexerError>
     ensures { Answers indexer_of (indexer_in (doc_of document.now)) result }
 {

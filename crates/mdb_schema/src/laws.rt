@@ -1,8 +1,9 @@
-//! What is known of every state, as laws of the definitions. Each function does nothing: its contract
-//! is the law.
+//! What is known of every state, as laws of the definitions. Each function does nothing: its
+//! contract is the law.
 ghost use Rattle.mdb_schema.specs.Laws.{StepKeeps, HistoryKeeps, EachKeyIsAnEntry, EachEntryIsAKey, EntriesRise, WipeLeaves, WipeOfNothing};
 
-/// A write that is accepted keeps a lawful state lawful, and so the state after any commits is lawful.
+/// A write that is accepted keeps a lawful state lawful, and so the state after any commits is
+/// lawful.
 pub fn writes_keep_states_lawful()
     ensures step { StepKeeps }
     ensures history { HistoryKeeps }

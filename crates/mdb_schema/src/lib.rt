@@ -1,11 +1,11 @@
-//! Schemas, and the model of a database: what its tables hold, what a write does, what a question is
-//! answered.
+//! Schemas, and the model of a database: what its tables hold, what a write does, what a question
+//! is answered.
 //!
-//! `read_schema` gives a `Schema` with its tables and indexes, or the first rule that a file breaks.
-//! A `Schema` is lawful by its type: its tables and indexes stand in byte order of their names, each
-//! table has an index `id`, and each index has a well-formed kind. The layers above are stated
-//! against the definitions in `specs/`: a schema as plain data, a state, a write step, an answer, a
-//! history.
+//! `read_schema` gives a `Schema` with its tables and indexes, or the first rule that a file
+//! breaks. A `Schema` is lawful by its type: its tables and indexes stand in byte order of their
+//! names, each table has an index `id`, and each index has a well-formed kind. The layers above are
+//! stated against the definitions in `specs/`: a schema as plain data, a state, a write step, an
+//! answer, a history.
 //!
 //! Reading takes time and memory in proportion to the file. A schema never changes; a look-up by
 //! place takes constant time, and one by name time in the logarithm of the number of names.

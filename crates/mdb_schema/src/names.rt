@@ -17,8 +17,8 @@ fn all_name_bytes(bytes: &[u8]) -> bool
     bytes.iter().all(|byte| is_name_byte(*byte))
 }
 
-/// Whether bytes are a word that may name something: 1 to 64 letters, digits, `_` and `-`. A name that
-/// a schema declares is such a word, and doesn't end in `_prefix`.
+/// Whether bytes are a word that may name something: 1 to 64 letters, digits, `_` and `-`. A name
+/// that a schema declares is such a word, and doesn't end in `_prefix`.
 pub fn is_word(bytes: &[u8]) -> bool
     ensures { result ≡ is_word bytes.now }
 {

@@ -115,8 +115,8 @@ fn index_kind(
     })) }
 {
     let kind = read_indexer(alloc, indexer)?;
-    index_rules(name, unique, allow_missing, &kind)?;
-    Ok(kind)
+    let rules = index_rules(name, unique, allow_missing, &kind);
+    Ok(rules.and(Ok(kind))?)
 }
 
 /// The index under a name.

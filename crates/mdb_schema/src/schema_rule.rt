@@ -1,8 +1,8 @@
 //! The rules of a schema file.
 ghost use Rattle.std.specs.Prelude.{◌≡◌};
 
-/// What a schema file breaks. The rule that is answered is the first that a reading of the file, from
-/// its whole to its tables, their indexes and the parts of these, finds broken.
+/// What a schema file breaks. The rule that is answered is the first that a reading of the file,
+/// from its whole to its tables, their indexes and the parts of these, finds broken.
 #[derive(Clone, Copy, Debug, PartialEq, Eq)]
 pub enum SchemaRule {
     /// The bytes are no document.

@@ -1,4 +1,5 @@
--- How a call that begins a transaction is answered, of what its caller has seen and of what it is answered then.
+-- How a call that begins a transaction is answered, of what its caller has seen and of what it is
+-- answered then.
 use Rattle.std.proofs.Common.{◌≡◌, ◌∙◌, ◌<◌, ◌^◌, ◌++◌, ℕ, append-nil, List, refl, [], ◌∷◌, length, map, Option, Some, IfSome, Result, Ok, Err, IfOk, inl, inr, sym, ap, subst, arith}
 use Rattle.std.specs.Prelude.{All}
 use Rattle.std.specs.declared.alloc.AllocError.{AllocError}

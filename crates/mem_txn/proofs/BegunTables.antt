@@ -1,5 +1,5 @@
--- Tables that nobody has written to stand for the state that they are, and nothing was opened or written in
--- them.
+-- Tables that nobody has written to stand for the state that they are, and nothing was opened or
+-- written in them.
 use Rattle.std.proofs.Common.{◌≡◌, ◌∙◌, ◌++◌, ℕ, List, [], ◌∷◌, map, inl, refl, sym, ap, subst}
 use Rattle.std.specs.Prelude.{All}
 use Rattle.std.proofs.lemmas.List.Elements.{All-append, All-cons, All-nil}

@@ -5,15 +5,13 @@ use Rattle.std.proofs.lemmas.List.{map-append}
 use Rattle.std.proofs.lemmas.List.Elements.{All-append, All-cons, All-nil}
 use Rattle.mdb_datum.specs.Row.{Fields}
 use Rattle.mdb_schema.specs.Schema.{TableSchema, DbSchema}
-use Rattle.mdb_schema.specs.State.{State, empty_state}
-use Rattle.radix_node.specs.Cells.{CellTree}
 use Rattle.radix_node.specs.Ids.{Counter}
 use Rattle.table_index.specs.Table.{TableRows}
 use Rattle.table_index.specs.Watched.{HoldsRows}
 use Rattle.mem_txn.specs.inner.EmptyTables.{AreEmpty, IsEmptyOf}
 use Rattle.mem_txn.specs.inner.Steps.{tables_with}
 use Rattle.mem_txn.specs.inner.VersionTables.{AreWithin, schemas_of, state_of, trees_of}
-use Rattle.mem_txn.proofs.Gathered.{gathered_more}
+use Rattle.mem_txn.proofs.ListLoops.{gathered_more}
 use Rattle.mem_txn.proofs.IdsCounted.{forest_more}
 
 pub none_empty : (ids : Counter) (ts : List TableRows) → ts ≡ [] → AreEmpty [] ids ts

@@ -7,14 +7,14 @@ use Rattle.mdb_schema.specs.Entries.{entries}
 use Rattle.mdb_schema.specs.Query.{Query}
 use Rattle.mdb_schema.specs.Schema.{IndexSchema, TableSchema}
 use Rattle.mdb_schema.specs.declared.answer.Answer.{Answer}
-use Rattle.mdb_schema.proofs.Passed.{goes_on}
+use Rattle.mdb_schema.proofs.PassedTests.{goes_on}
 use Rattle.radix_node.specs.Cells.{CellTree}
 use Rattle.watch_word.specs.Logs.{Cell}
 use Rattle.table_index.specs.Frozen.{AreFrozen}
 use Rattle.table_index.specs.Table.{TableChange, TableRows}
 use Rattle.table_index.specs.Watched.{HoldsRows, QuestionsHold, QuestionsHoldSince}
 use Rattle.table_index.specs.Written.{KeepsOthers}
-use Rattle.table_index.proofs.Looked.{looked_there}
+use Rattle.table_index.proofs.Lookups.{looked_there}
 use Rattle.table_index.proofs.WrittenRows.{keeps_others}
 use Rattle.mem_txn.specs.inner.Ended.{EndsWith}
 use Rattle.mem_txn.specs.inner.VersionTables.{unwritten}

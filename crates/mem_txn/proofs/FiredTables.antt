@@ -1,21 +1,25 @@
 -- A walk over the notices of tables fires all cells in them.
 use Rattle.std.proofs.Common.{◌≡◌, ◌∙◌, ◌+◌, ◌<◌, ◌∷◌, ◌++◌, [], ℕ, zero, suc, List, Some, get_or, length, map, option_map, slice_get, take, arith, refl, sym, ap, subst}
 use Rattle.std.proofs.lemmas.Option.{slice_get-map, slice_get_read}
+use Rattle.radix_node.specs.Cells.{AreCellsOf}
 use Rattle.radix_node.specs.Ids.{Book}
 use Rattle.watch_word.specs.Logs.{Cell, IsLater, Log}
-use Rattle.notify_walk.specs.Fired.{AreOf, HaveFired}
-use Rattle.notify_walk.proofs.Firing.{still_all}
+use Rattle.notify_walk.specs.Fired.{HaveFired}
+use Rattle.notify_walk.proofs.Firings.{still_all}
 use Rattle.mem_txn.specs.inner.Firing.{cells_in}
 
 -- ---- two lists of cells
 
-of_first : (book : Book) (xs ys : List Cell) → AreOf book (xs ++ ys) → AreOf book xs
-of_first book [] ys all = tt
-of_first book (x ∷ xs) ys all = (all.0, of_first book xs ys all.1)
+of_first : (book : Book) (xs ys : List Cell) → AreCellsOf book (xs ++ ys) → AreCellsOf book xs
+of_first book [] ys all = refl
+of_first book (x ∷ xs) ys all =
+    let first : x.book ≡ book = cc in
+    let rest : AreCellsOf book (xs ++ ys) = cc in
+    λ i. first i ∷ of_first book xs ys rest i
 
-of_second : (book : Book) (xs ys : List Cell) → AreOf book (xs ++ ys) → AreOf book ys
+of_second : (book : Book) (xs ys : List Cell) → AreCellsOf book (xs ++ ys) → AreCellsOf book ys
 of_second book [] ys all = all
-of_second book (x ∷ xs) ys all = of_second book xs ys all.1
+of_second book (x ∷ xs) ys all = let rest : AreCellsOf book (xs ++ ys) = cc in of_second book xs ys rest
 
 fired_first : (log : Log) (xs ys : List Cell) → HaveFired log (xs ++ ys) → HaveFired log xs
 fired_first log [] ys all = tt
@@ -31,14 +35,14 @@ fired_both log (x ∷ xs) ys first second = (first.0, fired_both log xs ys first
 
 -- ---- lists of cells
 
-of_there : (book : Book) (css : List (List Cell)) (at : ℕ) (cs : List Cell) → AreOf book (cells_in css) → slice_get css at ≡ Some cs → AreOf book cs
+of_there : (book : Book) (css : List (List Cell)) (at : ℕ) (cs : List Cell) → AreCellsOf book (cells_in css) → slice_get css at ≡ Some cs → AreCellsOf book cs
 of_there book [] at cs all there = cc
-of_there book (ds ∷ css) zero cs all there = let same : ds ≡ cs = cc in subst (AreOf book) same (of_first book ds (cells_in css) all)
+of_there book (ds ∷ css) zero cs all there = let same : ds ≡ cs = cc in subst (AreCellsOf book) same (of_first book ds (cells_in css) all)
 of_there book (ds ∷ css) (suc at) cs all there = of_there book css at cs (of_second book ds (cells_in css) all) there
 
 -- the notice at a place, where the log is of the front's book
-pub notice_of : (front log : Log) (css : List (List Cell)) (at : ℕ) (cs : List Cell) → AreOf front.book (cells_in css) → IsLater front log → slice_get css at ≡ Some cs → AreOf log.book cs
-notice_of front log css at cs all later there = subst (λ (b : Book). AreOf b cs) (sym later.0) (of_there front.book css at cs all there)
+pub notice_of : (front log : Log) (css : List (List Cell)) (at : ℕ) (cs : List Cell) → AreCellsOf front.book (cells_in css) → IsLater front log → slice_get css at ≡ Some cs → AreCellsOf log.book cs
+notice_of front log css at cs all later there = subst (λ (b : Book). AreCellsOf b cs) (sym later.0) (of_there front.book css at cs all there)
 
 fired_there : (log : Log) (css : List (List Cell)) (at : ℕ) (cs : List Cell) → slice_get css at ≡ Some cs → HaveFired log (cells_in (take at css)) → HaveFired log cs → HaveFired log (cells_in (take (suc at) css))
 fired_there log [] at cs there before one = tt

@@ -15,7 +15,7 @@ use Rattle.radix_node.specs.Cells.{AreBelow, CellTree, cells_of}
 use Rattle.radix_node.specs.Paths.{Has}
 use Rattle.radix_txn.specs.Notice.{IsOpened}
 use Rattle.radix_txn.proofs.Steps.{lt_or_le}
-use Rattle.radix_txn.proofs.Transacted.{counted}
+use Rattle.radix_txn.proofs.TxnTrees.{counted}
 use Rattle.table_index.specs.Table.{TableRows}
 use Rattle.table_index.specs.Watched.{FiresAt}
 use Rattle.table_index.specs.Written.{EachKept, IsKeyOf, KeptBut}

@@ -6,7 +6,7 @@ pub mod CellsWatched
 pub mod EmptyTables
 pub mod EndedTables
 pub mod FiredTables
-pub mod Gathered
+pub mod ListLoops
 pub mod GoneCells
 pub mod IdsCounted
 pub mod KeptAlong

@@ -1,4 +1,5 @@
--- What a list of values tells as a history, and what the calls of the front make of a pass as its caller.
+-- What a list of values tells as a history, and what the calls of the front make of a pass as its
+-- caller.
 use Rattle.std.proofs.Common.{◌≡◌, ◌∙◌, ◌+◌, ◌^◌, ◌<◌, ◌≤◌, ◌++◌, ℕ, zero, suc, [], ◌∷◌, List, Bool, true, false, inl, inr, ⊎_elim, map, length, sym, ap, refl, subst, arith, ne_eqb}
 use Rattle.std.specs.Prelude.{if◌then◌else◌, ◌==◌}
 use mathlib.Core.List.{IsPrefix}

@@ -1,4 +1,5 @@
--- What a write of a table of a transaction adds: the rows that it wrote, and the cells that it opened.
+-- What a write of a table of a transaction adds: the rows that it wrote, and the cells that it
+-- opened.
 use Rattle.std.proofs.Common.{◌≡◌, ◌≤◌, ◌∙◌, ◌+◌, ◌*◌, ◌^◌, ℕ, List, [], ◌∷◌, Bool, true, false, Option, Some, None, Result, Ok, Err, inl, inr, refl, sym, ap, subst, arith}
 use Rattle.std.specs.Prelude.{◌⊎◌, IfErr, IfOk, OnOk, option_to_list}
 use Rattle.mdb_datum.specs.Row.{Fields}

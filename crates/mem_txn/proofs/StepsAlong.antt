@@ -12,12 +12,12 @@ use Rattle.db_front.specs.Passes.{Known}
 use Rattle.mdb_schema.specs.History.{Commit, after_writes, state_at, writes_in}
 use Rattle.mdb_schema.specs.Schema.{DbSchema}
 use Rattle.mdb_schema.proofs.Membership.{Contains-slice_get}
-use Rattle.notify_walk.specs.Fired.{AreOf, HaveFired}
-use Rattle.notify_walk.proofs.Firing.{all_of, still_fired}
+use Rattle.notify_walk.specs.Fired.{HaveFired}
+use Rattle.notify_walk.proofs.Firings.{still_fired}
 use Rattle.radix_node.specs.Cells as trees
 use Rattle.radix_node.specs.Ids.{Book, Counter}
 use Rattle.radix_node.specs.Paths.{Has}
-use Rattle.radix_node.proofs.OneBook.{each_is}
+use Rattle.radix_node.proofs.OneBook.{all_are, each_is}
 use Rattle.table_index.specs.Watched.{HoldsRows}
 use Rattle.watch_word.specs.Logs.{Cell, IsLater, Log, has_fired}
 use Rattle.mem_txn.specs.CellHistory as cells
@@ -258,8 +258,8 @@ next_stands k base v stands next =
 -- ---- the cells that a commit fires
 
 -- they are of the book of the trees that they left
-pub gone_of : (ids : Counter) (old new : Forest) (told : List Cell) → All (AreWithin ids) old → AreGone old new told → AreOf ids.book told
-gone_of ids old new told within gone = all_of ids.book told (λ c h. fires_of c (gone.gone c h))
+pub gone_of : (ids : Counter) (old new : Forest) (told : List Cell) → All (AreWithin ids) old → AreGone old new told → trees.AreCellsOf ids.book told
+gone_of ids old new told within gone = all_are ids.book told (λ c h. fires_of c (gone.gone c h))
   where
     fires_of : (c : Cell) → FiresIn old new c → c.book ≡ ids.book
     fires_of c f =

@@ -15,7 +15,7 @@ use Rattle.mdb_schema.specs.declared.write_error.WriteError.{WriteError}
 use Rattle.mdb_schema.specs.declared.write_error.WriteError.TheVariants.{IdsSpent, Memory}
 use Rattle.mdb_schema.proofs.LawfulStates.{step_in-from}
 use Rattle.mdb_schema.proofs.Membership.{Contains-slice_get}
-use Rattle.mdb_schema.proofs.Passed.{needed_on}
+use Rattle.mdb_schema.proofs.PassedTests.{needed_on}
 use Rattle.mdb_schema.proofs.Tables.{IsTableAt, slice_set-same, table_at-some}
 use Rattle.table_index.specs.Table.{AreSpent, TableRows, TableChange}
 use Rattle.mem_txn.specs.inner.VersionTables.{AnswersAt, AnswersRows, IsSound, StandFor, Tables, schemas_of, standing, state_of}

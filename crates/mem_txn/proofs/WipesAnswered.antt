@@ -17,10 +17,10 @@ use Rattle.mdb_schema.specs.Wipe.{removals, wiped_rows, without_rows}
 use Rattle.mdb_schema.specs.Write.{Write, remove, step}
 use Rattle.mdb_schema.proofs.Chains.{passed_on}
 use Rattle.mdb_schema.proofs.LawfulStates.{state_at_lawful, writes_keep}
-use Rattle.mdb_schema.proofs.Passed.{needed_on}
+use Rattle.mdb_schema.proofs.PassedTests.{needed_on}
 use Rattle.mdb_schema.proofs.Removals.{AreRowsOnce, Removes, removals_accepted}
 use Rattle.mdb_schema.proofs.Tables.{IsTableAt, slice_set-same, table_at-some}
-use Rattle.mdb_schema.proofs.Wiped.{wiped_once}
+use Rattle.mdb_schema.proofs.WipeLaws.{wiped_once}
 use Rattle.table_index.specs.Table.{AreSpent, TableChange}
 use Rattle.table_index.specs.declared.wipe_error.WipeError.{WipeError}
 use Rattle.table_index.specs.declared.wipe_error.WipeError.TheVariants.{Refused}

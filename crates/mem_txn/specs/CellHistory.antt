@@ -71,7 +71,8 @@ cell_at J q n = question_cell J.schema (state_after J n) (trees_after J n) q
 
 -- ---- firings
 
--- a cell is in the tree of an index of the one forest, and not in the tree at its place in the other
+-- a cell is in the tree of an index of the one forest, and not in the tree at its place in the
+-- other
 pub record FiresIn (old new : Forest) (c : Cell) : Type 0 where
   pub table : ℕ
   pub index : ℕ
@@ -101,8 +102,8 @@ WatchesHold J =
     (q : Query) (v n : ℕ) (c : Cell) → v ≤ n → n ≤ length J.commits → cell_at J q v ≡ Some c
     → IsUnfired J c v n → (cell_at J q n ≡ Some c) × IsGuarded J.schema J.commits q v n
 
--- what a tree keeps where keys of a kind were touched, and no others: all its cells, if none was, and the
--- leaf of each other key
+-- what a tree keeps where keys of a kind were touched, and no others: all its cells, if none was,
+-- and the leaf of each other key
 pub record KeepsUntouched (kind : Bytes → Type 0) (old new : CellTree) : Type 0 where
   pub cells : ((key : Bytes) → kind key → ⊥) → cells_of new ≡ cells_of old
   pub leaves : (l : CellLeaf) → Has l (leaves_of old) → (kind l.pair.0 → ⊥) → Has l (leaves_of new)

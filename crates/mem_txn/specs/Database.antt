@@ -14,9 +14,9 @@ pub record Database : Type 0 where
   pub callers : ℕ
   pub schema : DbSchema
 
--- A caller's pass: its number, its database with the schema and the book of its cells, the commits that
--- it has seen, with the trees at the opening and after each of them, its own commits, the counts of commits
--- that it has read, and what its tries for the writer's turn found.
+-- A caller's pass: its number, its database with the schema and the book of its cells, the commits
+-- that it has seen, with the trees at the opening and after each of them, its own commits, the
+-- counts of commits that it has read, and what its tries for the writer's turn found.
 pub record Caller : Type 0 where
   pub number : ℕ
   pub database : FrontId
@@ -131,7 +131,8 @@ pub record HasSeen (old new : Caller) : Type 0 where
     tries = new.tries;
   }
 
--- the number of the commits that the pass now has seen is a count that it read in this call, its last
+-- the number of the commits that the pass now has seen is a count that it read in this call, its
+-- last
 abbrev pub HasRead : Caller → Caller → ℕ → Type 0
 HasRead old new number = (number ≡ length new.seen) × (new.counts ≡ old.counts ++ number ∷ [])
 

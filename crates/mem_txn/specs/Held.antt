@@ -16,8 +16,8 @@ pub record HeldWatch : Type 0 where
   pub spot : SpotOf
   pub number : ℕ
 
--- it watches this question in a state that is read, by the cell of the question there, which is of the
--- state's book
+-- it watches this question in a state that is read, by the cell of the question there, which is of
+-- the state's book
 pub record IsHeldOf (r : Reading) (q : Query) (h : HeldWatch) : Type 0 where
   pub query : h.query ≡ q
   pub number : h.number ≡ r.view.number
@@ -27,8 +27,8 @@ pub record IsHeldOf (r : Reading) (q : Query) (h : HeldWatch) : Type 0 where
       let cell = spot.watch in
       cell.book ≡ r.book
 
--- the answer to a question that is answered so or refused, with a held watch, where it may be watched or
--- not
+-- the answer to a question that is answered so or refused, with a held watch, where it may be
+-- watched or not
 abbrev pub AnswersHeld : Bool → Asked Answer → Result (Answer × HeldWatch) AskError → Type 0
 AnswersHeld false told result = result ≡ Err Unwatchable
 AnswersHeld true (Ok a) result = MatchResult result (λ r. r.0 ≡ a) (λ e. e ≡ Memory)

@@ -42,8 +42,8 @@ IsRefused old new begin_errors.CommitsSpent =
 abbrev pub HasWonAtLast : Caller → Caller → Type 0
 HasWonAtLast old new = (ts : List ℕ) × (new.tries ≡ old.tries ++ ts ++ 0 ∷ [])
 
--- a transaction without writes and items, on all commits, whose number was read in this call; or the
--- caller is told why not, and has its pass back
+-- a transaction without writes and items, on all commits, whose number was read in this call; or
+-- the caller is told why not, and has its pass back
 abbrev pub AnswersBegin : {D : Type 0} → Caller → Result (WriteTxn D) BeginRefused → Type 0
 AnswersBegin p (Ok t) =
     let q = (changes_of t).caller in HasSeen p q × HasRead p q (length q.seen)
@@ -74,15 +74,16 @@ AnswersSnapshot true present result = result ≡ Err snap_errors.Spoiled
 AnswersSnapshot false present result =
     MatchResult result (λ s. s ≡ present) (λ e. e ≡ snap_errors.Memory)
 
--- the log has the cell of each watched question whose answer isn't what it was after an earlier commit
+-- the log has the cell of each watched question whose answer isn't what it was after an earlier
+-- commit
 abbrev pub TellsChanges : CellHistory → Log → Type 0
 TellsChanges J log =
     (q : Query) (v : ℕ) (c : Cell) → v ≤ length J.commits → cell_at J q v ≡ Some c
     → (IsGuarded J.schema J.commits q v (length J.commits) → ⊥) → has_fired c log ≡ true
 
--- The commit is the next of the list, and hands the items out, last deferred first. The log has all that
--- the commits up to its number fire, whoever made them: so it has the cell of each question whose answer
--- has changed, whoever watches it.
+-- The commit is the next of the list, and hands the items out, last deferred first. The log has all
+-- that the commits up to its number fire, whoever made them: so it has the cell of each question
+-- whose answer has changed, whoever watches it.
 pub record IsCommitted {D : Type 0} (t : WriteTxn D) (c : Committed D) : Type 0 where
   pub trees : Forest
   pub pass : c.pass ≡ after_commit (changes_of t) trees
@@ -93,7 +94,8 @@ pub record IsCommitted {D : Type 0} (t : WriteTxn D) (c : Committed D) : Type 0 
   pub fired : HasFirings (cells_seen c.pass) c.receipt.number c.receipt.log
   pub told : TellsChanges (cells_seen c.pass) c.receipt.log
 
--- a commit is made, or refused and the caller is as it was: exactly a spoiled transaction is told so
+-- a commit is made, or refused and the caller is as it was: exactly a spoiled transaction is told
+-- so
 abbrev pub AnswersCommit : {D : Type 0} → WriteTxn D → Result (Committed D) CommitRefused → Type 0
 AnswersCommit t (Ok c) = ((changes_of t).spoiled ≡ false) × IsCommitted t c
 AnswersCommit t (Err refused) = (refused.pass ≡ (changes_of t).caller)

@@ -17,9 +17,9 @@ use std::sync::Wait;
 const COMMITS: u64 = 1 << 63;
 
 impl Db {
-    /// A write transaction of the caller on all commits, which owns its pass. It waits until no other
-    /// write transaction is open. It takes memory for a list of the tables. A refusal gives the pass
-    /// back.
+    /// A write transaction of the caller on all commits, which owns its pass. It waits until no
+    /// other write transaction is open. It takes memory for a list of the tables. A refusal gives
+    /// the pass back.
     pub fn write<D: Drop, R: Wait>(&self, rt: &R, pass: Pass) -> Result<WriteTxn<D>, BeginRefused>
         requires own { IsOf self.now pass }
         ensures { AnswersBegin pass result }

@@ -170,6 +170,7 @@ impl Changes {
         self.wipe(Wipe::ByPrefix, query)
     }
 
+    /// Takes out the rows that a wipe names, and gives their number.
     fn wipe(&mut self, wipe: Wipe, query: &Query) -> Result<u64, TxnWipeError>
         ensures { AnswersTxnWipe self.old.spoiled query.now.table
             (wipe_by wipe self.old.caller.schema (present self.old) query.now) result self.old
@@ -213,8 +214,8 @@ impl Changes {
         Ok(View::of(schema, tables, number))
     }
 
-    /// The turn, and the value after its commit, ready to be shown, with the notices of the cells that are
-    /// gone; or, for want of memory, the turn alone.
+    /// The turn, and the value after its commit, ready to be shown, with the notices of the cells
+    /// that are gone; or, for want of memory, the turn alone.
     pub(crate) fn freeze(self, db: &Db) -> Result<(Turn, Next), Turn>
         requires sound { self.spoiled ≡ false }
         ensures { MatchResult result
@@ -253,15 +254,15 @@ impl Changes {
     }
 }
 
-/// What a commit is made of: the value after it, ready to be shown, and the notices of the cells that are
-/// gone then.
+/// What a commit is made of: the value after it, ready to be shown, and the notices of the cells
+/// that are gone then.
 pub(crate) struct Next {
     pub(crate) ready: Ready<Version>,
     pub(crate) gone: Vec<Notices>,
 }
 
-/// The value after so many commits, of the tables that these writes end with, and the notices. All memory of
-/// a commit is taken here.
+/// The value after so many commits, of the tables that these writes end with, and the notices. All
+/// memory of a commit is taken here.
 fn next_version(
     db: &Db,
     pass: &Turn,

@@ -11,9 +11,8 @@ use crate::txn_error::CommitError;
 use std::sync::Wait;
 use watch_word::Front;
 
-/// Shows the state with a transaction's writes, and gives its pass back, which has made the commit, with
-/// the log that has all that it fires.
-/// All memory is taken before the new state is shown.
+/// Shows the state with a transaction's writes, and gives its pass back, which has made the commit,
+/// with the log that has all that it fires. All memory is taken before the new state is shown.
 pub(crate) fn commit<R: Wait>(
     rt: &R,
     changes: Changes,

@@ -1,17 +1,23 @@
 //! The firing of a commit's cells.
-ghost use Rattle.std.specs.Prelude.{◌≤◌};
+ghost use Rattle.std.specs.Prelude.{◌≡◌, ◌≤◌};
 ghost use Rattle.mem_txn.specs.inner.Firing.{cells_in, cells_told};
-ghost use Rattle.notify_walk.specs.Fired.{AreOf, HaveFired};
+ghost use Rattle.notify_walk.specs.Fired.{HaveFired};
+ghost use Rattle.radix_node.specs.Cells.{AreCellsOf};
 ghost use Rattle.watch_word.specs.Logs.{IsLater};
 
+use crate::pass::Token;
 use notify_walk::fire_all;
 use table_index::Notices;
 use watch_word::Front;
 
-/// Fires the cells in the notices of tables by the commit with this number. The front given back has them
-/// all. It takes no memory and waits for nobody.
-pub(crate) fn fire_tables(tables: &[Notices], front: &Front, by: u64) -> Front
-    requires book { AreOf front.now.book (cells_told tables.now) }
+/// Fires the cells in the notices of tables by the commit with this number. The front given back
+/// has them all. It takes no memory and waits for nobody.
+///
+/// The pass has published the commit before: whoever finds that its watch has moved finds the
+/// commit too.
+pub(crate) fn fire_tables(_pass: &Token, tables: &[Notices], front: &Front, by: u64) -> Front
+    requires published { let pass = _pass.now in pass.stage ≡ 2 }
+    requires book { AreCellsOf front.now.book (cells_told tables.now) }
     requires number { 1 ≤ by }
     ensures later { IsLater front.now result }
     ensures fired { HaveFired result (cells_told tables.now) }
@@ -25,7 +31,7 @@ pub(crate) fn fire_tables(tables: &[Notices], front: &Front, by: u64) -> Front
 
 /// The same of one table.
 fn fire_table(notices: &Notices, front: &Front, by: u64) -> Front
-    requires book { AreOf front.now.book (cells_in notices.now) }
+    requires book { AreCellsOf front.now.book (cells_in notices.now) }
     requires number { 1 ≤ by }
     ensures later { IsLater front.now result }
     ensures fired { HaveFired result (cells_in notices.now) }

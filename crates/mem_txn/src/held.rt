@@ -29,8 +29,8 @@ impl Model for Watching {
     ghost view = { watching_view };
 }
 
-/// A watch with its question, the spot where that was looked up, and the number of the commit after which
-/// it was asked; seen as a `HeldWatch`. It may have several owners.
+/// A watch with its question, the spot where that was looked up, and the number of the commit after
+/// which it was asked; seen as a `HeldWatch`. It may have several owners.
 #[derive(Drop)]
 pub struct Held {
     watching: Arc<Watching, Global>,
@@ -69,7 +69,8 @@ impl Held {
         })
     }
 
-    /// A second one. It takes no memory, and is refused only for want of room to count one more owner.
+    /// A second one. It takes no memory, and is refused only for want of room to count one more
+    /// owner.
     pub fn share(&self) -> Result<Held, AllocError>
         ensures { IfOk result (λ h. h ≡ self.now) }
     {

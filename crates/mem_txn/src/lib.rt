@@ -1,26 +1,26 @@
 //! Transactions over one database.
 //!
-//! A [`Db`] is shared by its callers, on threads of their own, and a [`Pass`] is one caller's token. A
-//! [`ReadTxn`] answers from the state after the commits that its caller has seen, whatever is
-//! committed later. A [`WriteTxn`] owns its caller's pass, answers from the state after all commits
-//! with its own writes, and ends by a commit or an abort; no other caller commits meanwhile. A
-//! [`Snapshot`] of one stays as it is. A read begins in constant time, a write and a commit in the
-//! number of tables; a table is copied at the first write to it, by paths.
+//! A [`Db`] is shared by its callers, on threads of their own, and a [`Pass`] is one caller's
+//! token. A [`ReadTxn`] answers from the state after the commits that its caller has seen, whatever
+//! is committed later. A [`WriteTxn`] owns its caller's pass, answers from the state after all
+//! commits with its own writes, and ends by a commit or an abort; no other caller commits
+//! meanwhile. A [`Snapshot`] of one stays as it is. A read begins in constant time, a write and a
+//! commit in the number of tables; a table is copied at the first write to it, by paths.
 //!
-//! Each value keeps the counter of the ids that its cells have, and a transaction draws from a copy of
-//! it. So an abort gives its ids back. A write is refused for want of ids only where there are at least
-//! 2^36 writes.
+//! Each value keeps the counter of the ids that its cells have, and a transaction draws from a copy
+//! of it. So an abort gives its ids back. A write is refused for want of ids only where there are
+//! at least 2^36 writes.
 //!
-//! A commit shows its value, and then fires the cells that are gone from the trees. A question of a read
-//! transaction may be asked with the watch of its answer ([`ReadTxn::ask_watch`]). The log that a commit
-//! gives has the cell of each watched question whose answer has changed; what no commit fires guards its
-//! answer ([`pass_laws`]).
+//! A commit shows its value, and then fires the cells that are gone from the trees. A question of a
+//! read transaction may be asked with the watch of its answer ([`ReadTxn::ask_watch`]). The log
+//! that a commit gives has the cell of each watched question whose answer has changed; what no
+//! commit fires guards its answer ([`pass_laws`]).
 //!
-//! All commits are one list, of which each pass has seen a beginning, as `db_front` has it. What the
-//! clauses say of a pass stands in `specs/Database.antt`, and of a transaction in
-//! `specs/Transactions.antt`. A call that takes a runtime may wait for another caller; `write` and
-//! `close` wait for open write transactions. A pass, a list of them and a write transaction can't be
-//! let go.
+//! All commits are one list, of which each pass has seen a beginning, as `db_front` has it. What
+//! the clauses say of a pass stands in `specs/Database.antt`, and of a transaction in
+//! `specs/Transactions.antt`. A call that takes a runtime may wait for another caller, and `write`
+//! waits for an open write transaction. A pass, a list of them and a write transaction can't be let
+//! go.
 #![tactic(auto)]
 
 mod accepted;

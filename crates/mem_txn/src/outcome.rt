@@ -31,8 +31,8 @@ pub struct DeferRefused<D> {
     pub item: D,
 }
 
-/// What a commit did: its number, the log of firings, which has all that the commits up to this one fire,
-/// and the deferred items, last deferred first.
+/// What a commit did: its number, the log of firings, which has all that the commits up to this one
+/// fire, and the deferred items, last deferred first.
 #[derive(Drop)]
 pub struct Receipt<D> {
     pub number: u64,

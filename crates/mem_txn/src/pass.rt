@@ -7,8 +7,8 @@ use std::marker::Model;
 /// One caller's pass in the front that callers share.
 pub(crate) type Token = db_front::Pass<Version>;
 
-/// One caller's token, seen as a `Caller`: its number, its database, the commits that it has seen and
-/// made, and what it has read and tried.
+/// One caller's token, seen as a `Caller`: its number, its database, the commits that it has seen
+/// and made, and what it has read and tried.
 ///
 /// It can't be dropped: [`crate::Db::close`] takes it back.
 pub struct Pass {

@@ -1,11 +1,12 @@
-//! What is known of every pass, as laws of the definitions. The functions do nothing: their contracts are
-//! the laws.
+//! What is known of every pass, as laws of the definitions. The functions do nothing: their
+//! contracts are the laws.
 ghost use Rattle.mem_txn.specs.CellHistory.{AreComplete, KeepUntouched, StayAway, WatchesHold};
 ghost use Rattle.mem_txn.specs.Database.{cells_seen};
 
 use crate::pass::Pass;
 
-/// Of the commits that a pass has seen: a question's cell that none of them fires since guards its answer.
+/// Of the commits that a pass has seen: a question's cell that none of them fires since guards its
+/// answer.
 pub fn watches_hold(pass: &Pass)
     ensures { WatchesHold (cells_seen pass.now) }
 {

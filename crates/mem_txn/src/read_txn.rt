@@ -15,8 +15,8 @@ use std::marker::Model;
 use std::sync::Arc;
 use table_index::Watched;
 
-/// A state that stays as it is, whatever is committed, seen as a `Reading`: the state, and its trees with
-/// their cells.
+/// A state that stays as it is, whatever is committed, seen as a `Reading`: the state, and its
+/// trees with their cells.
 #[derive(Drop)]
 pub struct ReadTxn {
     version: Arc<Version, Global>,
@@ -73,9 +73,10 @@ impl ReadTxn {
         self.version.view().ask(query)
     }
 
-    /// What [`ReadTxn::ask`] answers, with the watch of the answer. Questions for bounds, or for the
-    /// longest key, are refused before any other rule. It takes memory as [`ReadTxn::ask`] does, and may be
-    /// refused as for want of memory where the cell or the question has 2^63 - 1 owners.
+    /// What [`ReadTxn::ask`] answers, with the watch of the answer. Questions for bounds, or for
+    /// the longest key, are refused before any other rule. It takes memory as [`ReadTxn::ask`]
+    /// does, and may be refused as for want of memory where the cell or the question has 2^63 - 1
+    /// owners.
     pub fn ask_watch(&self, query: &Query) -> Result<(Answer, Held), AskError>
         ensures answers { AnswersHeld (is_watchable query.now.ask)
             (ask self.now.view.schema self.now.view.state query.now) result }

@@ -25,8 +25,8 @@ use std::sync::{Arc, Wait};
 use table_index::Notices;
 use watch_word::Front;
 
-/// A caller that has the writer's turn, with the value after all commits, and the log with all that they
-/// fire; seen as the caller and the value. It can't be dropped.
+/// A caller that has the writer's turn, with the value after all commits, and the log with all that
+/// they fire; seen as the caller and the value. It can't be dropped.
 pub(crate) struct Turn {
     token: Token,
     base: Arc<Version, Global>,
@@ -106,8 +106,8 @@ impl Turn {
         &self.log
     }
 
-    /// Tables that nobody has written to, with the ids that come next. It takes memory for the list of
-    /// them. So what an aborted transaction drew is drawn again.
+    /// Tables that nobody has written to, with the ids that come next. It takes memory for the list
+    /// of them. So what an aborted transaction drew is drawn again.
     pub(crate) fn tables(&self, alloc: Global) -> Result<TxnTables, AllocError>
         ensures tables { IfOk result
             (λ ts. StandFor ts.tables self.now.caller.schema (state_seen self.now.caller)) }
@@ -134,9 +134,9 @@ impl Turn {
         Pass { token }
     }
 
-    /// Shows the next value, which is the commit, fires the cells that are gone, and gives the turn back,
-    /// with the log. It takes no memory. What the value before it has alone is dropped once the turn is
-    /// back.
+    /// Shows the next value, which is the commit, fires the cells that are gone, and gives the turn
+    /// back, with the log. It takes no memory. What the value before it has alone is dropped once
+    /// the turn is back.
     pub(crate) fn commit<R: Wait>(
         self,
         rt: &R,
@@ -165,7 +165,7 @@ impl Turn {
             log,
         } = self;
         db.shared.publish(rt, &mut token, ready);
-        let log = fire_tables(gone, &log, number);
+        let log = fire_tables(&token, gone, &log, number);
         db.shared.finish(rt, &mut token, log.share());
         drop(base);
         (Pass { token }, log)

@@ -162,8 +162,8 @@ impl TxnTable {
         }
     }
 
-    /// The table that the writes end with, and the notices of the cells that are gone, if it was open. It
-    /// takes memory only then.
+    /// The table that the writes end with, and the notices of the cells that are gone, if it was
+    /// open. It takes memory only then.
     pub(crate) fn freeze(
         self,
         alloc: Global,

@@ -19,8 +19,8 @@ use std::sync::Arc;
 use table_index::{Notices, Table, WipeError};
 use watch_word::Front;
 
-/// The tables of a write transaction, each at its place in the schema, and the ids of the cells that
-/// come next; seen as `Tables`.
+/// The tables of a write transaction, each at its place in the schema, and the ids of the cells
+/// that come next; seen as `Tables`.
 #[derive(Drop)]
 pub(crate) struct TxnTables {
     tables: Vec<TxnTable>,
@@ -134,8 +134,8 @@ impl TxnTables {
         standing(alloc, &mut self.tables)
     }
 
-    /// The tables that the writes end with, the ids that come next, and the notices of the cells that are
-    /// gone. It takes memory for the list of the tables, and for each that is open.
+    /// The tables that the writes end with, the ids that come next, and the notices of the cells
+    /// that are gone. It takes memory for the list of the tables, and for each that is open.
     pub(crate) fn freeze(self) -> Result<(Frozen, Ids), AllocError>
         requires sound { All IsSound self.tables }
         ensures tables { IfOk result (λ made. let end = made.0 in

@@ -7,8 +7,8 @@ use radix_node::Ids;
 use std::alloc::{AllocError, Global};
 use std::marker::Model;
 
-/// The state after a commit, with the writes of that commit and the ids of the cells that come next;
-/// seen as a `Version`. It never changes.
+/// The state after a commit, with the writes of that commit and the ids of the cells that come
+/// next; seen as a `Version`. It never changes.
 #[derive(Drop)]
 pub(crate) struct Version {
     view: View,

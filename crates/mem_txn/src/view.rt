@@ -21,7 +21,8 @@ use table_index::table_laws::rows_are_held;
 use table_index::{Table, Watched};
 use watch_word::Front;
 
-/// The tables after a commit, in the schema's order, seen as a `View` with the trees. It never changes.
+/// The tables after a commit, in the schema's order, seen as a `View` with the trees. It never
+/// changes.
 #[derive(Drop)]
 pub(crate) struct View {
     schema: Arc<Schema, Global>,
@@ -45,8 +46,8 @@ impl Model for View {
 }
 
 impl View {
-    /// The tables before the first commit, without rows. It takes memory for them, and an id for the cell
-    /// of each index.
+    /// The tables before the first commit, without rows. It takes memory for them, and an id for
+    /// the cell of each index.
     pub(crate) fn empty(
         alloc: Global,
         schema: Schema,
@@ -162,8 +163,8 @@ impl View {
     }
 }
 
-/// Why a question of a table that isn't there can't be watched. That it isn't one for a watch is told before
-/// any other rule.
+/// Why a question of a table that isn't there can't be watched. That it isn't one for a watch is
+/// told before any other rule.
 fn unknown_or_unwatchable(ask: Ask) -> AskError
     ensures { result ≡ (if is_watchable ask then UnknownTable else Unwatchable) }
 {

@@ -123,8 +123,8 @@ impl<D: Drop> WriteTxn<D> {
         }
     }
 
-    /// Gives the pass back, and drops the writes and the deferred items. It takes no memory, and waits
-    /// for nobody.
+    /// Gives the pass back, and drops the writes and the deferred items. It takes no memory, and
+    /// waits for nobody.
     pub fn abort(self, db: &Db) -> Pass
         requires own { IsOf db.now (changes_of self).caller }
         ensures { result ≡ (changes_of self).caller }
@@ -134,9 +134,9 @@ impl<D: Drop> WriteTxn<D> {
         changes.abort(db)
     }
 
-    /// Makes the writes a commit, fires the cells that are gone, and hands the deferred items out, last
-    /// deferred first. All memory is taken before the new state is shown. A commit that is refused has
-    /// aborted the transaction.
+    /// Makes the writes a commit, fires the cells that are gone, and hands the deferred items out,
+    /// last deferred first. All memory is taken before the new state is shown. A commit that is
+    /// refused has aborted the transaction.
     pub fn commit<R: Wait>(self, rt: &R, db: &Db) -> Result<Committed<D>, CommitRefused>
         requires own { IsOf db.now (changes_of self).caller }
         ensures { AnswersCommit self result }

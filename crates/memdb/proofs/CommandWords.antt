@@ -1,17 +1,16 @@
 -- What clap makes of the words.
-use Rattle.std.proofs.Common.{◌≡◌, ◌∙◌, ◌+◌, ◌&&◌, ◌==◌, ℕ, Bool, cond, true, false, true≢false, not, refl, sym, ap, ap₂, subst, arith, List, [], ◌∷◌, ◌++◌, length, Option, Some, None, inl, inr, map, rules, nat_lt, codes, append_assoc, append-nil, le-ltb, suc, if◌then◌else◌}
+use Rattle.std.proofs.Common.{◌≡◌, ◌≤◌, ◌∙◌, ◌&&◌, ◌==◌, ℕ, Bool, cond, true, false, true≢false, not, refl, sym, ap, ap₂, subst, arith, List, [], ◌∷◌, ◌++◌, length, Option, Some, None, inl, inr, rules, nat_lt, codes, append_assoc, append-nil, le-ltb, suc, if◌then◌else◌}
+use Rattle.std.proofs.lemmas.Bool.Decides.{nat_tests}
 use Rattle.std.specs.List.{list_all, fold}
 use Rattle.std.specs.Str.{bytes_eq}
-use Rattle.clap.specs.Words.{App, Row, Rule, Shape, Text, app_of, built, fault_of, is_simple, is_simple_and_free, new_app, new_rule, subcommand_of, subcommand_rows_of, HasMatchesOf, kind_of, with_rule, with_subcommand}
+use Rattle.clap.specs.Words.{App, Rule, Shape, Text, built, fault_of, is_simple, is_simple_and_free, subcommand_of, subcommand_rows_of, HasMatchesOf, kind_of}
 use Rattle.clap.specs.Lexer.{long_of, short_of}
-use Rattle.clap.specs.Walk.{Held, Names, Walk, idle, positional, nothing_held, rows_after, walk, walk_from, walked}
-use Rattle.clap.specs.Simple.{built_leaf, entered, filled_from, inherited, names_of, on_top}
+use Rattle.clap.specs.Walk.{Held, Names, Walk, idle, positional, nothing_held, walk, walk_from, walked}
+use Rattle.clap.specs.Simple.{built_leaf, entered, filled_from, inherited, names_of}
 use Rattle.clap.specs.Faults.{check_fault, entered_fault, defaults_fault, level_fault, settle_fault, turn_fault}
 use Rattle.clap.specs.Kinds.{HasKind, IsAmong, Kinds, or_else, range_kinds, values_kinds}
 use Rattle.clap.specs.declared.builder.value_parser.ValueParser.TheVariants as vp
 use Rattle.clap.specs.declared.error.kind.ErrorKind.TheVariants as kind
-use Rattle.clap.specs.declared.builder.value_parser.Reading.TheVariants as reading
-use Rattle.clap.specs.declared.parser.matches.ValueSource.TheVariants.{CommandLine}
 use Rattle.clap.specs.Faults.{walk_fault}
 use Rattle.clap.proofs.FaultLemmas.{stopped_fault}
 use Rattle.clap.proofs.WalkLemmas.{first_value-rows, raw_values-rows}
@@ -19,14 +18,13 @@ use Rattle.clap.specs.Matches.{first_value, matched_of, raw_values}
 use Rattle.clap.specs.Walk.{rows_of}
 use Rattle.clap.specs.declared.parser.matches.Found.{Found}
 use Rattle.clap.proofs.OnLiterals.{clap_on_literals}
-use Rattle.clap.specs.Walk.{arg_by_index, finished, settled, value, word_met}
+use Rattle.clap.specs.Walk.{finished, settled, value, word_met}
 use Rattle.std.proofs.lemmas.Bool.{not-true}
-use Rattle.std.proofs.lemmas.Bool.Decides.{when_true}
 use Rattle.std.proofs.lemmas.Slice.Eq.{bytes_eq-Decides}
 use Rattle.clap.specs.declared.error.Error.{Error}
 use Rattle.clap.specs.declared.parser.matches.ArgMatches.{ArgMatches}
-use Rattle.memdb.specs.inner.CommandLine.{AreRead, bare, clients_rule, files_in, files_of_matches, program, row, rows, run_app, schema_rule}
-use Rattle.memdb.specs.Words.{files_behind, may_name_a_file, run_of}
+use Rattle.memdb.specs.inner.CommandLine.{bare, clients_rule, files, files_in, files_of_matches, program, row, rows, run_app, schema_rule}
+use Rattle.memdb.specs.Words.{Named, files_behind, may_name_a_file, run_of}
 use Rattle.clap.specs.declared.error.kind.ErrorKind.{ErrorKind}
 use Rattle.std.specs.Option.{is_some, IsSomeAnd, MatchOption, option_and_then, option_map}
 
@@ -262,15 +260,15 @@ unfolding walk_fault
 no_such w ws e miss = rw (miss, no_dashes w e, plain_long w e, plain_short w e) refl
 
 -- what the parse is at words of which the definition makes p
-abbrev pub Reads : List Text → Option (Text × List Text) → Type 0
+abbrev pub Reads : List Text → Option Named → Type 0
 Reads ws p = MatchOption p ((k : ErrorKind) × (ks : Kinds) × (fault_of program ws ≡ k ∷ ks))
-    (λ q. (fault_of program ws ≡ []) × (subcommand_of program ws ≡ Some (codes "run", rows q.0 q.1)))
+    (λ q. (fault_of program ws ≡ []) × (subcommand_of program ws ≡ Some (codes "run", rows q.schema q.clients)))
 
 many : (s c : Text) (cs : List Text) → list_all may_name_a_file (s ∷ c ∷ cs) ≡ true → Reads (codes "run" ∷ s ∷ c ∷ cs) (files_behind (s ∷ c ∷ cs))
 many s c cs e = go (nat_lt 64 (length (c ∷ cs))) (fault_of_run (s ∷ c ∷ cs) ∙ below_more s c cs e)
   where
     go : (b : Bool) → fault_of program (codes "run" ∷ s ∷ c ∷ cs) ≡ cond b (kind.TooManyValues ∷ []) []
-        → Reads (codes "run" ∷ s ∷ c ∷ cs) (cond b None (Some (s, c ∷ cs)))
+        → Reads (codes "run" ∷ s ∷ c ∷ cs) (cond b None (Some (files s (c ∷ cs))))
     go true f = (kind.TooManyValues, [], f)
     go false f = (f, found_in_run s c cs e)
 
@@ -289,7 +287,7 @@ parsed_as (w ∷ ws) e = go (bytes_eq (codes "run") w) refl
 
 -- ---- what the functions cite
 
-ok_at : (ws : List Text) (p : Option (Text × List Text)) (m : ArgMatches) → Reads ws p → fault_of program ws ≡ [] → subcommand_rows_of m ≡ subcommand_of program ws → files_of_matches m ≡ p
+ok_at : (ws : List Text) (p : Option Named) (m : ArgMatches) → Reads ws p → fault_of program ws ≡ [] → subcommand_rows_of m ≡ subcommand_of program ws → files_of_matches m ≡ p
 ok_at ws None m r none is = let bad : r.0 ∷ r.1 ≡ [] = sym r.2 ∙ none in cc
 ok_at ws (Some q) m r none is = ap (λ o. option_and_then files_in (option_map (λ p. p.1) o)) (is ∙ r.1)
 
@@ -299,7 +297,7 @@ read_ok ws a m e plain none has = ok_at ws (run_of ws) m (parsed_as ws plain)
     (sym (ap (λ x. fault_of x ws) e) ∙ none (ap is_simple_and_free e ∙ is_fit))
     ((has (ap is_simple e ∙ refl)).1 ∙ ap (λ x. subcommand_of x ws) e)
 
-none_at : (ws : List Text) (p : Option (Text × List Text)) (e : Error) → Reads ws p → HasKind (fault_of program ws) e → (kind_of e ≡ kind.OutOfMemory → ⊥) → None ≡ p
+none_at : (ws : List Text) (p : Option Named) (e : Error) → Reads ws p → HasKind (fault_of program ws) e → (kind_of e ≡ kind.OutOfMemory → ⊥) → None ≡ p
 none_at ws None e r h not = refl
 none_at ws (Some q) e r h not = elim h [
   | inl memory ↦ absurd (not memory)
@@ -316,5 +314,31 @@ some_is None x e = absurd e
 some_is (Some y) x e = ap Some e
 
 pub level_files : (f : Found) (s : Option Text) (cs : Option (List Text)) → s ≡ first_value f (codes "schema") → cs ≡ option_map raw_values (matched_of f (codes "clients"))
-    → option_and_then (λ t. option_map (λ ts. (t, ts)) cs) s ≡ files_in (rows_of f)
-level_files f s cs a b = ap₂ (λ x y. option_and_then (λ t. option_map (λ ts. (t, ts)) y) x) (a ∙ first_value-rows f (codes "schema")) (b ∙ raw_values-rows f (codes "clients"))
+    → option_and_then (λ t. option_map (files t) cs) s ≡ files_in (rows_of f)
+level_files f s cs a b = ap₂ (λ x y. option_and_then (λ t. option_map (files t) y) x) (a ∙ first_value-rows f (codes "schema")) (b ∙ raw_values-rows f (codes "clients"))
+
+-- ---- how many clients there are
+
+abbrev clients_in : Option Named → List Text
+clients_in None = []
+clients_in (Some n) = n.clients
+
+behind_some : (ws : List Text) (n : Named) → files_behind ws ≡ Some n → (1 ≤ length n.clients) × (length n.clients ≤ 64)
+behind_some [] n e = cc
+behind_some (s ∷ []) n e = cc
+behind_some (s ∷ c ∷ cs) n e = go (nat_lt 64 (length (c ∷ cs))) refl e
+  where
+    go : (b : Bool) → nat_lt 64 (length (c ∷ cs)) ≡ b → cond b None (Some (files s (c ∷ cs))) ≡ Some n → (1 ≤ length n.clients) × (length n.clients ≤ 64)
+    go true is e' = cc
+    go false is e' =
+        let same : c ∷ cs ≡ n.clients = ap (λ (o : Option Named). clients_in o) e' in
+        let few : length (c ∷ cs) ≤ 64 = grind (arith, nat_tests) in
+        subst (λ (ds : List Text). (1 ≤ length ds) × (length ds ≤ 64)) same (omega arith, few)
+
+pub some_clients : (ws : List Text) (n : Named) → run_of ws ≡ Some n → (1 ≤ length n.clients) × (length n.clients ≤ 64)
+some_clients [] n e = cc
+some_clients (w ∷ ws) n e = go (bytes_eq (codes "run") w) e
+  where
+    go : (b : Bool) → cond b (files_behind ws) None ≡ Some n → (1 ≤ length n.clients) × (length n.clients ≤ 64)
+    go true e' = behind_some ws n e'
+    go false e' = cc

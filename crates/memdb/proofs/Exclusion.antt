@@ -6,10 +6,10 @@ use Rattle.mdb_datum.specs.Bytes.{Bytes}
 use Rattle.mdb_ports.specs.Files.{Contents}
 use Rattle.mdb_schema.specs.Broken.{Broken}
 use Rattle.memdb.specs.Causes.{Finds, Reaches, CallsFor, no_command, absent, too_large, broken, broken_script, unsupported, supported}
-use Rattle.memdb.specs.Outcome.{IsSupported, IsUnsupported, Answers, HasRead, CannotRead, TooLarge, IsAnswer, done, usage, broken_schema, cannot_read, not_yet}
+use Rattle.memdb.specs.Outcome.{IsSupported, IsUnsupported, Answers, HasRead, IsAnswer, done, usage, broken_schema, cannot_read, not_yet}
 use Rattle.memdb.specs.Outcome as outcome
 use Rattle.memdb.specs.Words.{Named, files_named, in_order}
-use Rattle.memdb.specs.inner.Judged.{Judged, answered, JudgedRead, inputs_read, schema_broken, script_broken}
+use Rattle.memdb.specs.inner.Judged.{answered, JudgedRead, inputs_read, schema_broken, script_broken}
 use Rattle.memdb.specs.inner.Judged as judged
 use Rattle.run_io.specs.Causes.{HasNoExcuse}
 use Rattle.run_io.specs.Inputs.{schema_error}
@@ -18,7 +18,7 @@ use Rattle.run_io.specs.Observed.{Observed, AreWhole, IsReached, IsTooLarge, IsA
 use Rattle.run_io.specs.declared.inputs.Inputs.{Inputs}
 use Rattle.run_io.specs.declared.load_error.LoadError.{LoadError}
 use Rattle.run_io.specs.declared.load_error.LoadError.TheVariants.{Schema, Script}
-use Rattle.run_io.proofs.Excluded.{unread_absent, read_once}
+use Rattle.run_io.proofs.Exclusion.{unread_absent, read_once}
 use Rattle.run_io.proofs.InOrder.{IsNotWhole, large_not_whole, absent_not_whole, absent_not_large, reached_whole, reached_once}
 
 -- ---- the words

@@ -1,6 +1,8 @@
-pub mod Answering
+pub mod RunAnswers
 pub mod CommandWords
 pub mod Converses
 pub mod Exclusion
-pub mod Judging
-pub mod OneSession
+pub mod ScriptAnswers
+pub mod ManySessions
+pub mod PlacesByCaller
+pub mod SideBySide

@@ -1,5 +1,5 @@
--- The words of the command line: `run SCHEMA CLIENT`.
-use Rattle.std.specs.Prelude.{◌&&◌, ◌==◌, List, [], ◌∷◌, ◌++◌, length, nat_lt, Bool, false, not, if◌then◌else◌, Option, Some, None, option_and_then, codes}
+-- The words of the command line: `run SCHEMA CLIENT..`.
+use Rattle.std.specs.Prelude.{◌&&◌, ◌==◌, List, [], ◌∷◌, ◌++◌, length, nat_lt, Bool, false, not, if◌then◌else◌, Option, Some, None, codes}
 use Rattle.std.specs.List.{list_any, list_all}
 use Rattle.std.specs.Str.{bytes_eq}
 use Rattle.mdb_datum.specs.Bytes.{Bytes}
@@ -19,29 +19,21 @@ abbrev pub in_order : Named → List Bytes
 in_order named = named.schema ∷ named.clients
 
 -- the schema's file, and 1 to 64 clients' files
-abbrev pub files_behind : List Bytes → Option (Bytes × List Bytes)
+abbrev pub files_behind : List Bytes → Option Named
 files_behind [] = None
 files_behind (schema ∷ []) = None
 files_behind (schema ∷ client ∷ more) =
-    if nat_lt 64 (length (client ∷ more)) then None else Some (schema, client ∷ more)
+    if nat_lt 64 (length (client ∷ more)) then None
+    else Some (record { schema = schema; clients = client ∷ more })
 
 -- `run SCHEMA CLIENT..`
-abbrev pub run_of : List Bytes → Option (Bytes × List Bytes)
+abbrev pub run_of : List Bytes → Option Named
 run_of [] = None
 run_of (word ∷ rest) = if bytes_eq (codes "run") word then files_behind rest else None
 
--- just one client is supported so far
-abbrev pub are_supported : List Bytes → Bool
-are_supported clients = length clients == 1
-
-abbrev pub if_supported : Bytes × List Bytes → Option Named
-if_supported p =
-    if are_supported p.1 then Some (record { schema = p.0; clients = p.1 }) else None
-
--- `run SCHEMA CLIENT..`, where each word may name a file
+-- the same where each word may name a file
 abbrev pub files_named : List Bytes → Option Named
-files_named words =
-    if list_all may_name_a_file words then option_and_then if_supported (run_of words) else None
+files_named words = if list_all may_name_a_file words then run_of words else None
 
 -- two lines
 abbrev pub usage_text : Bytes

@@ -2,4 +2,5 @@ pub mod CommandLine
 pub mod FilesOf
 pub mod Judged
 pub mod NamedOf
+pub mod Sessions
 pub mod ToldOf

@@ -1,5 +1,5 @@
 //! From the words and the files to what a run writes.
-ghost use Rattle.std.specs.Prelude.{◌≡◌, None, Some, IfOk, List, length};
+ghost use Rattle.std.specs.Prelude.{◌≡◌, None, Some, IfOk, List, length, option_map};
 ghost use Rattle.mdb_datum.specs.Bytes.{Bytes};
 ghost use Rattle.memdb.specs.Outcome.{IsAnswer};
 ghost use Rattle.memdb.specs.Words.{files_named, in_order};
@@ -16,10 +16,11 @@ use mdb_schema::SchemaError;
 use run_io::{LoadError, load};
 use std::alloc::{AllocError, Global};
 use std::sync::Wait;
+use std::thread::Threads;
 
 /// The output for words and the files that they name. Words that are no command touch no file. It
 /// takes memory for the files' bytes, the scripts and the text.
-pub fn outcome<R: Wait, F: Files, G: Gate>(
+pub fn outcome<R: Threads + Wait + Sync, F: Files, G: Gate + Sync>(
     rt: &R,
     alloc: Global,
     words: &[Text],
@@ -34,14 +35,36 @@ pub fn outcome<R: Wait, F: Files, G: Gate>(
         IfOk result (λ output. IsAnswer words.now seen output.status output.text.items) }
     ensures untouched { files_named words.now ≡ None → files.new ≡ files.old }
 {
-    match Named::of(alloc, words)? {
-        Some(named) => Ok(loaded(rt, alloc, &named, files, gate)?),
-        None => Ok(usage(alloc)?),
+    let named = Named::of(alloc, words)?;
+    answered(rt, alloc, named, files, gate)
+}
+
+/// The output for a command, or for words that are none.
+fn answered<R: Threads + Wait + Sync, F: Files, G: Gate + Sync>(
+    rt: &R,
+    alloc: Global,
+    named: Option<Named>,
+    files: &mut F,
+    gate: &G,
+) -> Result<Output, AllocError>
+    ensures stays { let seen = observed (F.told files.old) (F.reliable files.old)
+        (F.faults files.old) (F.faults files.new) in
+        Stays seen (F.told files.new) (F.reliable files.new) }
+    ensures answer { let seen = observed (F.told files.old) (F.reliable files.old)
+        (F.faults files.old) (F.faults files.new) in
+        IfOk result (λ output. (words : List Bytes)
+        → files_named words ≡ option_map named_of named
+        → IsAnswer words seen output.status output.text.items) }
+    ensures untouched { named ≡ None → files.new ≡ files.old }
+{
+    match named {
+        Some(named) => loaded(rt, alloc, &named, files, gate),
+        None => usage(alloc),
     }
 }
 
 /// The output for the files that a command names.
-fn loaded<R: Wait, F: Files, G: Gate>(
+fn loaded<R: Threads + Wait + Sync, F: Files, G: Gate + Sync>(
     rt: &R,
     alloc: Global,
     named: &Named,
@@ -57,8 +80,8 @@ fn loaded<R: Wait, F: Files, G: Gate>(
         → IsAnswer words seen output.status output.text.items) }
 {
     match load(alloc, files, &named.schema, &named.clients) {
-        Ok(inputs) => Ok(judge(rt, alloc, gate, named.client(), inputs)?),
-        Err(error) => Ok(told(alloc, named, error)?),
+        Ok(inputs) => judge(rt, alloc, gate, named.names(), inputs),
+        Err(error) => told(alloc, named, error),
     }
 }
 

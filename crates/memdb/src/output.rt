@@ -116,7 +116,14 @@ fn write_rule(rule: ScriptError, out: &mut Vec<u8>) -> Result<(), AllocError>
 {
     write_line(rule.line(), out)?;
     out.push(b' ')?;
-    out.extend_from_slice(rule.word().as_bytes())?;
+    end_line(rule.word(), out)
+}
+
+/// Adds a word and ends the line.
+pub fn end_line(word: &str, out: &mut Vec<u8>) -> Result<(), AllocError>
+    ensures { OnOk result (out.new.items ≡ out.old.items ++ (word.now ++ 10 ∷ [])) }
+{
+    out.extend_from_slice(word.as_bytes())?;
     out.push(b'\n')?;
     Ok(())
 }
@@ -176,8 +183,7 @@ fn name_line(alloc: Global, what: &[u8], name: &Text) -> Result<Vec<u8>, AllocEr
     ensures { IfOk result (λ line. line.items ≡ name_line what.now name.now) }
 {
     let mut line = Vec::from_slice(alloc, what)?;
-    line.extend_from_slice(name.as_str().as_bytes())?;
-    line.push(b'\n')?;
+    end_line(name.as_str(), &mut line)?;
     Ok(line)
 }
 

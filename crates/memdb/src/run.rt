@@ -27,10 +27,10 @@ use std::thread::Threads;
 /// - 5: a file can't be read, and `cannot read NAME` was written;
 /// - 6: the sink failed, and the beginning of a text was written;
 /// - 7: a file has more than 1,048,576 bytes, and `too large NAME` was written;
-/// - 8: the schema and the script are lawful, but a line has one of the words `watch`, `check`,
+/// - 8: the schema and the scripts are lawful, but a line has one of the words `watch`, `check`,
 ///   `add`, `add-limit`, `size` and `wait`, which aren't supported, and `not yet` was written.
 ///
-/// One client is run. The gate is passed at each line of its script.
+/// Each client is run on a thread of its own. The gate is passed at each line of its script.
 pub fn run<R: Threads + Wait + Sync, F: Files, S: Sink, G: Gate + Sync>(
     rt: &R,
     alloc: Global,
@@ -73,13 +73,14 @@ pub fn run<R: Threads + Wait + Sync, F: Files, S: Sink, G: Gate + Sync>(
         (F.faults files.old) (F.faults files.new) in
         (status : ℕ) → CallsFor words.now seen status → IsOneOf (status ∷ 4 ∷ 6 ∷ []) result }
 
-    // What stays. Words that are no command touch no file.
-    ensures write_faults { S.faults out.old ≤ S.faults out.new
-        × (result ≢ 6 → S.faults out.new ≡ S.faults out.old) }
+    // What stays. No call of the sink fails, but where the status is 6. Words that are no command
+    // touch no file.
     ensures stays { let seen = observed (F.told files.old) (F.reliable files.old)
         (F.faults files.old) (F.faults files.new) in
         Stays seen (F.told files.new) (F.reliable files.new)
-        × (files_named words.now ≡ None → files.new ≡ files.old) }
+        × (files_named words.now ≡ None → files.new ≡ files.old)
+        × (S.faults out.old ≤ S.faults out.new)
+        × (result ≢ 6 → S.faults out.new ≡ S.faults out.old) }
 {
     let output = match outcome(rt, alloc, words, files, gate) {
         Ok(output) => output,

@@ -7,6 +7,8 @@ use std::test::Fail;
 use std::thread::Threads;
 
 mod catalogue;
+mod clients;
+mod held;
 mod sessions;
 
 const SCHEMA: &str = r#"{"memdb":1,"tables":{"t":{"indexes":{
@@ -92,7 +94,7 @@ const NO_UUID_OUT: &str = r#"client 1 c1
 "#;
 
 /// Words that are no command.
-const NO_COMMANDS: [&str; 5] = ["", "run S", "run S c1 c1", "run -x c1", "make 1 65 3"];
+const NO_COMMANDS: [&str; 5] = ["", "run S", "run S c1 -x", "run -x c1", "make 1 65 3"];
 
 const ENDS: &str = "client 1 c1\n1: write @0\n2: commit @1\n3: read @1\n";
 

@@ -1,7 +1,7 @@
 //! The words of the command line.
-ghost use Rattle.std.specs.Prelude.{◌≡◌, ◌<◌, ◌∷◌, [], Some, IfOk, IsTrue, length, option_map, slice_get};
+ghost use Rattle.std.specs.Prelude.{◌≡◌, ◌<◌, ◌≤◌, Some, IfOk, length, option_map, slice_get};
 ghost use Rattle.std.specs.List.{list_all};
-ghost use Rattle.memdb.specs.Words.{are_supported, may_name_a_file};
+ghost use Rattle.memdb.specs.Words.{may_name_a_file};
 
 use mdb_datum::Text;
 use run_io::Texts;
@@ -13,24 +13,22 @@ mod tests;
 
 use self::command::read_command;
 
-/// How many clients are supported.
-const CLIENTS: usize = 1;
-
-/// The files that a command names: its schema, and the scripts of its clients in order.
+/// The files that a command names: its schema, and the scripts of its 1 to 64 clients in order.
 #[derive(Drop)]
 pub struct Named {
     pub schema: Text,
     pub clients: Texts,
-    ghost supported: { IsTrue (are_supported clients) },
+    ghost some: { 1 ≤ length clients },
+    ghost few: { length clients ≤ 64 },
 }
 
 impl Named {
     ghost use Rattle.memdb.specs.Words.{files_named, in_order};
     ghost use Rattle.memdb.specs.inner.NamedOf.{named_of};
 
-    /// The files that words name: `None` where they aren't `run SCHEMA CLIENT`. `clap` reads them,
-    /// after the test that each word may name a file: it isn't empty, doesn't begin with `-` and
-    /// holds no line feed. It takes memory for the names.
+    /// The files that words name: `None` where they aren't `run SCHEMA CLIENT..`. `clap` reads
+    /// them, after the test that each word may name a file: it isn't empty, doesn't begin with `-`
+    /// and holds no line feed. It takes memory for the names.
     pub fn of(alloc: Global, words: &[Text]) -> Result<Option<Named>, AllocError>
         ensures { IfOk result (λ named. option_map named_of named ≡ files_named words.now) }
     {
@@ -38,20 +36,21 @@ impl Named {
             return Ok(None);
         }
         match read_command(alloc, words)? {
-            Some(files) if files.clients.len() == CLIENTS => Ok(Some(Named {
+            Some(files) => Ok(Some(Named {
                 schema: files.schema,
                 clients: files.clients,
             })),
-            _ => Ok(None),
+            None => Ok(None),
         }
     }
 
-    /// The name of the one client's file.
-    pub fn client(&self) -> &Text
-        ensures { self.now.clients ≡ result.now ∷ [] }
+    /// The names of the clients' files, in order.
+    pub fn names(&self) -> &[Text]
+        ensures names { result.now ≡ self.now.clients }
+        ensures some { 1 ≤ length result.now }
+        ensures few { length result.now ≤ 64 }
     {
-        let names = self.clients.iter().as_slice();
-        &names[0]
+        self.clients.iter().as_slice()
     }
 
     /// The name of a file, by its number: 0 is the schema's, and 1 the first client's.

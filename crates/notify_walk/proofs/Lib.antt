@@ -1,1 +1,1 @@
-pub mod Firing
+pub mod Firings

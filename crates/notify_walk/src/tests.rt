@@ -2,9 +2,7 @@
 ghost use Rattle.std.specs.Prelude.{◌≡◌, ◌+◌, ◌<◌, ◌≤◌, ◌^◌, IfOk, length};
 ghost use Rattle.mdb_datum.specs.Datum as of;
 ghost use Rattle.mdb_datum.specs.Row.{IsCanonicalRow};
-ghost use Rattle.notify_walk.specs.Fired.{AreOf};
-ghost use Rattle.radix_node.specs.Cells as cells;
-ghost use Rattle.radix_node.specs.Cells.{AreBelow};
+ghost use Rattle.radix_node.specs.Cells.{AreBelow, AreCellsOf, AreOf};
 
 use crate::fire_all;
 use mdb_datum::{Datum, Members, Row, read_doc};
@@ -33,7 +31,7 @@ type Work = (Tree, Front, Ids);
 /// The tree without words.
 fn empty(alloc: Global) -> Result<Work, Fail>
     ensures book { IfOk result (λ w. w.1.book ≡ w.2.book) }
-    ensures of { IfOk result (λ w. cells.AreOf w.2.book w.0) }
+    ensures of { IfOk result (λ w. AreOf w.2.book w.0) }
     ensures below { IfOk result (λ w. AreBelow w.2.next w.0) }
     ensures left { IfOk result (λ w. w.2.next ≤ 1) }
 {
@@ -53,14 +51,14 @@ fn with(
 ) -> Result<(Tree, Notice), Fail>
     requires short { length word.now ≤ 2048 }
     requires book { front.now.book ≡ ids.old.book }
-    requires of { cells.AreOf ids.old.book tree.now }
+    requires of { AreOf ids.old.book tree.now }
     requires below { AreBelow ids.old.next tree.now }
     requires left { ids.old.next ≤ 2 ^ 20 }
     ensures book { ids.new.book ≡ ids.old.book }
-    ensures of { IfOk result (λ w. cells.AreOf ids.new.book w.0) }
+    ensures of { IfOk result (λ w. AreOf ids.new.book w.0) }
     ensures below { IfOk result (λ w. AreBelow ids.new.next w.0) }
     ensures left { ids.new.next ≤ ids.old.next + 4096 }
-    ensures notice { IfOk result (λ w. AreOf ids.new.book w.1) }
+    ensures notice { IfOk result (λ w. AreCellsOf ids.new.book w.1) }
 {
     let mut txn = tree.txn()?;
     txn.insert(front, ids, word, row)?;
@@ -70,7 +68,7 @@ fn with(
 /// The tree of `foo` and `football`.
 fn two_words(alloc: Global, row: &Row) -> Result<Work, Fail>
     ensures book { IfOk result (λ w. w.1.book ≡ w.2.book) }
-    ensures of { IfOk result (λ w. cells.AreOf w.2.book w.0) }
+    ensures of { IfOk result (λ w. AreOf w.2.book w.0) }
     ensures below { IfOk result (λ w. AreBelow w.2.next w.0) }
     ensures left { IfOk result (λ w. w.2.next ≤ 10000) }
 {
@@ -80,10 +78,11 @@ fn two_words(alloc: Global, row: &Row) -> Result<Work, Fail>
     Ok((two, front, ids))
 }
 
-/// The notice of an insert of `fool` into the tree of `foo` and `football`, with a front from before, and the ids of
-/// two watches of the tree before: that of the missing key, and that of the leaf of `foo`.
+/// The notice of an insert of `fool` into the tree of `foo` and `football`, with a front from
+/// before, and the ids of two watches of the tree before: that of the missing key, and that of the
+/// leaf of `foo`.
 fn noticed(alloc: Global) -> Result<(Notice, Front, u64, u64), Fail>
-    ensures { IfOk result (λ n. AreOf n.1.book n.0) }
+    ensures { IfOk result (λ n. AreCellsOf n.1.book n.0) }
 {
     let row = Row::of(alloc, members(alloc)?)?;
     let (old, front, mut ids) = two_words(alloc, &row)?;
@@ -94,9 +93,9 @@ fn noticed(alloc: Global) -> Result<(Notice, Front, u64, u64), Fail>
 }
 
 /// Whether the cell at a place of a notice has fired.
-#[tactic(auto, using(crate::proofs::Firing::of_at))]
+#[tactic(auto, using(crate::proofs::Firings::of_at))]
 fn fired_at(notice: &Notice, at: usize, front: &Front) -> Result<bool, Fail>
-    requires of { AreOf front.now.book notice.now }
+    requires of { AreCellsOf front.now.book notice.now }
     requires within { at < length notice.now }
 {
     let cell = notice.cell(at).unwrap();
@@ -105,7 +104,7 @@ fn fired_at(notice: &Notice, at: usize, front: &Front) -> Result<bool, Fail>
 
 /// How many cells of a notice have fired.
 fn fired(notice: &Notice, front: &Front) -> Result<usize, Fail>
-    requires { AreOf front.now.book notice.now }
+    requires { AreCellsOf front.now.book notice.now }
 {
     let mut count = 0;
     for at in 0..notice.len() {
@@ -155,8 +154,8 @@ fn a_missing_key_is_noticed_and_a_leaf_that_stays_is_not(rt: HostRuntime) -> Res
 
 /// The notice of a transaction without writes.
 fn noticed_nothing(tree: &Tree, front: &Front) -> Result<Notice, Fail>
-    requires { cells.AreOf front.now.book tree.now }
-    ensures { IfOk result (λ n. AreOf front.now.book n) }
+    requires { AreOf front.now.book tree.now }
+    ensures { IfOk result (λ n. AreCellsOf front.now.book n) }
 {
     let txn = tree.txn()?;
     let (_, notice) = txn.freeze()?;

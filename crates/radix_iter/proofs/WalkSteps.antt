@@ -1,4 +1,5 @@
--- A walk from a bound that is at a node on the path of its key: the rows so far and those that are left are the whole.
+-- A walk from a bound that is at a node on the path of its key: the rows so far and those that are
+-- left are the whole.
 use Rattle.std.proofs.Common.{◌≡◌, ◌++◌, ◌∷◌, ◌∙◌, ℕ, Bool, true, false, cond, List, [], Some, None, refl, sym, ap, append_assoc, subst, is_lt, is_gt}
 use Rattle.std.proofs.lemmas.List.{append-nil}
 use Rattle.mdb_datum.specs.Bytes.{byte_order}

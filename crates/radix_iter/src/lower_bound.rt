@@ -22,8 +22,8 @@ pub fn from_key(alloc: Global, tree: &Tree, key: &[u8]) -> Result<Walk, AllocErr
     Ok(Walk { rows })
 }
 
-/// Adds the rows of keys that are at least `key`, the last first: on the way down along the key those
-/// beside it, which are higher, and at its end those under it.
+/// Adds the rows of keys that are at least `key`, the last first: on the way down along the key
+/// those beside it, which are higher, and at its end those under it.
 fn push_at_least(rows: &mut Vec<Row>, tree: &Tree, key: &[u8]) -> Result<(), AllocError>
     ensures { IfOk result (λ _. rows.new.items
         ≡ rows.old.items ++ reverse (rows_of (at_least key.now (pairs_of (plain_of tree.now))))) }

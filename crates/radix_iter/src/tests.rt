@@ -109,7 +109,8 @@ fn an_empty_tree_gives_the_end_at_once(rt: HostRuntime) -> Result<(), Fail> {
     Ok(())
 }
 
-/// The keys of texts end with 00. The first two are those of 255 and 256, each with the text after it.
+/// The keys of texts end with 00. The first two are those of 255 and 256, each with the text after
+/// it.
 const STORED: [&[u8]; 8] = [
     b"\x00\xffx\x00",
     b"\x01\x00y\x00",
@@ -353,7 +354,8 @@ fn goes_down(alloc: Global, tree: &Tree) -> Result<bool, AllocError> {
     )
 }
 
-/// Whether the four walks, the first and the last go through 2,049 nodes, each under the one before.
+/// Whether the four walks, the first and the last go through 2,049 nodes, each under the one
+/// before.
 fn goes_deep(alloc: Global, tree: &Tree) -> Result<bool, AllocError> {
     Ok(goes_up(alloc, tree)? && goes_down(alloc, tree)? && ends_are(tree, b"", Some(0), Some(2048)))
 }

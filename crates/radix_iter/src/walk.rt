@@ -34,8 +34,8 @@ impl Walk {
         self.rows.len()
     }
 
-    /// The next row. `None` comes exactly at the end, and from then on. It takes a time that doesn't
-    /// depend on the tree, and no memory.
+    /// The next row. `None` comes exactly at the end, and from then on. It takes a time that
+    /// doesn't depend on the tree, and no memory.
     pub fn next(&mut self) -> Result<Option<Row>, AllocError>
         ensures next { IfOk result (λ r. r ≡ first_item self.old) }
         ensures rest { OnOk result (self.new ≡ drop 1 self.old) }

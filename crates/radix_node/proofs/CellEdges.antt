@@ -3,11 +3,12 @@ use Rattle.std.proofs.Common.{◌≡◌, ◌<◌, ◌≤◌, ◌+◌, ◌++◌, 
 use Rattle.std.proofs.lemmas.List.{map-set, map-append, take-map, drop-map}
 use Rattle.std.proofs.lemmas.Option.{slice_get-map, slice_get_read, slice_get_past}
 use Rattle.std.specs.FinMap.Entries as entries
-use Rattle.radix_node.specs.CellNode.{led, bare, cell_edge, cell_edges, led_node, cell_edge_of, cell_put}
+use Rattle.radix_node.specs.CellNode.{led, cell_edge, cell_edges, led_node, cell_edge_of, cell_put}
 use Rattle.radix_node.specs.Cells.{CellNode, CellNodes, cells_in}
 use Rattle.radix_node.specs.Edges.{place_of, further_by}
 use Rattle.radix_node.specs.Node.{edges_of, plain_edge}
 use Rattle.radix_node.specs.Nodes.{first_order}
+use Rattle.radix_node.specs.inner.Siblings.{bare}
 use Rattle.radix_node.specs.declared.edge.Edge.{Edge}
 use Rattle.radix_node.specs.declared.edges.Edges.{Edges, out-Edges}
 use Rattle.radix_node.proofs.CellLevels.{cell_edges_out, out_cell_edge, bare_edges}

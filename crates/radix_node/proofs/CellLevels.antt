@@ -3,10 +3,11 @@ use Rattle.std.proofs.Common.{◌≡◌, ◌∷◌, ◌∙◌, List, [], map, Op
 use Rattle.std.specs.Arc.{arc_value}
 use Rattle.std.specs.Global.{Global}
 use Rattle.std.specs.declared.sync.Arc.{Arc}
-use Rattle.radix_node.specs.CellNode.{CellEdge, led, tree_at, bare, cell_edge_step, cell_edges_step, cell_node_step, cell_ref_step, cell_edge, cell_edges, cell_node, cell_ref, led_node}
+use Rattle.radix_node.specs.CellNode.{CellEdge, led, tree_at, cell_edge_step, cell_edges_step, cell_node_step, cell_ref_step, cell_edge, cell_edges, cell_node, cell_ref, led_node}
 use Rattle.radix_node.specs.Cells.{CellNode, cells_in, plain_leaf, plain_nodes, plain_of}
 use Rattle.radix_node.specs.Node.{PlainEdge, PlainNode, labelled, leaf_pair, below, below_prefix, nodes_in, plain_edge, edges_of, plain_node, node_of, edge_node}
 use Rattle.radix_node.specs.Nodes.{node}
+use Rattle.radix_node.specs.inner.Siblings.{bare}
 use Rattle.radix_node.specs.declared.leaf.Leaf.{Leaf}
 use Rattle.radix_node.specs.declared.edge.Edge.{Edge, Edge-F, out-Edge, roll-Edge, fold_out-Edge, fold-roll-Edge, ind-Edge}
 use Rattle.radix_node.specs.declared.edges.Edges.{Edges, Edges-F, out-Edges, roll-Edges, fold_out-Edges, fold-roll-Edges, ind-Edges}

@@ -4,7 +4,8 @@ use Rattle.std.proofs.Math.Seq.{drop-cons}
 use Rattle.watch_word.specs.Logs.{Cell}
 use Rattle.radix_node.specs.CellNode.{cell_edge, cell_node, led_node}
 use Rattle.radix_node.specs.Cells.{CellNode, Piece, cells_in, piece_cell, leaf_pieces, node_pieces}
-use Rattle.radix_node.specs.Left.{all_cells, leave, leave_all, own_left}
+use Rattle.radix_node.specs.Left.{all_cells, leave, leave_all}
+use Rattle.radix_node.specs.inner.OwnLeft.{own_left}
 use Rattle.radix_node.specs.declared.edge.Edge.{Edge}
 use Rattle.radix_node.specs.declared.edges.Edges.{out-Edges}
 use Rattle.radix_node.specs.declared.node.Node.{Node, out-Node}

@@ -5,7 +5,8 @@ use Rattle.std.specs.FinMap.Entries as entries
 use Rattle.mdb_datum.specs.Row.{Pair}
 use Rattle.radix_node.specs.Nodes.{Nodes, no_nodes, node, part, first_order}
 use Rattle.radix_node.specs.inner.Seek.{seek, found}
-use Rattle.radix_node.specs.Node.{PlainEdge, PlainNode, leaf_pair, nodes_in, nodes_list, edge_step, edges_step, node_step, ref_step, plain_edge, edges_of, plain_node, node_of, edge_node, edge_of, labelled}
+use Rattle.radix_node.specs.Node.{PlainEdge, PlainNode, leaf_pair, nodes_in, edge_step, edges_step, node_step, ref_step, plain_edge, edges_of, plain_node, node_of, edge_node, edge_of, labelled}
+use Rattle.radix_node.specs.inner.Siblings.{nodes_list}
 use Rattle.radix_node.specs.declared.edge.Edge.{Edge, Edge-F, out-Edge, roll-Edge, fold_out-Edge, fold-roll-Edge}
 use Rattle.radix_node.specs.declared.edges.Edges.{Edges, Edges-F, out-Edges, roll-Edges, fold_out-Edges, fold-roll-Edges}
 use Rattle.radix_node.specs.declared.node.Node.{Node, Node-F, out-Node, roll-Node, fold_out-Node, fold-roll-Node}

@@ -26,7 +26,7 @@ pub mod PathOrder
 pub mod Paths
 pub mod PrefixSeek
 pub mod Prefixes
-pub mod Sitting
+pub mod NodesBelow
 pub mod Splices
 pub mod Threads
 pub mod TwoTrees

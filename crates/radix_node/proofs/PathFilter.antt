@@ -1,4 +1,5 @@
--- The pairs of a tree that a test of their keys keeps, found along the path of the key that the test is of.
+-- The pairs of a tree that a test of their keys keeps, found along the path of the key that the
+-- test is of.
 use Rattle.std.proofs.Common.{◌≡◌, ◌≢◌, ◌<◌, ◌++◌, ◌∷◌, ◌∙◌, ℕ, Bool, true, false, List, [], Option, Some, None, refl, sym, ap, subst, arith, append_assoc, Less, Equal, Greater}
 use Rattle.std.proofs.lemmas.List.{append-nil}
 use Rattle.std.proofs.lemmas.List.Elements.{filter-append}
@@ -15,8 +16,8 @@ use Rattle.radix_node.proofs.Levels.{first_byte}
 use Rattle.radix_node.proofs.KeysUnder.{Any, Past, weaken_first, leaf_past, keys_past, below_past, under_past}
 use Rattle.radix_node.proofs.ByteCompare.{what_less, what_equal, what_greater}
 
--- what a test says of keys by how they stand to the key: parted from it by a lower or a higher byte, ended within it,
--- the same, or gone on from it
+-- what a test says of keys by how they stand to the key: parted from it by a lower or a higher
+-- byte, ended within it, the same, or gone on from it
 pub record Sides : Type 0 where
   pub lower : Bool
   pub higher : Bool
@@ -35,7 +36,8 @@ abbrev pub when : Bool → List Pair → List Pair
 when true ps = ps
 when false ps = []
 
--- what is kept of a node's own pair and of those under it, where its prefix goes on by p and the rest of the key by k
+-- what is kept of a node's own pair and of those under it, where its prefix goes on by p and the
+-- rest of the key by k
 abbrev pub walked_at : Sides → List ℕ → List ℕ → List Pair → List Pair → List Pair → List Pair
 walked_at w [] [] own under below = when w.same own ++ when w.longer under
 walked_at w [] (x ∷ k) own under below = when w.shorter own ++ below

@@ -1,4 +1,5 @@
--- The paths of a shaped tree's nodes rise: they are the keys of the same tree with a leaf at each node.
+-- The paths of a shaped tree's nodes rise: they are the keys of the same tree with a leaf at each
+-- node.
 use Rattle.std.proofs.Common.{◌≡◌, ◌<◌, ◌++◌, ◌∷◌, ◌∙◌, ℕ, true, List, [], map, Some, refl, ap, subst, Less}
 use Rattle.std.proofs.lemmas.List.{map-append}
 use Rattle.std.proofs.lemmas.Bool.{and_parts}

@@ -1,5 +1,5 @@
--- A tree, its nodes and its edges may be handed to another thread and shared with it. A type that holds itself through an
--- `Arc` has both laws at once, by what the check knows of each layer.
+-- A tree, its nodes and its edges may be handed to another thread and shared with it. A type that
+-- holds itself through an `Arc` has both laws at once, by what the check knows of each layer.
 use denote.Builtin
 use denote.Param
 use denote.Param.Send.{IsSend, IsSync, sendable}

@@ -1,4 +1,5 @@
--- Of two trees in which an id tells its piece: what is watched in the old one fires, or is as it was.
+-- Of two trees in which an id tells its piece: what is watched in the old one fires, or is as it
+-- was.
 use Rattle.std.proofs.Common.{◌≡◌, ◌⊎◌, inl, inr, ◌∙◌, Option, Some, None, refl, sym, ap, subst}
 use Rattle.mdb_datum.specs.Bytes.{Bytes}
 use Rattle.watch_word.specs.Logs.{Cell}

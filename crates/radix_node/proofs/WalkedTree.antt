@@ -10,7 +10,7 @@ use Rattle.radix_node.specs.inner.Walk.{End, walk, walk_on, walk_tree, leaf_if, 
 use Rattle.radix_node.proofs.Members.{leaf_is, leaf_has, no_leaf_node, node_no_leaf, same_node}
 use Rattle.radix_node.proofs.Paths.{Has-left, Has-right, Has-split}
 use Rattle.radix_node.proofs.Parts.{part_parts}
-use Rattle.radix_node.proofs.Sitting.{Sits, seated, one_seat, piece_sits, sits_piece, leaf_sits, sits_leaf}
+use Rattle.radix_node.proofs.NodesBelow.{Sits, seated, one_seat, piece_sits, sits_piece, leaf_sits, sits_leaf}
 use Rattle.radix_node.proofs.Walks.{Enters, on_at, on_below, part_append, walk_ends, walk_reaches}
 
 -- a leaf stands at the end of its node's prefix

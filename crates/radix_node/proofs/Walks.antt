@@ -14,7 +14,7 @@ use Rattle.radix_node.proofs.ByteCompare.{what_equal, equal_from, greater_from}
 use Rattle.radix_node.proofs.Parts.{part_parts, part_first}
 use Rattle.radix_node.proofs.PathFilter.{when, walked_at, walked, walked_plain}
 use Rattle.radix_node.proofs.PrefixSeek.{inside}
-use Rattle.radix_node.proofs.Sitting.{Sits, first_of_sits}
+use Rattle.radix_node.proofs.NodesBelow.{Sits, first_of_sits}
 
 -- a key that begins with a prefix parts from it at its end
 pub part_append : (p k : Bytes) → part p (p ++ k) ≡ (p, [], k)

@@ -2,9 +2,8 @@
 use Rattle.std.specs.Prelude.{ℕ, List, [], ◌∷◌, Option, Some, None, map, option_map}
 use Rattle.std.specs.Arc.{arc_value}
 use Rattle.std.specs.FinMap.Entries.{by_order}
-use Rattle.radix_node.specs.Cells.{CellNode, CellNodes, no_cells, celled, CellTree, cells_in, plain_leaf, plain_nodes}
+use Rattle.radix_node.specs.Cells.{CellNode, CellNodes, no_cells, celled, CellTree, cells_in}
 use Rattle.radix_node.specs.Nodes.{first_order}
-use Rattle.radix_node.specs.Node.{PlainNode}
 use Rattle.radix_node.specs.declared.edge.Edge.{Edge, Edge-F, fold-Edge}
 use Rattle.radix_node.specs.declared.edges.Edges.{Edges, Edges-F, fold-Edges}
 use Rattle.radix_node.specs.declared.node.Node.{Node, Node-F, fold-Node}
@@ -22,10 +21,6 @@ led e = record { cell = e.node.cell; prefix = e.label ∷ e.node.prefix; leaf = 
 -- a node as a tree of its own, without its prefix
 abbrev pub tree_at : CellNode → CellTree
 tree_at n = record { cell = n.cell; leaf = n.leaf; nodes = n.under }
-
--- a node without its cells
-abbrev pub bare : CellNode → PlainNode
-bare n = record { prefix = n.prefix; leaf = plain_leaf n.leaf; under = plain_nodes n.under }
 
 -- one level in memory, where what is below it has its cells already
 abbrev pub cell_edge_step : Edge-F CellEdge (List CellNode) CellNode CellNode → CellEdge
@@ -69,7 +64,8 @@ cell_edge_of b (celled cell prefix leaf under later) =
     (Some (record { cell = cell; prefix = prefix; leaf = leaf; under = under }))
     (cell_edge_of b later)
 
--- the nodes with one in place of that with its first byte or as a new one in the order of first bytes
+-- the nodes with one in place of that with its first byte or as a new one in the order of first
+-- bytes
 abbrev pub cell_put : CellNode → List CellNode → List CellNode
 cell_put n [] = n ∷ []
 cell_put n (m ∷ ms) = by_order (first_order n.prefix m.prefix) (n ∷ m ∷ ms) (n ∷ ms) (m ∷ cell_put n ms)

@@ -68,11 +68,6 @@ abbrev pub cells_in : List CellNode → CellNodes
 cells_in [] = no_cells
 cells_in (n ∷ ns) = celled n.cell n.prefix n.leaf n.under (cells_in ns)
 
-abbrev pub cells_list : CellNodes → List CellNode
-cells_list no_cells = []
-cells_list (celled cell prefix leaf under later) =
-    record { cell = cell; prefix = prefix; leaf = leaf; under = under } ∷ cells_list later
-
 -- the root, whose prefix is empty
 abbrev pub root_of : CellTree → CellNode
 root_of t = record { cell = t.cell; prefix = []; leaf = t.leaf; under = t.nodes }
@@ -97,9 +92,13 @@ AreApart t = (i : ℕ) → count i (cells_of t) ≤ 1
 abbrev pub AreBelow : ℕ → CellTree → Type 0
 AreBelow n t = (i : ℕ) → n ≤ i → count i (cells_of t) ≡ 0
 
--- all cells are of a book: the list of their books is that one over and over
+-- cells are of a book: the list of their books is that one over and over
+abbrev pub AreCellsOf : Book → List Cell → Type 0
+AreCellsOf book cells = map (λ (c : Cell). c.book) cells ≡ map (λ (c : Cell). book) cells
+
+-- all cells of a tree are
 abbrev pub AreOf : Book → CellTree → Type 0
-AreOf book t = map (λ (c : Cell). c.book) (cells_of t) ≡ map (λ (c : Cell). book) (cells_of t)
+AreOf book t = AreCellsOf book (cells_of t)
 
 -- ---- where the cells are
 

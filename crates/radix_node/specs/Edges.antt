@@ -21,7 +21,8 @@ abbrev pub place_of : ℕ → List PlainNode → Result ℕ ℕ
 place_of b [] = Err 0
 place_of b (n ∷ ns) = by_order (first_order (b ∷ []) n.prefix) (Err 0) (Ok 0) (further_by 1 (place_of b ns))
 
--- the edges with one to a node, in place of that with its first byte or as a new one in the order of first bytes
+-- the edges with one to a node, in place of that with its first byte or as a new one in the order
+-- of first bytes
 abbrev pub edge_put : PlainNode → List PlainNode → List PlainNode
 edge_put n [] = n ∷ []
 edge_put n (m ∷ ms) = by_order (first_order n.prefix m.prefix) (n ∷ m ∷ ms) (n ∷ ms) (m ∷ edge_put n ms)

@@ -17,10 +17,6 @@ abbrev pub leave_leaf : ℕ → Option CellLeaf → List Cell → List Cell
 leave_leaf first None cs = cs
 leave_leaf first (Some l) cs = leave first l.cell cs
 
--- after the cells of a node and its leaf
-abbrev pub own_left : ℕ → CellNode → List Cell → List Cell
-own_left first n cs = leave_leaf first n.leaf (leave first n.cell cs)
-
 -- the cells of a node and of all under it
 abbrev pub all_cells : CellNode → List Cell
 all_cells n = n.cell ∷ map piece_cell (leaf_pieces n.leaf ++ node_pieces n.under)

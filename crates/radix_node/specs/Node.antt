@@ -13,8 +13,9 @@ use Rattle.radix_node.specs.declared.edges.Edges.{Edges, Edges-F, fold-Edges}
 use Rattle.radix_node.specs.declared.node.Node.{Node, Node-F, fold-Node}
 use Rattle.radix_node.specs.declared.node_ref.NodeRef.{NodeRef, NodeRef-F, fold-NodeRef}
 
--- a node as plain data: its prefix, its leaf, and the nodes under it. In memory the prefix is what comes after the
--- label of the edge to the node; among its siblings a node has the label in front of it
+-- a node as plain data: its prefix, its leaf, and the nodes under it. In memory the prefix is what
+-- comes after the label of the edge to the node; among its siblings a node has the label in front
+-- of it
 pub record PlainNode : Type 0 where
   pub prefix : Bytes
   pub leaf : Option Pair
@@ -33,10 +34,6 @@ labelled e = record { prefix = e.label ∷ e.node.prefix; leaf = e.node.leaf; un
 abbrev pub nodes_in : List PlainNode → Nodes
 nodes_in [] = no_nodes
 nodes_in (n ∷ ns) = node n.prefix n.leaf n.under (nodes_in ns)
-
-abbrev pub nodes_list : Nodes → List PlainNode
-nodes_list no_nodes = []
-nodes_list (node prefix leaf under later) = record { prefix = prefix; leaf = leaf; under = under } ∷ nodes_list later
 
 -- a node as a tree of its own, without its prefix
 abbrev pub below : PlainNode → Plain

@@ -5,8 +5,8 @@ use Rattle.std.specs.declared.cmp.Ordering.TheVariants.{Less, Equal, Greater}
 use Rattle.std.specs.Ordering.{nat_cmp}
 use Rattle.mdb_datum.specs.Row.{Pair}
 
--- the nodes under one node, in the order of their edges: the prefix of the first, its leaf if it has one, the nodes
--- under it, and its later siblings
+-- the nodes under one node, in the order of their edges: the prefix of the first, its leaf if it
+-- has one, the nodes under it, and its later siblings
 pub data Nodes : Type 0 where
   no_nodes : Nodes
   node : List ℕ → Option Pair → Nodes → Nodes → Nodes
@@ -29,7 +29,8 @@ pairs_of_nodes (node prefix leaf under later) = pairs_of_leaf leaf ++ (pairs_of_
 abbrev pub pairs_of : Plain → List Pair
 pairs_of t = pairs_of_leaf t.leaf ++ pairs_of_nodes t.nodes
 
--- two byte strings as what they begin with together, what the first has after it, and what the second has
+-- two byte strings as what they begin with together, what the first has after it, and what the
+-- second has
 abbrev pub part : List ℕ → List ℕ → List ℕ × List ℕ × List ℕ
 part [] k = ([], [], k)
 part (a ∷ p) [] = ([], a ∷ p, [])

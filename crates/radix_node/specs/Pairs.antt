@@ -15,7 +15,8 @@ IsRising pairs = IsTrue (map.is_sorted byte_order pairs)
 abbrev pub find : Bytes → List Pair → Option Fields
 find key pairs = map.find byte_order key pairs
 
--- the pairs with a row under a key: in place of the row that is there, or as a new pair in the order of the keys
+-- the pairs with a row under a key: in place of the row that is there, or as a new pair in the
+-- order of the keys
 abbrev pub put : Bytes → Fields → List Pair → List Pair
 put key row pairs = map.put byte_order key row pairs
 

@@ -13,8 +13,8 @@ abbrev pub HasKey : List ℕ → List Pair → Type 0
 HasKey key [] = ⊥
 HasKey key (p ∷ ps) = (key ≡ p.0) ⊎ HasKey key ps
 
--- the paths that a tree of these keys has: the empty string, every key, and the longest common prefix of any two
--- different keys
+-- the paths that a tree of these keys has: the empty string, every key, and the longest common
+-- prefix of any two different keys
 pub data IsPath (pairs : List Pair) (path : List ℕ) : Type 0 where
   root : path ≡ [] → IsPath pairs path
   whole_key : HasKey path pairs → IsPath pairs path

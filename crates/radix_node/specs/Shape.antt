@@ -24,8 +24,8 @@ abbrev pub IsBranching : Option Pair → Nodes → Type 0
 IsBranching (Some pair) under = Unit {0}
 IsBranching None under = 2 ≤ width under
 
--- the nodes under a node with this path: no prefix is empty, first bytes differ and rise, each node has a leaf or two
--- edges, and a leaf's key is the path of its node
+-- the nodes under a node with this path: no prefix is empty, first bytes differ and rise, each node
+-- has a leaf or two edges, and a leaf's key is the path of its node
 abbrev pub IsShaped : List ℕ → Nodes → Type 0
 IsShaped path no_nodes = Unit {0}
 IsShaped path (node [] leaf under later) = ⊥

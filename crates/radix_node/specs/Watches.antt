@@ -1,4 +1,5 @@
--- The cell of a key: the one that a look-up of the key watches, and the one that a question about its prefix watches.
+-- The cell of a key: the one that a look-up of the key watches, and the one that a question about
+-- its prefix watches.
 use Rattle.std.specs.Prelude.{◌≡◌, List, [], ◌∷◌, ◌++◌, Option, Some, None, ◌⊎◌, length, drop, nat_lt, if◌then◌else◌}
 use Rattle.std.specs.Ordering.{eq_by_cmp}
 use Rattle.mdb_datum.specs.Bytes.{Bytes, byte_order, is_prefix}
@@ -33,8 +34,9 @@ abbrev pub further_place : Place → Bytes → List Place → Place
 further_place p [] places = p
 further_place p (x ∷ rest) places = place_or p (shortest_place (p.path ++ x ∷ []) places)
 
--- Let p be the longest path that is a prefix of the key. The near place is that of the shortest path that is longer than
--- p and begins with p followed by the next byte of the key; where there is none, or the key is p, it is that of p.
+-- Let p be the longest path that is a prefix of the key. The near place is that of the shortest
+-- path that is longer than p and begins with p followed by the next byte of the key; where there is
+-- none, or the key is p, it is that of p.
 abbrev pub near : Bytes → CellTree → Place
 near key t =
     let p = longest_place key (root_place t) (places_of t) in
@@ -49,7 +51,8 @@ abbrev pub leaf_cell_or : Cell → Option CellLeaf → Cell
 leaf_cell_or cell None = cell
 leaf_cell_or cell (Some l) = l.cell
 
--- the cell that a look-up of a key watches: its leaf's where there is the key, and else that of the near place
+-- the cell that a look-up of a key watches: its leaf's where there is the key, and else that of the
+-- near place
 abbrev pub get_watch : Bytes → CellTree → Cell
 get_watch key t = leaf_cell_or (near key t).cell (leaf_with key (leaves_of t))
 

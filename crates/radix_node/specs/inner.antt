@@ -1,4 +1,6 @@
+pub mod OwnLeft
 pub mod Seek
+pub mod Siblings
 pub mod Stored
 pub mod TreeView
 pub mod Walk

@@ -66,8 +66,8 @@ impl Ids {
         self.next
     }
 
-    /// A new cell with the next id, which hasn't fired. It takes memory for the cell, and is refused
-    /// only for want of it.
+    /// A new cell with the next id, which hasn't fired. It takes memory for the cell, and is
+    /// refused only for want of it.
     pub fn draw(&mut self, alloc: Global, front: &Front) -> Result<Arc<WatchCell>, AllocError>
         requires book { front.now.book ≡ self.old.book }
         requires left { self.old.next < 2 ^ 63 }

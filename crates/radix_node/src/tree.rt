@@ -24,8 +24,8 @@ use std::marker::Model;
 use watch_word::Front;
 
 /// A map from keys to rows, in the byte order of the keys, as shared nodes. It never changes.
-/// Contracts see it as its nodes with their cells, `CellTree`; without the cells it is `plain_of` the
-/// tree, whose pairs are the map.
+/// Contracts see it as its nodes with their cells, `CellTree`; without the cells it is `plain_of`
+/// the tree, whose pairs are the map.
 #[derive(Drop)]
 pub struct Tree {
     root: NodeRef,

@@ -3,7 +3,7 @@ use Rattle.std.proofs.Common.{◌≡◌, ◌+◌, ◌≤◌, ◌++◌, ◌∷◌
 use Rattle.std.specs.List.{slice_get}
 use Rattle.mdb_datum.specs.Bytes.{Bytes}
 use Rattle.watch_word.specs.Logs.{Cell, Log}
-use Rattle.radix_node.specs.Cells.{CellLeaf, CellNode, CellNodes, no_cells, celled, Piece, a_leaf, node_pieces, cells_in, cells_list}
+use Rattle.radix_node.specs.Cells.{CellLeaf, CellNode, CellNodes, no_cells, celled, Piece, a_leaf, node_pieces, cells_in}
 use Rattle.radix_node.specs.CellNode.{cell_edge, cell_edges, led_node}
 use Rattle.radix_node.specs.Edges.{place_of}
 use Rattle.radix_node.specs.Node.{edge_node, edges_of, nodes_in, plain_edge}
@@ -12,6 +12,7 @@ use Rattle.radix_node.specs.declared.edges.Edges.{Edges}
 use Rattle.radix_node.proofs.CellEdges.{same_label}
 use Rattle.radix_node.proofs.EdgeSearch.{edge_at_place, edge_label}
 use Rattle.radix_node.specs.Left.{leave, leave_leaf}
+use Rattle.radix_node.specs.inner.Siblings.{cells_list}
 use Rattle.radix_txn.specs.inner.Pieces.{led, inside_of, inside, whole}
 use Rattle.radix_txn.specs.inner.Steps.{IsStep, Ledger, IsOnward, Steps, one_drawn, one_left, leaf_left, IsNew, IsNext, IsNextOf}
 use Rattle.radix_txn.proofs.CellEdits.{pieces_one, step_middle, step_remade, step_leaf, step_new}

@@ -4,12 +4,13 @@ use Rattle.std.proofs.lemmas.List.{length-map}
 use Rattle.std.specs.List.{slice_get}
 use Rattle.mdb_datum.specs.Bytes.{Bytes}
 use Rattle.watch_word.specs.Logs.{Cell}
-use Rattle.radix_node.specs.CellNode.{bare, cell_edges}
+use Rattle.radix_node.specs.CellNode.{cell_edges}
 use Rattle.radix_node.specs.Node.{edges_of}
 use Rattle.radix_node.specs.declared.edges.Edges.{Edges}
 use Rattle.radix_node.proofs.CellLevels.{bare_edges}
-use Rattle.radix_node.specs.Cells.{CellLeaf, CellNode, CellNodes, no_cells, Piece, a_node, node_pieces, cells_in, cells_list}
+use Rattle.radix_node.specs.Cells.{CellLeaf, CellNode, CellNodes, no_cells, Piece, a_node, node_pieces, cells_in}
 use Rattle.radix_node.specs.Left.{all_cells, leave, leave_all}
+use Rattle.radix_node.specs.inner.Siblings.{bare, cells_list}
 use Rattle.radix_txn.specs.inner.Pieces.{led, inside_of, inside, whole}
 use Rattle.radix_txn.specs.inner.Steps.{IsStep, Ledger, IsOnward, Steps, many_left, IsNew, IsNextOf, one_drawn, one_left}
 use Rattle.radix_txn.proofs.CellEdits.{pieces_one, step_middle, step_unmade, step_without_leaf, step_settled, step_nothing}

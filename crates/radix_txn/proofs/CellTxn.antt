@@ -14,7 +14,7 @@ use Rattle.radix_node.proofs.OneBook.{all_are, each_is}
 use Rattle.radix_txn.specs.inner.Kept.{IsChanged, IsWritten}
 use Rattle.radix_txn.specs.inner.Steps.{IsNew, IsOnward, IsStep, Ledger, Steps, Tally, tally}
 use Rattle.radix_txn.proofs.Steps.{at, count_other, drawn_after, drawn_before, drawn_between, lt_or_le, step_same, step_then, step_weaker}
-use Rattle.radix_txn.proofs.Transacted.{counted, held, notice, opened}
+use Rattle.radix_txn.proofs.TxnTrees.{counted, held, notice, opened}
 
 -- an id in the tree is below the next one
 below_next : (n : ℕ) (t : CellTree) (x : Piece) → AreBelow n t → Has x (pieces_of t) → (piece_cell x).id < n

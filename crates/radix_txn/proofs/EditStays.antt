@@ -7,10 +7,11 @@ use Rattle.std.specs.List.{slice_get}
 use Rattle.mdb_datum.specs.Bytes.{Bytes}
 use Rattle.watch_word.specs.Logs.{Cell}
 use Rattle.radix_node.specs.CellNode.{cell_put, tree_at}
-use Rattle.radix_node.specs.Cells.{CellLeaf, CellNode, CellNodes, CellTree, Piece, leaf_pieces, node_pieces, cells_in, cells_list, pieces_of, root_of}
+use Rattle.radix_node.specs.Cells.{CellLeaf, CellNode, CellNodes, CellTree, Piece, leaf_pieces, node_pieces, cells_in, pieces_of, root_of}
 use Rattle.radix_node.specs.Node.{left_of, rest_past}
 use Rattle.radix_node.specs.Nodes.{first_order, part}
 use Rattle.radix_node.specs.Paths.{Has}
+use Rattle.radix_node.specs.inner.Siblings.{cells_list}
 use Rattle.radix_node.proofs.Paths.{Has-left, Has-right}
 use Rattle.radix_txn.specs.declared.target.Target.{Target}
 use Rattle.radix_txn.specs.declared.target.Target.TheVariants.{Key, Prefix}

@@ -17,7 +17,7 @@ pub mod Outside
 pub mod OutsideStays
 pub mod PairCounts
 pub mod Parents
-pub mod Placed
+pub mod TreePlaces
 pub mod PrefixWritten
 pub mod RemovePairs
 pub mod RemoveShape
@@ -26,7 +26,7 @@ pub mod Settle
 pub mod SettledNode
 pub mod Split
 pub mod Steps
-pub mod Transacted
+pub mod TxnTrees
 pub mod TreeInsert
 pub mod TreeRemove
 pub mod TreeWrites

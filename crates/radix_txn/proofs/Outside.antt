@@ -2,9 +2,10 @@
 use Rattle.std.proofs.Common.{◌≡◌, inl, inr, ◌++◌, ◌∷◌, ◌∙◌, ℕ, List, [], take, drop, Option, refl, sym, ap, subst, append_assoc}
 use Rattle.std.proofs.lemmas.List.{append-nil}
 use Rattle.mdb_datum.specs.Bytes.{Bytes}
-use Rattle.radix_node.specs.Cells.{CellLeaf, CellNode, CellNodes, no_cells, celled, Piece, leaf_pieces, node_pieces, cells_in, cells_list}
+use Rattle.radix_node.specs.Cells.{CellLeaf, CellNode, CellNodes, no_cells, celled, Piece, leaf_pieces, node_pieces, cells_in}
 use Rattle.radix_node.specs.Nodes.{part}
 use Rattle.radix_node.specs.Paths.{Has}
+use Rattle.radix_node.specs.inner.Siblings.{cells_list}
 use Rattle.radix_node.proofs.Parts.{part_first}
 use Rattle.radix_node.proofs.Paths.{Has-left, Has-right, Has-split}
 use Rattle.radix_txn.specs.declared.target.Target.{Target}

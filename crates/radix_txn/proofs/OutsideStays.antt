@@ -1,4 +1,5 @@
--- What a write of a key, or of a prefix, leaves where it is: each node that sits under one which the key doesn't begin with.
+-- What a write of a key, or of a prefix, leaves where it is: each node that sits under one which
+-- the key doesn't begin with.
 use Rattle.std.proofs.Common.{◌≡◌, ◌≢◌, inl, inr, ◌++◌, ◌∷◌, ◌∙◌, false, List, [], Option, Some, refl, sym, ap, subst, append_assoc}
 use Rattle.std.proofs.lemmas.Bool.{false≢true}
 use Rattle.std.proofs.lemmas.List.{append-nil}
@@ -10,7 +11,7 @@ use Rattle.radix_node.proofs.Members.{leaf_has}
 use Rattle.radix_node.proofs.Parts.{part_parts}
 use Rattle.radix_node.proofs.Paths.{Has-left, Has-right}
 use Rattle.radix_node.proofs.Prefixes.{is_prefix_all, is_prefix_start}
-use Rattle.radix_node.proofs.Sitting.{Sits, sits_leaf, sits_piece}
+use Rattle.radix_node.proofs.NodesBelow.{Sits, sits_leaf, sits_piece}
 use Rattle.radix_txn.specs.declared.target.Target.{Target}
 use Rattle.radix_txn.specs.declared.target.Target.TheVariants.{Key, Prefix}
 use Rattle.radix_txn.specs.inner.Outside.{outside, outside_node, staying}

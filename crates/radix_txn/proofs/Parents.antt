@@ -8,9 +8,9 @@ use Rattle.radix_node.specs.Shape.{FirstBytes, IsShaped, HasShape}
 use Rattle.radix_node.proofs.NearPlaces.{prefix_rest}
 use Rattle.radix_node.proofs.Paths.{Has-left, Has-right}
 use Rattle.radix_node.proofs.Prefixes.{is_prefix_all, is_prefix_start}
-use Rattle.radix_node.proofs.Sitting.{Sits, first_of_sits, seated}
+use Rattle.radix_node.proofs.NodesBelow.{Sits, first_of_sits, seated}
 use Rattle.radix_txn.specs.Kept.{IsParent}
-use Rattle.radix_txn.proofs.Placed.{path_sits, place_sits}
+use Rattle.radix_txn.proofs.TreePlaces.{path_sits, place_sits}
 
 -- the first byte of a node's path, which is that of an edge
 first_byte : (P : ℕ → Type 0) (path q : Bytes) (n : CellNode) (ns : CellNodes) → IsShaped path (plain_nodes ns) → FirstBytes P (plain_nodes ns) → Sits q n ns → (y : ℕ) × (k : Bytes) × (q ++ n.prefix ≡ y ∷ k) × P y

@@ -11,7 +11,7 @@ use Rattle.radix_node.specs.Shape.{IsShaped, HasShape}
 use Rattle.radix_node.proofs.LeafWatch.{tree_pairs}
 use Rattle.radix_node.proofs.Paths.{HasKey-left, HasKey-right, a_key}
 use Rattle.radix_node.proofs.Prefixes.{is_prefix_all}
-use Rattle.radix_node.proofs.Sitting.{Sits}
+use Rattle.radix_node.proofs.NodesBelow.{Sits}
 use Rattle.radix_txn.specs.Kept.{AreWritten, Kept, NoneBegins}
 use Rattle.radix_txn.specs.declared.target.Target.TheVariants.{Prefix}
 use Rattle.radix_txn.specs.inner.Outside.{AllIn, outside_node}

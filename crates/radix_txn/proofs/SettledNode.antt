@@ -4,7 +4,8 @@ use Rattle.std.proofs.lemmas.List.{length-map}
 use Rattle.std.specs.List.{slice_get}
 use Rattle.mdb_datum.specs.Row.{Pair}
 use Rattle.radix_node.specs.Nodes.{Nodes, no_nodes, node}
-use Rattle.radix_node.specs.Node.{PlainNode, nodes_in, nodes_list, edges_of, edge_node, node_of}
+use Rattle.radix_node.specs.Node.{PlainNode, nodes_in, edges_of, edge_node, node_of}
+use Rattle.radix_node.specs.inner.Siblings.{nodes_list}
 use Rattle.radix_node.specs.declared.edges.Edges.{Edges, out-Edges}
 use Rattle.radix_node.specs.declared.node_ref.NodeRef.{NodeRef}
 use Rattle.radix_node.proofs.Levels.{nodes_list_in, edges_out}

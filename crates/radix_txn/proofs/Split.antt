@@ -1,5 +1,5 @@
 -- Where a key that is put parts from a node's prefix.
-use Rattle.std.proofs.Common.{◌≡◌, ◌≢◌, ◌<◌, ◌≤◌, ◌+◌, ◌++◌, ◌∷◌, ◌∙◌, ℕ, suc, List, [], length, take, drop, get_or, Option, Some, None, refl, sym, ap, subst, arith, Less, Equal, Greater}
+use Rattle.std.proofs.Common.{◌≡◌, ◌≢◌, ◌<◌, ◌≤◌, ◌+◌, ◌++◌, ◌∷◌, ◌∙◌, ℕ, suc, List, [], length, take, drop, get_or, Some, None, refl, sym, ap, arith, Less, Equal, Greater}
 use Rattle.std.proofs.Math.Seq.{drop-cons}
 use Rattle.std.specs.Ordering.{nat_cmp}
 use Rattle.std.specs.FinMap.Entries as entries
@@ -14,7 +14,6 @@ use Rattle.radix_node.proofs.ByteCompare.{what_equal}
 use Rattle.radix_txn.specs.inner.Edits.{insert}
 use Rattle.radix_txn.specs.inner.PutAt.{grown_parts, grown_node}
 use Rattle.radix_txn.specs.inner.Below.{over, insert_below, leaf_node}
-use Rattle.radix_node.proofs.LookupSteps.{led}
 use Rattle.radix_txn.proofs.EditPlaces.{found_at}
 
 module _ (p k : List ℕ) (n : ℕ) (is : n ≡ length (common p k)) where
@@ -128,32 +127,13 @@ module _ (k : List ℕ) (m : PlainNode) (n : ℕ) (is : n ≡ length (common m.p
       onward [] = refl
       onward (x ∷ l) = refl
 
--- ---- the edges of the upper node
+-- ---- the rests themselves
 
--- a label and what comes after it are the rest of a prefix
-led_rest : (p q : List ℕ) (n : ℕ) (m : PlainNode) → n < length p → q ≡ drop (n + 1) p → led (get_or p n 0) (lower_node q m) ≡ lower_node (drop n p) m
-led_rest p q n m lt rest =
+-- a byte and what comes after it are the rest from there
+pub rest_led : (p q : List ℕ) (n : ℕ) → n < length p → q ≡ drop (n + 1) p → get_or p n 0 ∷ q ≡ drop n p
+rest_led p q n lt rest =
     let e : n + 1 ≡ suc n = omega arith in
-    (λ i. lower_node (get_or p n 0 ∷ (rest ∙ ap (λ j. drop j p) e) i) m)
-    ∙ ap (λ (z : List ℕ). lower_node z m) (sym (drop-cons p n 0 lt))
-
-pub lower_edge : (m low : PlainNode) (p q : List ℕ) (n : ℕ) → p ≡ m.prefix → n < length m.prefix → q ≡ drop (n + 1) p → low ≡ lower_node q m → led (get_or p n 0) low ≡ lower_node (drop n m.prefix) m
-lower_edge m low p q n is lt rest same =
-    ap (led (get_or p n 0)) same
-    ∙ led_rest p q n m (subst (λ (z : List ℕ). n < length z) (sym is) lt) rest
-    ∙ ap (λ (z : List ℕ). lower_node (drop n z) m) is
-
-pub beside_edge : (pair : Pair) (new : PlainNode) (k q : List ℕ) (n : ℕ) → n < length k → q ≡ drop (n + 1) k → new ≡ leaf_node q pair → led (get_or k n 0) new ≡ leaf_node (drop n k) pair
-beside_edge pair new k q n lt rest same = ap (led (get_or k n 0)) same ∙ led_rest k q n (leaf_node [] pair) lt rest
-
-pub one_edge : (low n : PlainNode) (es fs : List PlainNode) → fs ≡ edge_put low es → es ≡ [] → low ≡ n → fs ≡ edge_put n []
-one_edge low n es fs put none same = put ∙ (λ i. edge_put (same i) (none i))
-
-pub two_edges : (new n : PlainNode) (es fs gs : List PlainNode) → gs ≡ edge_put new fs → fs ≡ es → new ≡ n → gs ≡ edge_put n es
-two_edges new n es fs gs put more same = put ∙ (λ i. edge_put (same i) (more i))
-
-pub with_edges : (prefix : List ℕ) (leaf : Option Pair) (es fs : List PlainNode) (r : PlainNode) → r ≡ record { prefix = prefix; leaf = leaf; under = nodes_in fs } → fs ≡ es → r ≡ record { prefix = prefix; leaf = leaf; under = nodes_in es }
-with_edges prefix leaf es fs r is same = is ∙ (λ i. record { prefix = prefix; leaf = leaf; under = nodes_in (same i) })
+    ap (λ (z : List ℕ). get_or p n 0 ∷ z) (rest ∙ ap (λ j. drop j p) e) ∙ sym (drop-cons p n 0 lt)
 
 -- the rest goes on where it doesn't end
 pub not_over : (p k : List ℕ) (n : ℕ) → n ≡ length (common p k) → n ≢ length k → n < length k

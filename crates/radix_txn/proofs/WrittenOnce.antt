@@ -11,7 +11,7 @@ use Rattle.radix_node.specs.Shape.{IsKeyed, HasShape}
 use Rattle.radix_node.proofs.LeafWatch.{tree_leaf_piece}
 use Rattle.radix_node.proofs.Members.{leaf_is, no_leaf_node}
 use Rattle.radix_node.proofs.Paths.{Has-split}
-use Rattle.radix_node.proofs.Sitting.{Sits, leaf_sits, seated}
+use Rattle.radix_node.proofs.NodesBelow.{Sits, leaf_sits, seated}
 use Rattle.radix_txn.specs.Kept.{AreWritten, IsParent, Kept, NoneBegins}
 use Rattle.radix_txn.specs.declared.target.Target.{Target}
 use Rattle.radix_txn.specs.declared.target.Target.TheVariants.{Key}
@@ -20,7 +20,7 @@ use Rattle.radix_txn.proofs.KeptInTurn.{prefix_then}
 use Rattle.radix_txn.proofs.KeysAfter.{keys_put, keys_without}
 use Rattle.radix_txn.proofs.OutsideStays.{IsOther, NotUnder, leaf_outside, node_outside, root_leaf_outside}
 use Rattle.radix_txn.proofs.Parents.{parent_above}
-use Rattle.radix_txn.proofs.Placed.{place_sits, same_place, tree_leaf}
+use Rattle.radix_txn.proofs.TreePlaces.{place_sits, same_place, tree_leaf}
 
 -- a parent that begins no key has no longer path that does
 pub none_longer : (parent q : Bytes) (keys : List Bytes) → is_prefix parent q ≡ true → NoneBegins parent keys → NoneBegins q keys

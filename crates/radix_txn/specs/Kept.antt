@@ -29,7 +29,8 @@ pub record Kept (old new : CellTree) (keys : List Bytes) : Type 0 where
   -- each leaf keeps its cell, and its row, where its key wasn't written
   pub leaves : (l : CellLeaf) → Has l (leaves_of old) → (Has l.pair.0 keys → ⊥) → Has l (leaves_of new)
 
--- the writes of these keys lie between two trees: all else is kept, and no other key has come or gone
+-- the writes of these keys lie between two trees: all else is kept, and no other key has come or
+-- gone
 pub record AreWritten (old new : CellTree) (keys : List Bytes) : Type 0 where
   pub kept : Kept old new keys
   pub same : (key : Bytes) → (Has key keys → ⊥)

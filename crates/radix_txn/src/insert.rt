@@ -3,13 +3,15 @@ ghost use Rattle.std.specs.Prelude.{◌≡◌, ◌∷◌, [], ◌++◌, ◌<◌,
 ghost use Rattle.std.specs.Arc.{arc_value};
 ghost use Rattle.mdb_datum.specs.Bytes.{Bytes};
 ghost use Rattle.watch_word.specs.Logs.{Cell};
-ghost use Rattle.radix_node.specs.CellNode.{cell_node, cell_ref, led_node};
-ghost use Rattle.radix_node.specs.Cells.{AreBelow, a_leaf, cells_in, cells_list, no_cells, pieces_of, plain_of, root_of};
-ghost use Rattle.radix_node.specs.Node.{below_prefix, edge_node, leaf_pair, node_of, nodes_in, nodes_list, plain_node};
+ghost use Rattle.radix_node.specs.CellNode.{cell_edges, cell_node, cell_put, cell_ref, led_node};
+ghost use Rattle.radix_node.specs.Edges.{edge_put};
+ghost use Rattle.radix_node.specs.Cells.{AreBelow, CellNode, a_leaf, cells_in, no_cells, pieces_of, plain_of, root_of};
+ghost use Rattle.radix_node.specs.Node.{PlainNode, below_prefix, edge_node, edges_of, leaf_pair, node_of, nodes_in, plain_node};
 ghost use Rattle.radix_node.specs.Nodes.{common, no_nodes, pairs_of};
 ghost use Rattle.radix_node.specs.Pairs.{find, put};
 ghost use Rattle.radix_node.specs.Shape.{HasShape};
 ghost use Rattle.radix_node.specs.inner.Seek.{seek_plain};
+ghost use Rattle.radix_node.specs.inner.Siblings.{cells_list, nodes_list};
 ghost use Rattle.radix_txn.specs.declared.target.Target.TheVariants.{Key};
 ghost use Rattle.radix_txn.specs.inner.Below.{IsShapedBelow, insert_below, leaf_node, over, row_in};
 ghost use Rattle.radix_txn.specs.inner.Outside.{AllIn, outside_node};
@@ -18,13 +20,14 @@ ghost use Rattle.radix_txn.specs.inner.PutAt.{grown_node};
 ghost use Rattle.radix_txn.specs.inner.Steps.{IsNextOf, IsOnward, Steps, one_drawn, one_left};
 
 use crate::cells::Cells;
+use crate::made;
 use mdb_datum::Row;
 use radix_node::{Edge, Edges, Leaf, Node, NodeRef, Tree};
 use std::alloc::{AllocError, Global};
 use std::sync::Arc;
 
-/// The tree with a row under a key, and the old row of that key. Beside want of memory it is refused
-/// where there are 2^64 - 1 keys already.
+/// The tree with a row under a key, and the old row of that key. Beside want of memory it is
+/// refused where there are 2^64 - 1 keys already.
 pub fn tree_with(
     tree: &Tree,
     key: &[u8],
@@ -49,9 +52,7 @@ pub fn tree_with(
     ensures onward { OnOk result (IsOnward cells.old cells.new) }
 {
     let root = tree.root();
-    let alloc = root.edges().allocator();
-    let cell = cells.draw(alloc)?;
-    let leaf = Leaf::of(alloc, key, row, cell)?;
+    let leaf = made::new_leaf(root.edges().allocator(), key, row, cells)?;
     let Inserted { node, old } = insert(root, key, leaf, cells)?;
     let len = len_after(tree.len(), &old)?;
     Ok((Tree::of_root(node, len), old))
@@ -106,8 +107,7 @@ fn insert(
     let (at, edge) = match node.edges().find_edge(*first) {
         Ok(found) => found,
         Err(at) => {
-            let child = childless(node.edges().allocator(), after, leaf, cells)?;
-            let node = with_edge(node, at, at, Edge::of(*first, child), cells)?;
+            let node = add_edge(node, at, *first, after, leaf, cells)?;
             return Ok(Inserted { node, old: None });
         }
     };
@@ -115,11 +115,11 @@ fn insert(
     let shared = child.common_prefix_len(after);
     if shared < child.prefix().len() {
         let child = split(child, shared, after, leaf, cells)?;
-        let node = with_edge(node, at, at + 1, Edge::of(*first, child), cells)?;
+        let node = with_child(node, at, *first, child, cells)?;
         return Ok(Inserted { node, old: None });
     }
     let Inserted { node: child, old } = insert(child, &after[shared..], leaf, cells)?;
-    let node = with_edge(node, at, at + 1, Edge::of(*first, child), cells)?;
+    let node = with_child(node, at, *first, child, cells)?;
     Ok(Inserted { node, old })
 }
 
@@ -145,54 +145,91 @@ fn replace_leaf(
     ensures onward { OnOk result (IsOnward cells.old cells.new) }
 {
     let old = node.share_row()?;
-    let cell = cells.draw(node.edges().allocator())?;
-    let new = node.with_leaf(leaf, cell)?;
     cells.leave_leaf(node)?;
-    cells.leave(node.cell())?;
-    Ok(Inserted { node: new, old })
+    let node = made::with_leaf(node, leaf, cells)?;
+    Ok(Inserted { node, old })
 }
 
-/// A node with a leaf and no edges.
-fn childless(
+/// The edge of a byte to a new node with a leaf and no edges.
+fn leaf_edge(
     alloc: Global,
+    label: u8,
     prefix: &[u8],
     leaf: Arc<Leaf, Global>,
     cells: &mut Cells,
-) -> Result<NodeRef, AllocError>
+) -> Result<Edge, AllocError>
     requires left { cells.old.next < 2 ^ 63 }
 
-    ensures node { IfOk result (λ r. node_of r ≡ leaf_node prefix.now (leaf_pair leaf)) }
-
-    ensures cells { IfOk result (λ r. (c : Cell) × IsNextOf cells.old c × (cell_ref r ≡ record {
+    ensures edge { IfOk result
+        (λ e. edge_node e ≡ leaf_node (label ∷ prefix.now) (leaf_pair leaf)) }
+    ensures cells { IfOk result (λ e. (c : Cell) × IsNextOf cells.old c × (led_node e ≡ record {
       cell = c;
-      prefix = prefix.now;
+      prefix = label ∷ prefix.now;
       leaf = Some (arc_value leaf);
       under = no_cells;
     })) }
     ensures drawn { OnOk result (cells.new ≡ one_drawn cells.old) }
     ensures begun { cells.old.first ≤ cells.old.next }
 {
-    let cell = cells.draw(alloc)?;
-    Ok(Node::of(alloc, prefix, Some(leaf), Edges::new(alloc), cell)?)
+    let child = made::of(prefix, Some(leaf), Edges::new(alloc), cells)?;
+    Ok(Edge::of(label, child))
 }
 
-/// The node with `edge` in place of those from `start` to `end`.
-fn with_edge(
+/// The node with one edge more, to a new node with the leaf, where `at` is the place of its label.
+fn add_edge(
     node: &Node,
-    start: usize,
-    end: usize,
-    edge: Edge,
+    at: usize,
+    label: u8,
+    prefix: &[u8],
+    leaf: Arc<Leaf, Global>,
     cells: &mut Cells,
 ) -> Result<NodeRef, AllocError>
-    requires ordered { start ≤ end }
-    requires in_range { let n = plain_node node.now in end ≤ length (nodes_list n.under) }
-    requires left { cells.old.next < 2 ^ 63 }
+    requires in_range { let n = plain_node node.now in at ≤ length (nodes_list n.under) }
+    requires left { cells.old.next + 2 ≤ 2 ^ 63 }
 
     ensures node { let n = plain_node node.now in let es = nodes_list n.under in
         IfOk result (λ r. node_of r ≡ record {
           prefix = n.prefix;
           leaf = n.leaf;
-          under = nodes_in (take start es ++ edge_node edge ∷ drop end es);
+          under = nodes_in (take at es ++ leaf_node (label ∷ prefix.now) (leaf_pair leaf) ∷ drop at es);
+        }) }
+
+    ensures cells { IfOk result (λ r. (front : Bytes) → Steps
+        (a_leaf (arc_value leaf) ∷ whole (led front (cell_node node.now))) cells.old
+        (whole (led front (cell_ref r))) cells.new) }
+    ensures edge { let n = cell_node node.now in let es = cells_list n.under in
+        IfOk result (λ r. (c : Cell) × (cells.old.next ≤ c.id) × (e : CellNode) × (cell_ref r ≡ record {
+          cell = c;
+          prefix = n.prefix;
+          leaf = n.leaf;
+          under = cells_in (take at es ++ e ∷ drop at es);
+        })) }
+    ensures few { OnOk result (cells.new.next ≡ cells.old.next + 2) }
+    ensures onward { OnOk result (IsOnward cells.old cells.new) }
+{
+    let edge = leaf_edge(node.edges().allocator(), label, prefix, leaf, cells)?;
+    let edges = node.edges().spliced(at, at, edge)?;
+    Ok(made::with_edges(node, edges, cells)?)
+}
+
+/// The node with another node at its edge at a place, which has this label.
+fn with_child(
+    node: &Node,
+    at: usize,
+    label: u8,
+    child: NodeRef,
+    cells: &mut Cells,
+) -> Result<NodeRef, AllocError>
+    requires in_range { let n = plain_node node.now in at < length (nodes_list n.under) }
+    requires left { cells.old.next < 2 ^ 63 }
+
+    ensures node { let n = plain_node node.now in let es = nodes_list n.under in
+        let k = node_of child in
+        let e : PlainNode = record { prefix = label ∷ k.prefix; leaf = k.leaf; under = k.under } in
+        IfOk result (λ r. node_of r ≡ record {
+          prefix = n.prefix;
+          leaf = n.leaf;
+          under = nodes_in (take at es ++ e ∷ drop (at + 1) es);
         }) }
 
     ensures cells { let n = cell_node node.now in let es = cells_list n.under in
@@ -200,21 +237,18 @@ fn with_edge(
           cell = c;
           prefix = n.prefix;
           leaf = n.leaf;
-          under = cells_in (take start es ++ led_node edge ∷ drop end es);
+          under = cells_in (take at es ++ led (label ∷ []) (cell_ref child) ∷ drop (at + 1) es);
         })) }
     ensures left { let n = cell_node node.now in
         OnOk result (cells.new ≡ one_left n.cell (one_drawn cells.old)) }
-    ensures begun { cells.old.first ≤ cells.old.next }
 {
-    let cell = cells.draw(node.edges().allocator())?;
-    let new = node.with_edges(node.edges().spliced(start, end, edge)?, cell)?;
-    cells.leave(node.cell())?;
-    Ok(new)
+    let edges = node.edges().spliced(at, at + 1, Edge::of(label, child))?;
+    Ok(made::with_edges(node, edges, cells)?)
 }
 
 /// A node with the bytes that the node's prefix and the rest have in common, above a copy of the
-/// node that has the rest of its prefix. The leaf goes into the upper node, where the rest ends with
-/// what they have in common, and else into a new node beside the copy.
+/// node that has the rest of its prefix. The leaf goes into the upper node, where the rest ends
+/// with what they have in common, and else into a new node beside the copy.
 fn split(
     node: &Node,
     shared: usize,
@@ -236,19 +270,106 @@ fn split(
     ensures few { OnOk result (cells.new.next ≤ cells.old.next + length rest.now + 2) }
     ensures onward { OnOk result (IsOnward cells.old cells.new) }
 {
-    let alloc = node.edges().allocator();
     let prefix = node.prefix();
-    let cell = cells.draw(alloc)?;
-    let lower = node.with_prefix(&prefix[shared + 1..], cell)?;
-    cells.leave(node.cell())?;
-    let mut edges = Edges::new(alloc);
-    edges.put(Edge::of(prefix[shared], lower))?;
+    let lower = lower_edge(node, prefix[shared], &prefix[shared + 1..], cells)?;
     if shared == rest.len() {
-        let cell = cells.draw(alloc)?;
-        return Ok(Node::of(alloc, rest, Some(leaf), edges, cell)?);
+        return Ok(leaf_above(lower, rest, leaf, cells)?);
     }
-    let beside = childless(alloc, &rest[shared + 1..], leaf, cells)?;
-    edges.put(Edge::of(rest[shared], beside))?;
-    let cell = cells.draw(alloc)?;
-    Ok(Node::of(alloc, &rest[..shared], None, edges, cell)?)
+    Ok(fork(lower, rest, shared, leaf, cells)?)
+}
+
+/// The edge of a byte to a copy of the node that has another prefix.
+fn lower_edge(node: &Node, label: u8, prefix: &[u8], cells: &mut Cells) -> Result<Edge, AllocError>
+    requires left { cells.old.next < 2 ^ 63 }
+
+    ensures edge { let n = plain_node node.now in IfOk result (λ e. edge_node e
+        ≡ record { prefix = label ∷ prefix.now; leaf = n.leaf; under = n.under }) }
+    ensures cells { let n = cell_node node.now in
+        IfOk result (λ e. (c : Cell) × IsNextOf cells.old c × (led_node e
+        ≡ record { cell = c; prefix = label ∷ prefix.now; leaf = n.leaf; under = n.under })) }
+    ensures left { let n = cell_node node.now in
+        OnOk result (cells.new ≡ one_left n.cell (one_drawn cells.old)) }
+    ensures begun { cells.old.first ≤ cells.old.next }
+{
+    let lower = made::with_prefix(node, prefix, cells)?;
+    Ok(Edge::of(label, lower))
+}
+
+/// A node with a leaf above one edge.
+fn leaf_above(
+    edge: Edge,
+    prefix: &[u8],
+    leaf: Arc<Leaf, Global>,
+    cells: &mut Cells,
+) -> Result<NodeRef, AllocError>
+    requires left { cells.old.next < 2 ^ 63 }
+
+    ensures node { IfOk result (λ r. node_of r ≡ record {
+      prefix = prefix.now;
+      leaf = Some (leaf_pair leaf);
+      under = nodes_in (edge_node edge ∷ []);
+    }) }
+    ensures cells { IfOk result (λ r. (c : Cell) × IsNextOf cells.old c × (cell_ref r ≡ record {
+      cell = c;
+      prefix = prefix.now;
+      leaf = Some (arc_value leaf);
+      under = cells_in (led_node edge ∷ []);
+    })) }
+    ensures drawn { OnOk result (cells.new ≡ one_drawn cells.old) }
+{
+    let mut edges = Edges::new(edge.node().edges().allocator());
+    edges.put(edge)?;
+    Ok(made::of(prefix, Some(leaf), edges, cells)?)
+}
+
+/// A node above two edges: this one, and one to a new node with the leaf. Its prefix is what the
+/// rest of the key has up to a place, by whose byte the new edge goes.
+fn fork(
+    edge: Edge,
+    rest: &[u8],
+    at: usize,
+    leaf: Arc<Leaf, Global>,
+    cells: &mut Cells,
+) -> Result<NodeRef, AllocError>
+    requires in_range { at < length rest.now }
+    requires left { cells.old.next + 2 ≤ 2 ^ 63 }
+
+    ensures node { IfOk result (λ r. node_of r ≡ record {
+      prefix = take at rest.now;
+      leaf = None;
+      under = nodes_in (edge_put (leaf_node (drop at rest.now) (leaf_pair leaf)) (edge_node edge ∷ []));
+    }) }
+    ensures cells { IfOk result (λ r. (v : CellNode) × (c : Cell)
+        × IsNextOf cells.old v.cell × IsNextOf (one_drawn cells.old) c
+        × (v ≡ record {
+          cell = v.cell;
+          prefix = drop at rest.now;
+          leaf = Some (arc_value leaf);
+          under = no_cells;
+        })
+        × (cell_ref r ≡ record {
+          cell = c;
+          prefix = take at rest.now;
+          leaf = None;
+          under = cells_in (cell_put v (led_node edge ∷ []));
+        })) }
+    ensures drawn { OnOk result (cells.new ≡ one_drawn (one_drawn cells.old)) }
+{
+    let alloc = edge.node().edges().allocator();
+    let beside = leaf_edge(alloc, rest[at], &rest[at + 1..], leaf, cells)?;
+    let edges = two_edges(alloc, edge, beside)?;
+    Ok(made::of(&rest[..at], None, edges, cells)?)
+}
+
+/// An edge, and another one in the place of its label.
+fn two_edges(alloc: Global, edge: Edge, beside: Edge) -> Result<Edges, AllocError>
+    ensures edges { IfOk result
+        (λ es. edges_of es ≡ edge_put (edge_node beside) (edge_node edge ∷ [])) }
+    ensures cells { IfOk result
+        (λ es. cell_edges es ≡ cell_put (led_node beside) (led_node edge ∷ [])) }
+{
+    let mut edges = Edges::new(alloc);
+    edges.put(edge)?;
+    edges.put(beside)?;
+    Ok(edges)
 }

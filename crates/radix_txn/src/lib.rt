@@ -11,6 +11,7 @@
 mod cells;
 mod edit;
 mod insert;
+mod made;
 mod notice;
 mod remains;
 mod remove;

@@ -4,16 +4,18 @@ ghost use Rattle.std.specs.Arc.{arc_value};
 ghost use Rattle.mdb_datum.specs.Bytes.{Bytes};
 ghost use Rattle.watch_word.specs.Logs.{Cell};
 ghost use Rattle.radix_node.specs.CellNode.{cell_edges, cell_node, cell_ref, led_node};
-ghost use Rattle.radix_node.specs.Cells.{CellNode, cells_in, cells_list, no_cells, node_pieces};
-ghost use Rattle.radix_node.specs.Node.{edge_node, edges_of, leaf_pair, nodes_list, nodes_in, node_of, plain_edge, plain_node};
+ghost use Rattle.radix_node.specs.Cells.{CellNode, cells_in, no_cells, node_pieces};
+ghost use Rattle.radix_node.specs.Node.{edge_node, edges_of, leaf_pair, nodes_in, node_of, plain_edge, plain_node};
 ghost use Rattle.radix_node.specs.Nodes.{no_nodes};
+ghost use Rattle.radix_node.specs.inner.Siblings.{cells_list, nodes_list};
 ghost use Rattle.radix_txn.specs.inner.Below.{settled_node};
-ghost use Rattle.radix_txn.specs.inner.Outside.{AllIn, inner_pieces};
+ghost use Rattle.radix_txn.specs.inner.Outside.{AllIn, below_pieces, inner_pieces};
 ghost use Rattle.radix_txn.specs.inner.Pieces.{inside, inside_of, led, ref_list, whole};
 ghost use Rattle.radix_txn.specs.inner.Remains.{remains_of, own_leaf, own_nodes, pieces_left, stays_left};
 ghost use Rattle.radix_txn.specs.inner.Steps.{IsNextOf, IsOnward, Steps, one_drawn, one_left};
 
 use crate::cells::Cells;
+use crate::made;
 use radix_node::{Edge, Edges, Leaf, Node, NodeRef};
 use std::alloc::{AllocError, Global};
 use std::sync::Arc;
@@ -134,9 +136,7 @@ impl Remains {
         ensures begun { cells.old.first ≤ cells.old.next }
     {
         let Remains { leaf, edges } = self;
-        let alloc = edges.allocator();
-        let cell = cells.draw(alloc)?;
-        Ok(Node::of(alloc, b"", leaf, edges, cell)?)
+        Ok(made::of(b"", leaf, edges, cells)?)
     }
 
     /// A node, not the root, with what is left: none, where that is nothing, and merged with the
@@ -158,13 +158,32 @@ impl Remains {
         if leaf.is_some() || edges.len() > 1 {
             return Ok(Some(kept(prefix, leaf, edges, cells)?));
         }
-        match edges.get(0) {
-            None => {
-                let _ = &cells.first;
-                Ok(None)
-            }
-            Some(edge) => Ok(Some(merge_child(prefix, edge, cells)?)),
+        Ok(lone(prefix, &edges, cells)?)
+    }
+}
+
+/// The same without a leaf, and with one edge at most.
+fn lone(prefix: &[u8], edges: &Edges, cells: &mut Cells) -> Result<Option<NodeRef>, AllocError>
+    requires few { length (edges_of edges.now) ≤ 1 }
+    requires left { cells.old.next < 2 ^ 63 }
+
+    ensures plain { IfOk result (λ n. option_map node_of n
+        ≡ settled_node prefix.now None (nodes_in (edges_of edges.now))) }
+
+    ensures cells { IfOk result (λ n. (front : Bytes) → Steps
+        (inside_of None (cells_in (cell_edges edges.now))) cells.old
+        (node_pieces (cells_in (ref_list front n))) cells.new) }
+    ensures stays { IfOk result (λ n. AllIn (below_pieces None (cells_in (cell_edges edges.now)))
+        (inner_pieces (cells_in (ref_list [] n)))) }
+    ensures few { OnOk result (cells.new.next ≤ cells.old.next + 1) }
+    ensures onward { OnOk result (IsOnward cells.old cells.new) }
+{
+    match edges.get(0) {
+        None => {
+            let _ = &cells.first;
+            Ok(None)
         }
+        Some(edge) => Ok(Some(merge_child(prefix, edge, cells)?)),
     }
 }
 
@@ -189,13 +208,11 @@ fn kept(
     ensures few { OnOk result (cells.new.next ≡ cells.old.next + 1) }
     ensures onward { OnOk result (IsOnward cells.old cells.new) }
 {
-    let alloc = edges.allocator();
-    let cell = cells.draw(alloc)?;
-    Ok(Node::of(alloc, prefix, leaf, edges, cell)?)
+    Ok(made::of(prefix, leaf, edges, cells)?)
 }
 
-/// The node at an edge with a prefix and the edge's label before its own prefix: what a node of that
-/// prefix becomes where this edge is all that it has.
+/// The node at an edge with a prefix and the edge's label before its own prefix: what a node of
+/// that prefix becomes where this edge is all that it has.
 fn merge_child(prefix: &[u8], edge: &Edge, cells: &mut Cells) -> Result<NodeRef, AllocError>
     requires left { cells.old.next < 2 ^ 63 }
     ensures plain { let m = edge_node edge.now in IfOk result
@@ -210,12 +227,17 @@ fn merge_child(prefix: &[u8], edge: &Edge, cells: &mut Cells) -> Result<NodeRef,
 {
     let child = edge.node();
     let alloc = child.edges().allocator();
-    let mut joined = Vec::with_capacity(alloc, prefix.len() + 1 + child.prefix().len())?;
+    let joined = joined(alloc, prefix, edge.label(), child.prefix())?;
+    Ok(made::with_prefix(child, &joined, cells)?)
+}
+
+/// A prefix, a label and the prefix behind it.
+fn joined(alloc: Global, prefix: &[u8], label: u8, rest: &[u8]) -> Result<Vec<u8>, AllocError>
+    ensures { IfOk result (λ p. p.items ≡ prefix.now ++ label ∷ rest.now) }
+{
+    let mut joined = Vec::with_capacity(alloc, prefix.len() + 1 + rest.len())?;
     joined.extend_from_slice(prefix)?;
-    joined.push(edge.label())?;
-    joined.extend_from_slice(child.prefix())?;
-    let cell = cells.draw(alloc)?;
-    let merged = child.with_prefix(&joined, cell)?;
-    cells.leave(child.cell())?;
-    Ok(merged)
+    joined.push(label)?;
+    joined.extend_from_slice(rest)?;
+    Ok(joined)
 }

@@ -3,10 +3,11 @@ ghost use Rattle.std.specs.Prelude.{◌≡◌, ◌<◌, ◌≤◌, ◌+◌, ◌+
 ghost use Rattle.std.specs.List.{slice_get};
 ghost use Rattle.mdb_datum.specs.Bytes.{Bytes};
 ghost use Rattle.radix_node.specs.CellNode.{cell_node, led_node};
-ghost use Rattle.radix_node.specs.Cells.{AreBelow, CellNode, cells_in, cells_list, pieces_of, plain_of, root_of};
-ghost use Rattle.radix_node.specs.Node.{below_prefix, edge_node, nodes_in, nodes_list, plain_node};
+ghost use Rattle.radix_node.specs.Cells.{AreBelow, CellNode, cells_in, pieces_of, plain_of, root_of};
+ghost use Rattle.radix_node.specs.Node.{below, below_prefix, edge_node, nodes_in, plain_node};
 ghost use Rattle.radix_node.specs.Nodes.{pairs_of};
 ghost use Rattle.radix_node.specs.Shape.{HasShape};
+ghost use Rattle.radix_node.specs.inner.Siblings.{cells_list, nodes_list};
 ghost use Rattle.radix_txn.specs.inner.Below.{IsShapedBelow, settled_node};
 ghost use Rattle.radix_txn.specs.inner.Outside.{AllIn, inner_pieces, outside_node};
 ghost use Rattle.radix_txn.specs.inner.Pieces.{led, whole};
@@ -80,9 +81,9 @@ struct Removed {
     count: u64,
 }
 
-/// The node without the leaf at the end of the rest of a key, where `rest` is what the key has after
-/// the node's path, or without the leaves whose keys go on with it; none where there is no such
-/// leaf. Nothing is copied before one is found, so only then can it want for memory.
+/// The node without the leaf at the end of the rest of a key, where `rest` is what the key has
+/// after the node's path, or without the leaves whose keys go on with it; none where there is no
+/// such leaf. Nothing is copied before one is found, so only then can it want for memory.
 fn remove(
     node: &Node,
     rest: &[u8],
@@ -120,84 +121,94 @@ fn remove(
         if !target.covers(child.prefix(), after) {
             return Ok(None);
         }
-        return Ok(Some(Removed {
-            remains: without_child(node, at, edge, cells)?,
-            row: None,
-            count: child.count(),
-        }));
+        return Ok(Some(without_child(node, at, edge, cells)?));
     };
     match remove(child, left, target, cells)? {
         None => Ok(None),
-        Some(below) => Ok(Some(Removed {
-            remains: above(node, at, edge, below.remains, cells)?,
-            row: below.row,
-            count: below.count,
-        })),
+        Some(below) => Ok(Some(above(node, at, edge, below, cells)?)),
     }
 }
 
-/// What a node is left with without the edge at a place, with all under it.
+/// The node without the edge at a place, with all under it.
 fn without_child(
     node: &Node,
     at: usize,
     edge: &Edge,
     cells: &mut Cells,
-) -> Result<Remains, AllocError>
+) -> Result<Removed, AllocError>
     requires in_range { let n = plain_node node.now in at < length (nodes_list n.under) }
     requires there { let n = cell_node node.now in
         slice_get (cells_list n.under) at ≡ Some (led_node edge.now) }
+    requires few { length (pairs_of (below (edge_node edge.now))) < 2 ^ 64 }
 
     ensures plain { let n = plain_node node.now in let es = nodes_list n.under in
-        IfOk result (λ r. remains_of r
+        IfOk result (λ r. remains_of r.remains
         ≡ record { leaf = n.leaf; nodes = nodes_in (take at es ++ drop (at + 1) es) }) }
+    ensures gone { IfOk result
+        (λ r. (r.row ≡ None) × (r.count ≡ length (pairs_of (below (edge_node edge.now))))) }
 
     ensures cells { IfOk result (λ r. (front : Bytes) → Steps
-        (whole (led front (cell_node node.now))) cells.old (pieces_left r) cells.new) }
-    ensures leaf { let n = cell_node node.now in IfOk result (λ r. own_leaf r ≡ n.leaf) }
+        (whole (led front (cell_node node.now))) cells.old (pieces_left r.remains) cells.new) }
+    ensures leaf { let n = cell_node node.now in IfOk result (λ r. own_leaf r.remains ≡ n.leaf) }
     ensures nodes { let n = cell_node node.now in let es = cells_list n.under in
-        IfOk result (λ r. own_nodes r ≡ cells_in (take at es ++ drop (at + 1) es)) }
+        IfOk result (λ r. own_nodes r.remains ≡ cells_in (take at es ++ drop (at + 1) es)) }
     ensures drawn { OnOk result (cells.new.next ≡ cells.old.next) }
     ensures onward { OnOk result (IsOnward cells.old cells.new) }
 {
     cells.leave_all(edge.node())?;
     cells.leave(node.cell())?;
-    Ok(Remains::without_edge(node, at)?)
+    Ok(Removed {
+        remains: Remains::without_edge(node, at)?,
+        row: None,
+        count: edge.node().count(),
+    })
 }
 
-/// What a node is left with where the node at the edge at a place is left with `below`.
+/// The node where that at the edge at a place is left with `below`.
 fn above(
     node: &Node,
     at: usize,
     edge: &Edge,
-    below: Remains,
+    below: Removed,
     cells: &mut Cells,
-) -> Result<Remains, AllocError>
+) -> Result<Removed, AllocError>
     requires in_range { let n = plain_node node.now in at < length (nodes_list n.under) }
     requires left { cells.old.next < 2 ^ 63 }
 
     ensures plain { let n = plain_node node.now in let es = nodes_list n.under in
-        let m = edge_node edge.now in let b = remains_of below in
+        let m = edge_node edge.now in let b = remains_of below.remains in
         let child = settled_node m.prefix b.leaf b.nodes in
-        IfOk result (λ r. remains_of r ≡ record {
+        IfOk result (λ r. remains_of r.remains ≡ record {
           leaf = n.leaf;
           nodes = nodes_in (take at es ++ (option_to_list child ++ drop (at + 1) es));
         }) }
+    ensures gone { IfOk result (λ r. (r.row ≡ below.row) × (r.count ≡ below.count)) }
 
-    ensures cells { let n = cell_node node.now in IfOk result (λ r. (front : Bytes) (k : CellNode) (old : Ledger)
+    ensures cells { let n = cell_node node.now in
+        IfOk result (λ r. (front : Bytes) (k : CellNode) (old : Ledger)
         → slice_get (cells_list n.under) at ≡ Some k → IsOnward old cells.old
-        → Steps (whole k) old (pieces_left below) cells.old
-        → Steps (whole (led front n)) old (pieces_left r) cells.new) }
-    ensures leaf { let n = cell_node node.now in IfOk result (λ r. own_leaf r ≡ n.leaf) }
+        → Steps (whole k) old (pieces_left below.remains) cells.old
+        → Steps (whole (led front n)) old (pieces_left r.remains) cells.new) }
+    ensures leaf { let n = cell_node node.now in IfOk result (λ r. own_leaf r.remains ≡ n.leaf) }
     ensures nodes { let n = cell_node node.now in let es = cells_list n.under in
         IfOk result (λ r. (ns : List CellNode)
-        × (own_nodes r ≡ cells_in (take at es ++ (ns ++ drop (at + 1) es)))
-        × AllIn (stays_left below) (inner_pieces (cells_in ns))) }
+        × (own_nodes r.remains ≡ cells_in (take at es ++ (ns ++ drop (at + 1) es)))
+        × AllIn (stays_left below.remains) (inner_pieces (cells_in ns))) }
     ensures drawn { OnOk result (cells.new.next ≤ cells.old.next + 1) }
     ensures onward { OnOk result (IsOnward cells.old cells.new) }
 {
-    let remains = Remains::above(node, at, edge, below, cells)?;
+    let Removed {
+        remains,
+        row,
+        count,
+    } = below;
+    let left = Remains::above(node, at, edge, remains, cells)?;
     cells.leave(node.cell())?;
-    Ok(remains)
+    Ok(Removed {
+        remains: left,
+        row,
+        count,
+    })
 }
 
 /// The node without its own leaf, or without all at it and under it.

@@ -35,7 +35,8 @@ one_reached : (told : Option Contents) (name m : Bytes) (at : ℕ) → IsReached
 one_reached told name m zero r = (refl, r)
 one_reached told name m (suc at) r = absurd r.2
 
--- what the reading comes to where the files and their count of faults are still those of the beginning
+-- what the reading comes to where the files and their count of faults are still those of the
+-- beginning
 pub reads_since : {T : Type 0} (contents : T → List Bytes) (told told' : Option Contents) (reliable reliable' : Bool) (before before' now first : ℕ) (names : List Bytes) (r : Result T LoadError) →
     told' ≡ told → reliable' ≡ reliable → before' ≡ before →
     Reads contents (observed told' reliable' before' now) first names r → Reads contents (observed told reliable before now) first names r

@@ -1,6 +1,6 @@
-pub mod Excluded
+pub mod Exclusion
 pub mod FilesInOrder
 pub mod InOrder
-pub mod Loaded
+pub mod LoadAnswers
 pub mod Pieces
 pub mod ScriptsInOrder

@@ -1,5 +1,5 @@
--- The first place at which a look-up tells that a key is taken is that of the first index that another
--- row doesn't leave free.
+-- The first place at which a look-up tells that a key is taken is that of the first index that
+-- another row doesn't leave free.
 use Rattle.std.proofs.Common.{◌≡◌, ◌∙◌, ◌<◌, ◌≤◌, ◌+◌, ℕ, List, [], ◌∷◌, map, drop, length, get_or, Bool, true, false, not, cond, Option, Some, None, Ok, Err, Contains, refl, sym, ap, subst}
 use Rattle.std.specs.Prelude.{if◌then◌else◌}
 use Rattle.std.specs.List.{list_any, enumerate_from, zip}
@@ -10,12 +10,12 @@ use Rattle.mdb_schema.specs.Entries.{entries}
 use Rattle.mdb_schema.specs.Schema.{IndexSchema, TableSchema}
 use Rattle.mdb_schema.specs.State.{AreLawfulRows, id_key, full_keys, row_at}
 use Rattle.mdb_schema.specs.Tests.{◌>>=◌, passed, each}
-use Rattle.mdb_schema.specs.Touched.{full_keys_of}
 use Rattle.mdb_schema.specs.Write.{Tested, Placed, indexes_of, key_taken, is_taken_by, leaves_free}
+use Rattle.mdb_schema.specs.inner.Edits.{full_keys_of}
 use Rattle.mdb_schema.proofs.EntriesOfRows.{apart_in}
 use Rattle.mdb_schema.proofs.FreeKeys.{is_taken_by-stored}
 use Rattle.mdb_schema.proofs.Membership.{Contains-first, Contains-later}
-use Rattle.mdb_schema.proofs.Passed.{goes_on}
+use Rattle.mdb_schema.proofs.PassedTests.{goes_on}
 use Rattle.radix_txn.specs.Txn.{Txn, txn_pairs}
 use Rattle.table_index.specs.inner.PutKeys.{first_taken, has_taken, keys_of_each}
 use Rattle.table_index.specs.inner.TreeEdits.{NewAndOld}

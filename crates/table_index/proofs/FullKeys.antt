@@ -10,8 +10,8 @@ use Rattle.mdb_schema.specs.Tests.{◌>>=◌, passed, each}
 use Rattle.mdb_schema.specs.Write.{Tested, Placed, indexes_of, missing, keys_at, has_key}
 use Rattle.mdb_schema.proofs.Chains.{passed_on, each_parts}
 use Rattle.mdb_schema.proofs.IdKeys.{keys_at-ok}
-use Rattle.mdb_schema.proofs.Passed.{goes_on, each_from}
-use Rattle.mdb_schema.proofs.Tested.{placed-index, takes-from}
+use Rattle.mdb_schema.proofs.PassedTests.{goes_on, each_from}
+use Rattle.mdb_schema.proofs.WriteTests.{placed-index, takes-from}
 use Rattle.table_index.specs.inner.Keys.{full_keys_at}
 
 module _ (t : TableSchema) (row : Fields) where

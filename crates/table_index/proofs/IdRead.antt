@@ -12,7 +12,7 @@ use Rattle.mdb_schema.specs.State.{full_key, id_keys}
 use Rattle.mdb_schema.specs.Tests.{◌>>=◌, needed, passed}
 use Rattle.mdb_schema.specs.Write.{Tested, no_id, missing, keys_at, has_key, id_of}
 use Rattle.mdb_schema.proofs.IdKeys.{index_named-place}
-use Rattle.mdb_schema.proofs.Passed.{needed_on, goes_on}
+use Rattle.mdb_schema.proofs.PassedTests.{needed_on, goes_on}
 use Rattle.mdb_schema.specs.declared.write_error.WriteError.{WriteError}
 use Rattle.table_index.specs.inner.Keys.{Answers, Tells, full_keys_at}
 

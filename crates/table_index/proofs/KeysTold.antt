@@ -8,7 +8,7 @@ use Rattle.mdb_schema.specs.State.{full_key}
 use Rattle.mdb_schema.specs.Tests.{◌>>=◌, passed, each}
 use Rattle.mdb_schema.specs.Write.{Tested, Placed, WriteRefusal, indexes_of, missing, keys_at, has_key, takes}
 use Rattle.mdb_schema.proofs.Chains.{passed_on, each_parts}
-use Rattle.mdb_schema.proofs.Passed.{goes_on}
+use Rattle.mdb_schema.proofs.PassedTests.{goes_on}
 use Rattle.mdb_schema.specs.declared.write_error.WriteError.{WriteError}
 use Rattle.table_index.specs.inner.Keys.{Tells, full_keys_at}
 

@@ -1,9 +1,9 @@
-pub mod Answered
+pub mod WriteAnswers
 pub mod AskedKeys
 pub mod AskedRows
 pub mod Changes
 pub mod CutTrees
-pub mod Drawn
+pub mod DrawnIds
 pub mod EditSteps
 pub mod ExactRows
 pub mod FreeTold
@@ -14,7 +14,7 @@ pub mod IdRead
 pub mod KeyLoops
 pub mod KeysTold
 pub mod ListedKeys
-pub mod Looked
+pub mod Lookups
 pub mod NewTrees
 pub mod OneByOne
 pub mod OwnNames
@@ -23,13 +23,13 @@ pub mod Removals
 pub mod RowCounts
 pub mod RowKeys
 pub mod StoredRows
-pub mod Taken
+pub mod RowRemoval
 pub mod WatchedRows
 pub mod WatchedTables
 pub mod WholeWipe
 pub mod WipeAnswers
 pub mod WipeIds
 pub mod WipeSteps
-pub mod Written
+pub mod WriteResults
 pub mod WrittenRows
 pub mod WrittenTrees

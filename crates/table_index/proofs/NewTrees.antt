@@ -1,10 +1,9 @@
 -- Trees that are made one after another have cells that were drawn in turn.
-use Rattle.std.proofs.Common.{arith, ◌≡◌, ◌≤◌, ◌<◌, ◌+◌, refl, ap, sym, subst, ◌∙◌, ◌⊎◌, inl, inr, ℕ, suc, List, [], ◌∷◌, ◌++◌, None, false}
+use Rattle.std.proofs.Common.{arith, ◌≡◌, ◌≤◌, ◌<◌, ◌+◌, refl, ap, subst, ◌∙◌, ◌⊎◌, inl, inr, ℕ, List, [], ◌∷◌, ◌++◌, None, false}
 use Rattle.radix_node.specs.Cells.{CellTree, cells_of, no_cells, AreOf}
 use Rattle.radix_node.specs.Ids.{Counter}
 use Rattle.radix_node.specs.Paths.{Has}
 use Rattle.radix_node.proofs.OneBook.{each_is}
-use Rattle.radix_txn.specs.Notice.{IsBetween}
 use Rattle.table_index.specs.Table.{AreNewInTurn, IsNew}
 use Rattle.watch_word.specs.Logs.{Cell, Log, has_fired}
 

@@ -1,5 +1,5 @@
--- Rows that are taken out one after another, each if it is still there: each is taken once, and what is
--- left are the rows of other `id` keys.
+-- Rows that are taken out one after another, each if it is still there: each is taken once, and
+-- what is left are the rows of other `id` keys.
 use Rattle.std.proofs.Common.{◌≡◌, ◌⊎◌, ◌∙◌, ◌||◌, List, [], ◌∷◌, filter, Bool, true, false, not, cond, Option, Some, None, is_some, Contains, refl, sym, ap, inl, inr}
 use Rattle.std.specs.Prelude.{if◌then◌else◌, ⊤}
 use Rattle.std.specs.Str.{bytes_eq}

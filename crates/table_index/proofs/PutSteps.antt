@@ -9,12 +9,12 @@ use Rattle.mdb_schema.specs.LawfulSchema.{IsLawfulTable}
 use Rattle.mdb_schema.specs.Schema.{IndexSchema, TableSchema}
 use Rattle.mdb_schema.specs.State.{id_key, full_keys, row_at, with_row, AreLawfulRows}
 use Rattle.mdb_schema.specs.Tests.{◌>>=◌, each}
-use Rattle.mdb_schema.specs.Touched.{full_keys_of}
 use Rattle.mdb_schema.specs.Write.{Tested, Changed, id_of, indexes_of, key_taken, takes, leaves_free, put_row}
+use Rattle.mdb_schema.specs.inner.Edits.{full_keys_of}
 use Rattle.mdb_schema.proofs.EntriesAfter.{entries-put_row}
 use Rattle.mdb_schema.proofs.IdKeys.{id_of-key}
 use Rattle.mdb_schema.proofs.LawfulRows.{put_keeps}
-use Rattle.mdb_schema.proofs.Passed.{goes_on}
+use Rattle.mdb_schema.proofs.PassedTests.{goes_on}
 use Rattle.mdb_schema.specs.declared.write_error.WriteError.{WriteError}
 use Rattle.mdb_schema.specs.declared.write_error.WriteError.TheVariants.{IdsSpent}
 use Rattle.radix_txn.specs.Txn.{Txn, txn_pairs}
@@ -27,7 +27,7 @@ use Rattle.table_index.proofs.FreeTold.{TellsFree, free_told, zip_of_maps}
 use Rattle.table_index.proofs.FullKeys.{found_keys}
 use Rattle.table_index.proofs.KeysTold.{takes_each, takes_told}
 use Rattle.table_index.proofs.StoredRows.{pairs_of-nodes, same_count, tree_entries}
-use Rattle.table_index.proofs.Written.{edited_entries, told_on, written}
+use Rattle.table_index.proofs.WriteResults.{edited_entries, told_on, written}
 
 -- ---- before the first change
 

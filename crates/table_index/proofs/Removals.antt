@@ -12,7 +12,7 @@ use Rattle.table_index.specs.inner.Held.{Hold, nodes_of}
 use Rattle.table_index.specs.inner.PutKeys.{keys_of_each}
 use Rattle.table_index.specs.inner.TreeEdits.{without_each}
 use Rattle.table_index.proofs.StoredRows.{pairs_of-nodes}
-use Rattle.table_index.proofs.Written.{edited_entries}
+use Rattle.table_index.proofs.WriteResults.{edited_entries}
 
 -- the trees hold what is left of the rows
 pub Hold-removed : (t : TableSchema) (row old : Fields) (rows left : List Fields) (before after : List Txn) → AreLawfulRows t rows → Hold t rows (nodes_of before)

@@ -13,7 +13,8 @@ use Rattle.mdb_schema.proofs.Membership.{Contains-first, Contains-later}
 use Rattle.table_index.specs.inner.Wipes.{IsStored}
 use Rattle.table_index.proofs.WipeSteps.{first_rest, no_more}
 
--- the keys so far, in another order than in the definition, and the rows that are still to be counted
+-- the keys so far, in another order than in the definition, and the rows that are still to be
+-- counted
 pub record Counts (t : TableSchema) (all rest : List Fields) (seen : List Bytes) : Type 0 where
   pub keys : List Bytes
   pub same : (k : Bytes) → is_among seen k ≡ is_among keys k
@@ -87,11 +88,22 @@ module _ (t : TableSchema) (all rest : List Fields) (seen : List Bytes) (r : Fie
   counted_stored = now.stored r (Contains-first r (drop 1 rest))
 
   module _ (later : List Fields) (next : later ≡ drop 1 rest) (id : Bytes) (known : id_of t r ≡ Ok id) where
-    pub seen_before : is_among seen id ≡ true → Counts t all later seen
+    seen_before : is_among seen id ≡ true → Counts t all later seen
     seen_before is = subst (λ (l : List Fields). Counts t all l seen) (sym next) (counts_seen t all r (drop 1 rest) seen id known now is)
 
-    pub seen_first : is_among seen id ≡ false → (more : List Bytes) → more ≡ seen ++ id ∷ [] → Counts t all later more
+    seen_first : is_among seen id ≡ false → (more : List Bytes) → more ≡ seen ++ id ∷ [] → Counts t all later more
     seen_first is more added = subst (λ (l : List Fields). Counts t all l more) (sym next) (counts_new t all r (drop 1 rest) seen id known now is more added)
+
+    -- the key is added where it wasn't seen
+    pub seen_next : (more : List Bytes) → more ≡ cond (is_among seen id) seen (seen ++ id ∷ []) → Counts t all later more
+    seen_next more added = of (is_among seen id) refl
+      where
+        by : (b : Bool) → is_among seen id ≡ b → more ≡ cond b seen (seen ++ id ∷ [])
+        by b is = added ∙ ap (λ (a : Bool). cond a seen (seen ++ id ∷ [])) is
+
+        of : (b : Bool) → is_among seen id ≡ b → Counts t all later more
+        of true is = subst (λ (s : List Bytes). Counts t all later s) (sym (by true is)) (seen_before is)
+        of false is = seen_first is more (by false is)
 
 pub counted_all : (t : TableSchema) (all rest : List Fields) (seen : List Bytes) → first_item rest ≡ None → Counts t all rest seen → length seen ≡ length (once t all)
 counted_all t all rest seen none c =

@@ -16,7 +16,7 @@ use Rattle.table_index.specs.declared.wipe_error.WipeError.{WipeError}
 use Rattle.table_index.specs.inner.Drawn.{HaveDrawn, ids_of_row}
 use Rattle.table_index.specs.inner.Held.{AreSound, AreTrees, nodes_of, rows_held}
 use Rattle.table_index.specs.inner.Wipes.{GivesUp, IsCut, IsMoved, IsUncut, IsWiped, is_there, listed_at, listed_from}
-use Rattle.table_index.proofs.Drawn.{more_drawn, then_drawn}
+use Rattle.table_index.proofs.DrawnIds.{more_drawn, then_drawn}
 use Rattle.table_index.proofs.OneByOne.{taken_of}
 use Rattle.table_index.proofs.StoredRows.{same_count}
 use Rattle.table_index.proofs.WipeIds.{next_ahead, all_behind, moved_count, row_left, moved_few, all_few, end_few}

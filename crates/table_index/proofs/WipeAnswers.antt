@@ -15,7 +15,7 @@ use Rattle.mdb_schema.specs.Tests.{◌>>=◌}
 use Rattle.mdb_schema.specs.Wipe.{once, wiped_rows}
 use Rattle.mdb_schema.specs.declared.ask.Ask.TheVariants.{Get}
 use Rattle.mdb_schema.specs.declared.ask_error.AskError.{AskError}
-use Rattle.mdb_schema.proofs.Passed.{goes_on}
+use Rattle.mdb_schema.proofs.PassedTests.{goes_on}
 use Rattle.radix_txn.specs.Txn.{Txn}
 use Rattle.table_index.specs.Table.{TableChange, AnswersCheck, AnswersTake, AnswersWipe, AreLeft, IsWipeGivenUp}
 use Rattle.table_index.specs.declared.wipe_error.WipeError.{WipeError}
@@ -23,7 +23,7 @@ use Rattle.table_index.specs.declared.wipe_error.WipeError.TheVariants.{Refused}
 use Rattle.table_index.specs.inner.Lookups.{AnswersLookup}
 use Rattle.table_index.specs.inner.Held.{starts_of, trees_of}
 use Rattle.table_index.specs.inner.Wipes.{listed_at, AnswersTarget, GivesUp, IsWiped, IsRefusedWipe, wipe_error, wants_memory}
-use Rattle.table_index.proofs.Answered.{change_of}
+use Rattle.table_index.proofs.WriteAnswers.{change_of}
 
 -- ---- the question
 

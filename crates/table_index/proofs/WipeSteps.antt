@@ -12,10 +12,9 @@ use Rattle.mdb_schema.specs.Entries.{entries}
 use Rattle.mdb_schema.specs.LawfulSchema.{IsLawfulTable}
 use Rattle.mdb_schema.specs.Schema.{IndexSchema, TableSchema, index_place}
 use Rattle.mdb_schema.specs.State.{id_key, full_keys, row_at, without_row, AreLawfulRows}
-use Rattle.mdb_schema.specs.Touched.{full_keys_of}
 use Rattle.mdb_schema.specs.Wipe.{once, without_rows}
 use Rattle.mdb_schema.specs.Write.{is_among}
-use Rattle.mdb_schema.specs.inner.Edits.{without_all}
+use Rattle.mdb_schema.specs.inner.Edits.{without_all, full_keys_of}
 use Rattle.mdb_schema.proofs.EntriesAfter.{entries-without_row}
 use Rattle.mdb_schema.proofs.EntriesOfRows.{apart_in, Contains-entries, Contains-from_entries}
 use Rattle.mdb_schema.proofs.IdEntries.{id_pairs, entries-id, row_at-entries}
@@ -34,7 +33,7 @@ use Rattle.table_index.proofs.CutTrees.{without_each-cut, length-cut_at, slice_g
 use Rattle.table_index.proofs.HeldRows.{AreTrees-from, rows_held-rows}
 use Rattle.table_index.proofs.OneByOne.{taken_of, left_of, taken_of-there, taken_of-out, left_of-there, left_of-out, taken_of-once, left_of-without, Follow, follow_listed, follow_rising, rising-filter}
 use Rattle.table_index.proofs.StoredRows.{pairs_of-nodes, tree_entries}
-use Rattle.table_index.proofs.Written.{edited_entries}
+use Rattle.table_index.proofs.WriteResults.{edited_entries}
 
 -- the entries of each index
 abbrev pub all_entries : TableSchema → List Fields → List (List Pair)
@@ -44,7 +43,8 @@ all_entries t rows = map (λ (i : IndexSchema). entries t i rows) t.indexes
 abbrev pub cuts_id : TableSchema → ℕ → Bool
 cuts_id t cut = nat_eq (unwrap_or (index_place (codes "id") t.indexes) 0) cut
 
--- how far a wipe of listed rows has come: what the trees hold, the rows still to come, and those that are out
+-- how far a wipe of listed rows has come: what the trees hold, the rows still to come, and those
+-- that are out
 pub record Stands (t : TableSchema) (cut : ℕ) (key : Bytes) (all listed removed rest : List Fields) (txns : List Txn) : Type 0 where
   pub rows : List Fields
   pub lawful : AreLawfulRows t rows

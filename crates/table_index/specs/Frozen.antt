@@ -5,8 +5,8 @@ use Rattle.radix_node.specs.Cells.{AreBelow, CellTree}
 use Rattle.radix_node.specs.Watches.{WatchesHold}
 use Rattle.radix_txn.specs.Notice.{IsNotice, IsOpened}
 
--- the cells are those that are gone from the tree of an index, whose other watches find what they found;
--- and the new tree's other cells were opened by the change
+-- the cells are those that are gone from the tree of an index, whose other watches find what they
+-- found; and the new tree's other cells were opened by the change
 pub record IsFrozen (gone : List Cell) (old new : CellTree) : Type 0 where
   pub notice : IsNotice gone old new
   pub held : WatchesHold old new

@@ -16,14 +16,15 @@ use Rattle.watch_word.specs.Logs.{Cell, Log}
 use Rattle.table_index.specs.declared.wipe_error.WipeError.{WipeError}
 use Rattle.table_index.specs.declared.wipe_error.WipeError.TheVariants as wipe_errors
 
--- what the schema says of it, its rows, rising by `id` key, and the tree of each index with its cells
+-- what the schema says of it, its rows, rising by `id` key, and the tree of each index with its
+-- cells
 pub record TableRows : Type 0 where
   pub schema : TableSchema
   pub rows : List Fields
   pub trees : List CellTree
 
--- the same while it is being changed, with the trees that it began with, and whether an earlier write
--- found no memory; the rows of a spoiled transaction mean nothing
+-- the same while it is being changed, with the trees that it began with, and whether an earlier
+-- write found no memory; the rows of a spoiled transaction mean nothing
 pub record TableChange : Type 0 where
   pub schema : TableSchema
   pub rows : List Fields
@@ -41,8 +42,8 @@ AreAllBelow n trees = All (AreBelow n) trees
 abbrev pub AreAllOf : Book → List CellTree → Type 0
 AreAllOf book trees = All (AreOf book) trees
 
--- in each tree of the one list a cell is one of the tree at its place in the other, or it was drawn in
--- between
+-- in each tree of the one list a cell is one of the tree at its place in the other, or it was drawn
+-- in between
 abbrev pub AreDrawn : Log → Counter → Counter → List CellTree → List CellTree → Type 0
 AreDrawn log before after [] [] = ⊤
 AreDrawn log before after [] (new ∷ news) = ⊥
@@ -96,8 +97,8 @@ AnswersRefusal why e old new = ((e ≡ write_error why) × (new ≡ old)) ⊎ Is
 abbrev pub IsGivenUp : ℕ → WriteError → TableChange → TableChange → Type 0
 IsGivenUp next e old new = IsSpent next 1 IdsSpent e old new ⊎ IsOutOfMemory e old new
 
--- the answer to a put that leaves these rows, or is refused so, where this is the next id: whether a row
--- was replaced
+-- the answer to a put that leaves these rows, or is refused so, where this is the next id: whether
+-- a row was replaced
 abbrev pub AnswersPut : ℕ → Tested Changed → Result Bool WriteError → TableChange → TableChange
     → Type 0
 AnswersPut next (Ok c) result old new =
@@ -129,7 +130,8 @@ abbrev pub IsWipeGivenUp : ℕ → List Fields → WipeError → TableChange →
 IsWipeGivenUp next gone e old new =
     IsSpent next (length gone) wipe_errors.IdsSpent e old new ⊎ IsSpoiledWipe e old new
 
--- the answer to a wipe of these rows, or to one that is refused so, where this is the next id: the rows
+-- the answer to a wipe of these rows, or to one that is refused so, where this is the next id: the
+-- rows
 abbrev pub AnswersTake : ℕ → Asked (List Fields) → Result (List Fields) WipeError → TableChange
     → TableChange → Type 0
 AnswersTake next (Ok gone) result old new =
@@ -156,7 +158,8 @@ abbrev pub rows_asked : Asked (List Fields) → ℕ
 rows_asked (Ok gone) = length gone
 rows_asked (Err why) = 0
 
--- whether a wipe of these rows, or one that is refused so, is refused by a rule; that is always told
+-- whether a wipe of these rows, or one that is refused so, is refused by a rule; that is always
+-- told
 abbrev pub AnswersCheck : {A : Type 0} → Asked (List Fields) → Result A WipeError → Type 0
 AnswersCheck (Ok gone) result = IsOkUnless result wipe_errors.Memory
 AnswersCheck (Err why) result = result ≡ Err (wipe_errors.Refused (ask_error why))

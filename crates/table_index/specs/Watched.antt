@@ -1,4 +1,5 @@
--- Questions that are watched: which they are, and the cell that tells when an answer may have changed.
+-- Questions that are watched: which they are, and the cell that tells when an answer may have
+-- changed.
 use Rattle.std.specs.Prelude.{◌≡◌, ◌⊎◌, ◌&&◌, ℕ, List, Bool, true, false, if◌then◌else◌, map, Option, Some, option_map, slice_get}
 use Rattle.std.specs.Prelude.{Result, Ok, Err, MatchResult}
 use Rattle.mdb_encode.specs.Bytes.{Bytes}
@@ -34,8 +35,8 @@ is_for_one First = true
 is_for_one Last = true
 is_for_one a = false
 
--- a question for one row looks up the entry of a very key where it names one; each other question is for
--- the entries whose keys begin with its key
+-- a question for one row looks up the entry of a very key where it names one; each other question
+-- is for the entries whose keys begin with its key
 abbrev pub looks_up : IndexSchema → Query → Bool
 looks_up i q = is_for_one q.ask && is_exact i q
 

@@ -16,15 +16,15 @@ use crate::table::Table;
 use crate::watched::{Spot, Watched};
 use mdb_schema::{Ask, AskError, Query, TableDef};
 use radix_node::Tree;
-use std::alloc::Global;
+use std::alloc::{AllocError, Global};
 use std::sync::Arc;
 use watch_word::{Watch, WatchCell};
 
 impl Table {
-    /// What [`Table::ask`] answers, with the watch of the answer: the cell of the leaf, or of the node where
-    /// the key leaves the tree. Questions for bounds, or for the longest key, are refused before any other
-    /// rule. It takes memory and time as [`Table::ask`] does, and may be refused as for want of memory where
-    /// the cell has 2^63 - 1 owners.
+    /// What [`Table::ask`] answers, with the watch of the answer: the cell of the leaf, or of the
+    /// node where the key leaves the tree. Questions for bounds, or for the longest key, are
+    /// refused before any other rule. It takes memory and time as [`Table::ask`] does, and may be
+    /// refused as for want of memory where the cell has 2^63 - 1 owners.
     pub fn ask_watch(&self, query: &Query) -> Result<Watched, AskError>
         ensures answers { AnswersWatch (is_watchable query.now.ask)
             (ask_rows self.now.schema self.now.rows query.now) result }
@@ -40,8 +40,8 @@ impl Table {
         }
     }
 
-    /// The cell of the same question in this table, where the spot was read from a table of the same
-    /// definition. It takes no memory, and time in the length of the key.
+    /// The cell of the same question in this table, where the spot was read from a table of the
+    /// same definition. It takes no memory, and time in the length of the key.
     pub fn cell_at(&self, spot: &Spot) -> &Arc<WatchCell>
         requires { spot.now.index < length self.now.schema.indexes }
         ensures { cell_of self.now.trees spot.now.index spot.now.exact spot.now.key
@@ -76,6 +76,21 @@ fn cell_in<'a>(tree: &'a Tree, exact: bool, key: &[u8]) -> &'a Arc<WatchCell>
     }
 }
 
+/// The spot that watches the answer to a question in the tree of the index where it looks.
+fn spot_at(def: &TableDef, tree: &Tree, at: Target<'_>, query: &Query) -> Result<Spot, AllocError>
+    requires { at.place < length def.now.indexes }
+    ensures { IfOk result (λ s. IsSpotIn at.entry query.now tree.now s) }
+{
+    let exact = looks_up(&at, query);
+    let cell = Arc::try_clone(cell_in(tree, exact, at.key()))?;
+    Ok(Spot {
+        index: told_place(def, at.place()),
+        key: at.into_key(),
+        exact,
+        watch: Watch::of(cell),
+    })
+}
+
 /// What a question is answered from the tree of the index where it looks, with its watch.
 fn watched_at(
     alloc: Global,
@@ -91,14 +106,7 @@ fn watched_at(
         (λ e. e ≡ Memory) }
     ensures spot { IfOk result (λ w. IsSpotIn at.entry query.now tree.now w.spot) }
 {
-    let exact = looks_up(&at, query);
     let answer = answer_at(alloc, tree, &at, query)?;
-    let cell = Arc::try_clone(cell_in(tree, exact, at.key()))?;
-    let spot = Spot {
-        index: told_place(def, at.place()),
-        key: at.into_key(),
-        exact,
-        watch: Watch::of(cell),
-    };
+    let spot = spot_at(def, tree, at, query)?;
     Ok(Watched { answer, spot })
 }

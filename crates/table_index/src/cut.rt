@@ -1,8 +1,7 @@
 //! The beginning of a wipe: the rows that it lists, and the cut of their index.
 ghost use Rattle.std.specs.Prelude.{◌≡◌, ◌⊎◌, ◌+◌, ◌*◌, ◌<◌, ◌≤◌, ◌^◌, true, false, IfErr, IfOk, MatchResult, OnOk};
-ghost use Rattle.std.specs.Prelude.{Contains, length, map, slice_get};
+ghost use Rattle.std.specs.Prelude.{Contains, [], ◌∷◌, ◌++◌, if◌then◌else◌, length, map, slice_get};
 ghost use Rattle.mdb_datum.specs.Row.{Fields};
-ghost use Rattle.mdb_schema.specs.LawfulSchema.{IsLawfulTable};
 ghost use Rattle.mdb_schema.specs.Wipe.{once};
 ghost use Rattle.mdb_schema.specs.Write.{is_among};
 ghost use Rattle.radix_txn.specs.Txn.{txn_pairs};
@@ -15,8 +14,7 @@ ghost use Rattle.table_index.specs.inner.Writes.{TreesWrote, IsCutAt};
 
 use crate::id_key::IdKey;
 use crate::ids_left::has_ids;
-use crate::refusal::of_stored;
-use crate::row_keys::id_key_of;
+use crate::stored::stored_id;
 use crate::tree_edit::delete_prefix;
 use crate::wipe_error::WipeError;
 use mdb_schema::TableDef;
@@ -26,8 +24,8 @@ use radix_txn::TreeTxn;
 use std::alloc::{AllocError, Global};
 use watch_word::Front;
 
-/// A walk over the rows that the index at a place lists under a key, once the keys that begin with it
-/// are out of its tree; `None` where it lists no row, and then nothing has changed.
+/// A walk over the rows that the index at a place lists under a key, once the keys that begin with
+/// it are out of its tree; `None` where it lists no row, and then nothing has changed.
 pub(crate) fn cut_listed(
     alloc: Global,
     def: &TableDef,
@@ -37,7 +35,6 @@ pub(crate) fn cut_listed(
     place: usize,
     key: &[u8],
 ) -> Result<Option<Walk>, WipeError>
-    requires lawful { IsLawfulTable def.now }
     requires place { place < length txns.old }
     requires short { length key.now ≤ 2048 }
     requires ready { AreReady front.now ids.old txns.old }
@@ -105,8 +102,8 @@ fn cut_at(
     delete_prefix(txn, front, ids, key)
 }
 
-/// Whether there are ids for the rows that the index at a place lists under a key so many times. Mostly
-/// there are enough for as many rows as entries are listed; else the rows are counted.
+/// Whether there are ids for the rows that the index at a place lists under a key so many times.
+/// Mostly there are enough for as many rows as entries are listed; else the rows are counted.
 fn are_enough(
     alloc: Global,
     def: &TableDef,
@@ -116,7 +113,6 @@ fn are_enough(
     key: &[u8],
     count: usize,
 ) -> Result<bool, WipeError>
-    requires lawful { IsLawfulTable def.now }
     requires place { place < length txns.old }
     requires sound { AreSound txns.old }
     requires held { AreTrees def.now (nodes_of txns.old) }
@@ -131,30 +127,37 @@ fn are_enough(
     if has_ids(ids, count) {
         return Ok(true);
     }
+    // The definition is lawful by its type.
+    let _ = def.len();
     let listed = walk_at(alloc, txns, place, key)?;
     let rows = count_once(alloc, def, listed)?;
     Ok(has_ids(ids, rows))
 }
 
-/// How many rows a walk gives, each counted once. It takes memory for their `id` keys, and time in the
-/// square of their number.
+/// How many rows a walk gives, each counted once. It takes memory for their `id` keys, and time in
+/// the square of their number.
 fn count_once(alloc: Global, def: &TableDef, mut listed: Walk) -> Result<usize, WipeError>
-    requires lawful { IsLawfulTable def.now }
-    requires stored { (r : Fields) → Contains listed r → IsStored def.now r }
+    requires { (r : Fields) → Contains listed r → IsStored def.now r }
     ensures { MatchResult result
         (λ count. count ≡ length (once def.now listed)) (λ e. e ≡ Memory) }
 {
     let mut seen: Vec<IdKey> = Vec::new(alloc);
     'rows: while let Some(row) = listed.next()? {
-        let id = match id_key_of(alloc, def, &row) {
-            Ok(id) => id,
-            Err(error) => return Err(of_stored(error)),
-        };
-        if !is_among(&seen, &id) {
-            seen.push(id)?;
-        }
+        let id = stored_id(alloc, def, &row)?;
+        add_once(&mut seen, id)?;
     }
     Ok(seen.len())
+}
+
+/// Adds a key, if it isn't there yet.
+fn add_once(keys: &mut Vec<IdKey>, key: IdKey) -> Result<(), AllocError>
+    ensures { OnOk result (keys.new.items
+        ≡ (if is_among keys.old.items key then keys.old.items else keys.old.items ++ key ∷ [])) }
+{
+    if !is_among(keys, &key) {
+        keys.push(key)?;
+    }
+    Ok(())
 }
 
 /// Whether a key is one of these.

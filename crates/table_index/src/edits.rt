@@ -34,8 +34,8 @@ fn delete_all(
     Ok(())
 }
 
-/// Takes out of each tree the full keys that stand at its place, at most 256. After an error some may be
-/// out.
+/// Takes out of each tree the full keys that stand at its place, at most 256. After an error some
+/// may be out.
 pub(crate) fn delete_each(
     txns: &mut [TreeTxn],
     front: &Front,

@@ -4,8 +4,8 @@ ghost use Rattle.table_index.specs.Table.{AreLeft, AreSpent};
 
 use radix_node::Ids;
 
-/// The most ids that the write of a row draws. A row has at most 256 keys in each of 32 indexes, the one
-/// that it replaces has as many, and a write of a tree draws at most 4,096.
+/// The most ids that the write of a row draws. A row has at most 256 keys in each of 32 indexes,
+/// the one that it replaces has as many, and a write of a tree draws at most 4,096.
 const IDS_A_ROW: u64 = 1 << 26;
 
 /// Whether there are ids for so many rows.

@@ -2,10 +2,10 @@
 //!
 //! A [`Table`] keeps one radix tree an index, and contracts see it as its rows, rising by `id` key:
 //! that each tree holds the index's entries of the rows is the type's invariant. It never changes;
-//! a [`TableTxn`] makes new ones by copied paths, whose nodes and leaves get new cells, and tells at its
-//! end which cells are gone. A write and a question take time in the length of
-//! the keys and the number of the row's keys, never in the number of rows; a list of rows, and a
-//! wipe, take time in the number of the entries listed.
+//! a [`TableTxn`] makes new ones by copied paths, whose nodes and leaves get new cells, and tells
+//! at its end which cells are gone. A write and a question take time in the length of the keys and
+//! the number of the row's keys, never in the number of rows; a list of rows, and a wipe, take time
+//! in the number of the entries listed.
 #![tactic(auto)]
 
 mod answer;

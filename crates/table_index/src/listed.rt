@@ -1,7 +1,6 @@
 //! The removal of the rows that an index lists under a key.
 ghost use Rattle.std.specs.Prelude.{◌≡◌, ◌⊎◌, ◌+◌, ◌*◌, ◌<◌, ◌≤◌, ◌^◌, ◌∷◌, [], Ok, false, length, map};
 ghost use Rattle.std.specs.Prelude.{IfErr, MatchResult, OnOk, slice_get};
-ghost use Rattle.mdb_schema.specs.LawfulSchema.{IsLawfulTable};
 ghost use Rattle.mdb_schema.specs.State.{id_key};
 ghost use Rattle.mdb_schema.specs.Wipe.{once};
 ghost use Rattle.mdb_schema.specs.Write.{id_of};
@@ -18,7 +17,8 @@ use crate::cut::cut_listed;
 use crate::edits::delete_each;
 use crate::id_key::IdKey;
 use crate::refusal::of_stored;
-use crate::row_keys::{full_keys_of, id_key_of};
+use crate::row_keys::full_keys_of;
+use crate::stored::stored_id;
 use crate::wipe_error::WipeError;
 use mdb_datum::Row;
 use mdb_schema::{Rows, TableDef};
@@ -83,7 +83,6 @@ fn move_listed(
     row: Row,
     gone: &mut Rows,
 ) -> Result<(), WipeError>
-    requires lawful { IsLawfulTable def.now }
     requires stored { IsStored def.now row }
     requires ready { AreReady front.now ids.old txns.old }
     requires left { let there = is_there def.now cut (id_key def.now row) (map txn_pairs txns.old) in
@@ -115,7 +114,6 @@ fn take_listed(
     cut: usize,
     row: &Row,
 ) -> Result<bool, WipeError>
-    requires lawful { IsLawfulTable def.now }
     requires stored { IsStored def.now row.now }
     requires ready { AreReady front.now ids.old txns.old }
     requires left { let there = is_there def.now cut (id_key def.now row.now) (map txn_pairs txns.old) in
@@ -128,10 +126,7 @@ fn take_listed(
         HaveDrawn front.now (ids_of_row there) ids.old ids.new txns.old txns.new }
     ensures written { OnOk result (WroteRows def.now (row.now ∷ []) txns.old txns.new) }
 {
-    let id = match id_key_of(alloc, def, row) {
-        Ok(id) => id,
-        Err(error) => return Err(of_stored(error)),
-    };
+    let id = stored_id(alloc, def, row)?;
     if !is_there(def, txns, cut, &id) {
         return Ok(false);
     }
@@ -149,7 +144,6 @@ fn take_out(
     id: &IdKey,
     row: &Row,
 ) -> Result<(), WipeError>
-    requires lawful { IsLawfulTable def.now }
     requires stored { IsStored def.now row.now }
     requires known { id_of def.now row.now ≡ Ok id.now }
     requires ready { AreReady front.now ids.old txns.old }
@@ -161,6 +155,8 @@ fn take_out(
     ensures drawn { HaveDrawn front.now (2 ^ 25) ids.old ids.new txns.old txns.new }
     ensures written { OnOk result (WroteRows def.now (row.now ∷ []) txns.old txns.new) }
 {
+    // The definition is lawful by its type.
+    let _ = def.len();
     match full_keys_of(alloc, def, id, row) {
         Ok(keys) => Ok(delete_each(txns, front, ids, keys.lists())?),
         Err(error) => Err(of_stored(error)),

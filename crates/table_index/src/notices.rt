@@ -4,7 +4,8 @@ ghost use Rattle.std.specs.Prelude.{◌≡◌, length, option_copied, slice_get}
 use radix_txn::Notice;
 use std::marker::Model;
 
-/// One notice an index: the cells that are gone from its tree. Contracts see the list of their lists.
+/// One notice an index: the cells that are gone from its tree. Contracts see the list of their
+/// lists.
 #[derive(Drop)]
 pub struct Notices {
     pub(crate) list: Vec<Notice>,

@@ -1,6 +1,5 @@
 //! The put of a row.
 ghost use Rattle.std.specs.Prelude.{◌≡◌, ◌⊎◌, ◌+◌, ◌≤◌, ◌^◌, false, IfErr, Ok, MatchResult, OnOk, is_some};
-ghost use Rattle.mdb_schema.specs.LawfulSchema.{IsLawfulTable};
 ghost use Rattle.mdb_schema.specs.State.{row_at};
 ghost use Rattle.mdb_schema.specs.Write.{id_of, put_row};
 ghost use Rattle.mdb_schema.specs.declared.write_error.WriteError.TheVariants.{Memory};
@@ -31,12 +30,13 @@ use watch_word::Front;
 
 impl TableTxn {
     /// Puts a row into the table; true where it replaces the row of its `id` key. A refusal changes
-    /// nothing, and is decided before the first change; the last one is that fewer than 2^26 ids are left.
-    /// It takes memory for the keys of the row and of the one that it replaces, and for copied nodes, each
-    /// with a new cell, and is refused for want of it, of room to count one more owner of a node or row, or
-    /// of room to count one more key of an index; that spoils the change. It takes time in the lengths of
-    /// the keys, with one look-up a key, and compares the old keys of an index with the new ones, at most
-    /// 256 with 256. No key is written but the full keys of the row and of the one that it replaces.
+    /// nothing, and is decided before the first change; the last one is that fewer than 2^26 ids
+    /// are left. It takes memory for the keys of the row and of the one that it replaces, and for
+    /// copied nodes, each with a new cell, and is refused for want of it, of room to count one more
+    /// owner of a node or row, or of room to count one more key of an index; that spoils the
+    /// change. It takes time in the lengths of the keys, with one look-up a key, and compares the
+    /// old keys of an index with the new ones, at most 256 with 256. No key is written but the full
+    /// keys of the row and of the one that it replaces.
     pub fn put(&mut self, front: &Front, ids: &mut Ids, row: &Row) -> Result<bool, WriteError>
         requires sound { self.old.spoiled ≡ false }
         requires book { front.now.book ≡ ids.old.book }
@@ -124,7 +124,6 @@ fn accepted_keys(
     txns: &[TreeTxn],
     row: &Row,
 ) -> Result<PutKeys, WriteError>
-    requires lawful { IsLawfulTable def.now }
     requires sound { AreSound txns.now }
     requires held { AreTrees def.now (nodes_of txns.now) }
     ensures { let rows = rows_held def.now (nodes_of txns.now) in
@@ -147,7 +146,6 @@ fn keys_of_id(
     id: &IdKey,
 ) -> Result<PutKeys, WriteError>
     requires known { id_of def.now row.now ≡ Ok id.now }
-    requires lawful { IsLawfulTable def.now }
     requires sound { AreSound txns.now }
     requires held { AreTrees def.now (nodes_of txns.now) }
     ensures { let rows = rows_held def.now (nodes_of txns.now) in
@@ -155,6 +153,8 @@ fn keys_of_id(
         (λ keys. IsAccepted def.now row.now rows keys.new keys.old.keys keys.old.there)
         (λ e. Tells (put_row def.now row.now rows) e) }
 {
+    // The definition is lawful by its type.
+    let _ = def.len();
     let new = match full_keys_of(alloc, def, id, row) {
         Ok(keys) => keys,
         Err(error) => return Err(error),
@@ -178,7 +178,6 @@ fn old_keys_of(
     txns: &[TreeTxn],
     id: &IdKey,
 ) -> Result<OldKeys, WriteError>
-    requires lawful { IsLawfulTable def.now }
     requires sound { AreSound txns.now }
     requires held { AreTrees def.now (nodes_of txns.now) }
     ensures { let old = row_at def.now id.now (rows_held def.now (nodes_of txns.now)) in
@@ -186,6 +185,8 @@ fn old_keys_of(
         (λ found. (found.keys ≡ keys_of_each def.now old) × (found.there ≡ is_some old))
         (λ e. e ≡ Memory) }
 {
+    // The definition is lawful by its type.
+    let _ = def.len();
     match row_at(def, txns, id) {
         Some(row) => match full_keys_of(alloc, def, id, row) {
             Ok(keys) => Ok(OldKeys { keys, there: true }),

@@ -1,7 +1,6 @@
 //! The removal of a row.
 ghost use Rattle.std.specs.Prelude.{◌≡◌, ◌⊎◌, ◌+◌, ◌*◌, ◌≤◌, ◌^◌, ◌∷◌, [], false, Ok, Some, None, IfOk, OnOk};
 ghost use Rattle.std.specs.Prelude.{IfErr, MatchResult, length, map};
-ghost use Rattle.mdb_schema.specs.LawfulSchema.{IsLawfulTable};
 ghost use Rattle.mdb_schema.specs.State.{row_at};
 ghost use Rattle.mdb_schema.specs.Tests.{each};
 ghost use Rattle.mdb_schema.specs.Write.{indexes_of, remove_row};
@@ -31,10 +30,11 @@ use std::alloc::Global;
 use watch_word::Front;
 
 impl TableTxn {
-    /// Takes out the row of another's `id` key, and gives it. A refusal changes nothing; the last one is
-    /// that fewer than 2^26 ids are left. It takes memory for the row's keys and for copied nodes, each
-    /// with a new cell, and is refused for want of it or of room to count one more owner of a node or row;
-    /// that spoils the change. It takes time in the lengths of the row's keys, and writes no others.
+    /// Takes out the row of another's `id` key, and gives it. A refusal changes nothing; the last
+    /// one is that fewer than 2^26 ids are left. It takes memory for the row's keys and for copied
+    /// nodes, each with a new cell, and is refused for want of it or of room to count one more
+    /// owner of a node or row; that spoils the change. It takes time in the lengths of the row's
+    /// keys, and writes no others.
     pub fn remove(&mut self, front: &Front, ids: &mut Ids, row: &Row) -> Result<Row, WriteError>
         requires sound { self.old.spoiled ≡ false }
         requires book { front.now.book ≡ ids.old.book }
@@ -108,7 +108,8 @@ fn take_row(
     delete_stored(txns, front, ids, stored)
 }
 
-/// Takes the full keys of a row out of the trees, and gives the row. After an error some may be out.
+/// Takes the full keys of a row out of the trees, and gives the row. After an error some may be
+/// out.
 fn delete_stored(
     txns: &mut [TreeTxn],
     front: &Front,
@@ -137,7 +138,6 @@ fn stored_row(
     txns: &[TreeTxn],
     id: &IdKey,
 ) -> Result<StoredRow, WriteError>
-    requires lawful { IsLawfulTable def.now }
     requires sound { AreSound txns.now }
     requires held { AreTrees def.now (nodes_of txns.now) }
     ensures { let here = row_at def.now id.now (rows_held def.now (nodes_of txns.now)) in
@@ -146,6 +146,8 @@ fn stored_row(
         (indexes_of def.now) ≡ Ok stored.keys))
         (λ e. (e ≡ Memory) ⊎ ((here ≡ None) × (e ≡ NotFound))) }
 {
+    // The definition is lawful by its type.
+    let _ = def.len();
     let Some(row) = row_at(def, txns, id) else {
         return Err(WriteError::NotFound);
     };

@@ -9,8 +9,8 @@ use std::alloc::{AllocError, Global};
 use std::marker::Model;
 use watch_word::Front;
 
-/// A table, seen as what the schema says of it, its rows, rising by `id` key, and the tree of each index
-/// with its cells. It never changes.
+/// A table, seen as what the schema says of it, its rows, rising by `id` key, and the tree of each
+/// index with its cells. It never changes.
 #[derive(Drop)]
 pub struct Table {
     pub(crate) def: TableDef,
@@ -33,8 +33,8 @@ impl Model for Table {
 }
 
 impl Table {
-    /// A table without rows. It takes memory for an empty tree an index, and an id for the cell of its
-    /// root; there are at most 32.
+    /// A table without rows. It takes memory for an empty tree an index, and an id for the cell of
+    /// its root; there are at most 32.
     pub fn empty(
         alloc: Global,
         def: &TableDef,

@@ -1,5 +1,5 @@
-//! What is known of every table, and of every two, as laws of the definitions. The functions do nothing:
-//! their contracts are the laws.
+//! What is known of every table, and of every two, as laws of the definitions. The functions do
+//! nothing: their contracts are the laws.
 ghost use Rattle.std.specs.Prelude.{◌≡◌, List, []};
 ghost use Rattle.watch_word.specs.Logs.{Cell};
 ghost use Rattle.table_index.specs.Frozen.{AreFrozen};
@@ -22,9 +22,9 @@ pub fn nothing_is_written(table: &Table)
     let _ = table.def.len();
 }
 
-/// Of a table, and of what a change of it ends with: whatever question is watched in the old one, its
-/// cell is gone from its index's tree, or the question finds the same cell and the same answer in the
-/// new one.
+/// Of a table, and of what a change of it ends with: whatever question is watched in the old one,
+/// its cell is gone from its index's tree, or the question finds the same cell and the same answer
+/// in the new one.
 pub fn questions_hold(old: &Table, new: &Table)
     requires schema { new.now.schema ≡ old.now.schema }
     requires trees { (notices : List (List Cell))

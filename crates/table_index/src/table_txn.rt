@@ -12,8 +12,8 @@ use radix_txn::TreeTxn;
 use std::alloc::AllocError;
 use std::marker::Model;
 
-/// A table that is being changed, seen as its rows, the tree of each index before the change and now,
-/// with their cells, and whether it is spoiled.
+/// A table that is being changed, seen as its rows, the tree of each index before the change and
+/// now, with their cells, and whether it is spoiled.
 #[derive(Drop)]
 pub struct TableTxn {
     pub(crate) def: TableDef,
@@ -63,10 +63,10 @@ impl TableTxn {
         })
     }
 
-    /// The table that the change ends with, and the notices of the cells that are gone. What is watched in
-    /// the table that it began with is in a notice, or it is as it was, and so is the answer that it
-    /// watches; and all that the written keys don't touch is kept. It takes memory for two lists of the
-    /// indexes, and time in their number; after an error the change is gone.
+    /// The table that the change ends with, and the notices of the cells that are gone. What is
+    /// watched in the table that it began with is in a notice, or it is as it was, and so is the
+    /// answer that it watches; and all that the written keys don't touch is kept. It takes memory
+    /// for two lists of the indexes, and time in their number; after an error the change is gone.
     pub fn freeze(self) -> Result<(Table, Notices), AllocError>
         requires sound { self.spoiled ≡ false }
         ensures table { IfOk result (λ r. r.0 ≡ record {

@@ -1,13 +1,14 @@
 //! Lists of trees, one an index.
-ghost use Rattle.std.specs.Prelude.{◌≡◌, ◌+◌, ◌≤◌, ◌^◌, [], IfOk, OnOk, map, replicate};
+ghost use Rattle.std.specs.Prelude.{◌≡◌, ◌+◌, ◌≤◌, ◌^◌, [], ◌∷◌, ◌++◌, List, IfOk, OnOk, false, map, replicate};
 ghost use Rattle.radix_node.specs.Nodes.{pairs_of};
-ghost use Rattle.table_index.specs.Frozen.{AreFrozen};
+ghost use Rattle.watch_word.specs.Logs.{Cell};
+ghost use Rattle.table_index.specs.Frozen.{AreFrozen, IsFrozen};
 ghost use Rattle.table_index.specs.Table.{AreAllBelow, AreAllOf, AreNewInTurn};
 ghost use Rattle.table_index.specs.inner.Held.{AreSound, begun, plains, starts_of, trees_of};
 
 use crate::notices::Notices;
 use radix_node::{Ids, Tree};
-use radix_txn::{Edit, TreeTxn};
+use radix_txn::{Edit, Notice, TreeTxn};
 use std::alloc::{AllocError, Global};
 use watch_word::Front;
 
@@ -82,9 +83,24 @@ pub(crate) fn frozen(alloc: Global, txns: Vec<TreeTxn>) -> Result<(Vec<Tree>, No
     let mut trees = Vec::with_capacity(alloc, txns.len())?;
     let mut list = Vec::with_capacity(alloc, txns.len())?;
     for txn in txns {
-        let (tree, notice) = txn.freeze()?;
-        trees.push(tree)?;
-        list.push(notice)?;
+        freeze_into(txn, &mut trees, &mut list)?;
     }
     Ok((trees, Notices { list }))
+}
+
+/// Adds the tree that a transaction ends with to trees, and its notice to notices.
+fn freeze_into(
+    txn: TreeTxn,
+    trees: &mut Vec<Tree>,
+    notices: &mut Vec<Notice>,
+) -> Result<(), AllocError>
+    requires { txn.spoiled ≡ false }
+    ensures tree { OnOk result (trees.new.items ≡ trees.old.items ++ txn.tree ∷ []) }
+    ensures notice { OnOk result ((gone : List Cell) × IsFrozen gone txn.start txn.tree
+        × (notices.new.items ≡ notices.old.items ++ gone ∷ [])) }
+{
+    let (tree, notice) = txn.freeze()?;
+    trees.push(tree)?;
+    notices.push(notice)?;
+    Ok(())
 }

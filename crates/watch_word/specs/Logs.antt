@@ -3,7 +3,8 @@ use Rattle.std.specs.Prelude.{◌≡◌, ℕ, ◌==◌, Bool, true, false, List,
 use mathlib.Core.List.{IsPrefix}
 use Rattle.logbook.specs.Pages.{Book}
 
--- A cell: the book that it belongs to, its key there, which no other cell of the book has, and its id.
+-- A cell: the book that it belongs to, its key there, which no other cell of the book has, and its
+-- id.
 pub record Cell : Type 0 where
   pub book : Book
   pub key : ℕ

@@ -9,8 +9,8 @@ use std::alloc::{AllocError, Global};
 use std::marker::Model;
 use std::sync::Arc;
 
-/// The book of a database's cells: one word, on which new cells are made. Contracts see which book it
-/// is.
+/// The book of a database's cells: one word, on which new cells are made. Contracts see which book
+/// it is.
 #[derive(Drop)]
 pub struct Book {
     pub(crate) anchor: BookWord,

@@ -90,8 +90,8 @@ pub struct Moved {
     pub front: Front,
 }
 
-/// Fires the cell by the commit with this number, unless it has fired before. The front given back has
-/// the cell. It takes no memory and waits for nobody.
+/// Fires the cell by the commit with this number, unless it has fired before. The front given back
+/// has the cell. It takes no memory and waits for nobody.
 pub fn fire(front: &Front, cell: &WatchCell, by: u64) -> Front
     requires book { cell.now.book ≡ front.now.book }
     requires number { 1 ≤ by }

@@ -4,8 +4,8 @@ ghost use Rattle.std.specs.Prelude.{◌≡◌};
 use crate::rule::SeenLog;
 use std::marker::Model;
 
-/// A copy of the log of firings, as far as it was seen. It has no bytes. Contracts see it as its book
-/// and the cells that have fired.
+/// A copy of the log of firings, as far as it was seen. It has no bytes. Contracts see it as its
+/// book and the cells that have fired.
 #[derive(Drop)]
 pub struct Front {
     pub(crate) seen: SeenLog,

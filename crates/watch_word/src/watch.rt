@@ -47,8 +47,8 @@ impl Watch {
         self.cell.id()
     }
 
-    /// Looks whether the cell has fired, which is so exactly where the front given back has it. It takes
-    /// no memory and waits for nobody.
+    /// Looks whether the cell has fired, which is so exactly where the front given back has it. It
+    /// takes no memory and waits for nobody.
     pub fn moved(&self, front: &Front) -> Moved
         requires { self.now.book ≡ front.now.book }
         ensures later { IsLater front.now result.front }

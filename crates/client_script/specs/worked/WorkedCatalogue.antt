@@ -1,5 +1,5 @@
--- A worked session over a catalogue of nodes and services: keys in lower case, of two parts, of each
--- member of a map, and of a test.
+-- A worked session over a catalogue of nodes and services: keys in lower case, of two parts, of
+-- each member of a map, and of a test.
 use Rattle.std.specs.Prelude.{◌≡◌, ◌≢◌, ◌∷◌, ◌++◌, [], true, false, Some, None, Ok, slice_get, codes, refl}
 use Rattle.mdb_datum.proofs.OnLiterals.{reading_on_literals}
 use Rattle.mdb_datum.specs.Bytes.{Bytes}

@@ -1,5 +1,5 @@
--- Worked sessions: what a client that is alone is told, line by line. What it is told is legal output,
--- and no other output is (`AloneIsLegal`, `FewWrites`).
+-- Worked sessions: what a client that is alone is told, line by line. What it is told is legal
+-- output, and no other output is (`AloneIsLegal`, `FewWrites`).
 use Rattle.std.specs.Prelude.{◌≡◌, ◌≢◌, ◌∷◌, ◌++◌, [], Some, None, slice_get, codes, refl}
 use Rattle.mdb_datum.proofs.OnLiterals.{reading_on_literals}
 use Rattle.mdb_datum.specs.Bytes.{Bytes}

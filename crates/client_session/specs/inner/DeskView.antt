@@ -26,7 +26,8 @@ pub record Presents (o : Open) (kept : View) (r : Reply) : Type 0 where
   pub sees : kept ≡ view_of (caller_of o) sight
   pub reply : r ≡ snapshot_reply (transaction_of o) sight
 
--- the desk has what the client knows: its transaction is what is open, each snapshot sees what it kept
+-- the desk has what the client knows: its transaction is what is open, each snapshot sees what it
+-- kept
 pub record Follows (d : Desk) (v : Client) : Type 0 where
   pub transaction : v.transaction ≡ transaction_of d.open
   pub last : v.last ≤ length (caller_of d.open).seen
@@ -47,8 +48,8 @@ pub record RepliesTo (c : Command) (old new : Desk) (r : Reply) : Type 0 where
   pub grows : Grows (caller_of old.open) (caller_of new.open) (transaction_of old.open) r
   pub numbered : IsNumbered (caller_of old.open) (transaction_of old.open) r
 
--- the same, once the caller has seen the commits that there are by then; the number of a transaction
--- that begins is a count that it has read
+-- the same, once the caller has seen the commits that there are by then; the number of a
+-- transaction that begins is a count that it has read
 pub record LooksAndReplies (c : Command) (old new : Desk) (r : Reply) : Type 0 where
   pub at : Desk
   pub looks : Looks old.open at.open

@@ -36,8 +36,8 @@ transaction_of (opens.Writing txn) = writing (record {
 abbrev pub view_at_commit : Caller → ℕ → View
 view_at_commit p n = record { schema = p.schema; number = n; state = state_at p.schema p.seen n }
 
--- a read transaction sees the state after a commit that its caller has seen; a write transaction isn't
--- spoiled
+-- a read transaction sees the state after a commit that its caller has seen; a write transaction
+-- isn't spoiled
 abbrev pub Stands : Open → Type 0
 Stands (opens.Nothing pass) = ⊤
 Stands (opens.Reading pass txn) =

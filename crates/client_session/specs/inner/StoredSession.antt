@@ -1,10 +1,9 @@
 -- How the logic stores what contracts see of a session.
-use Rattle.std.specs.Prelude.{ℕ, Bool, List, [], Option, Some, None, refl}
+use Rattle.std.specs.Prelude.{ℕ, Bool, List, Option, Some, None, refl}
 use Rattle.std.specs.Coded.{Coded, code_by, coded×, coded_ℕ, coded_bool, coded_list}
-use Rattle.atomic_table.specs.Seated.{TableId}
 use Rattle.mdb_datum.specs.Bytes.{Bytes}
 use Rattle.mem_txn.specs.Database.{Caller}
-use Rattle.mem_txn.specs.inner.Stored.{caller_code}
+use Rattle.mem_txn.specs.inner.Stored.{caller_code, no_caller}
 use Rattle.client_script.specs.declared.line.Line.{Line}
 use Rattle.client_script.specs.inner.StoredScript.{script_code}
 use Rattle.client_session.specs.Progress.{Progress}
@@ -27,29 +26,7 @@ progress_code = code_by Parts
     })
     (λ _. refl)
 
--- a table that is none
-abbrev no_table : TableId
-no_table = record {
-  words = 0;
-  slots = 0;
-  views_name = 0;
-  atom = 0;
-  block = 0;
-  offset = 0;
-  slot_names = [];
-}
-
 -- the pass, which is always there
 abbrev pub pass_in : Option Caller → Caller
-pass_in None = record {
-  number = 0;
-  database = (no_table, 0);
-  schema = [];
-  book = record { number = 0; log_name = 0; cells_name = 0 };
-  seen = [];
-  trees = [];
-  own = [];
-  counts = [];
-  tries = [];
-}
+pass_in None = no_caller
 pass_in (Some p) = p

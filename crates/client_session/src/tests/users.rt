@@ -9,7 +9,7 @@ use std::alloc::Global;
 use std::sync::Wait;
 use std::test::Fail;
 
-const SCHEMA: &str = r#"{"memdb":1,"tables":{
+pub(super) const SCHEMA: &str = r#"{"memdb":1,"tables":{
 "keys":{"indexes":{"id":{"unique":true,"indexer":{"kind":"uuid","field":"key"}}}},
 "notes":{"indexes":{"id":{"unique":true,"indexer":{"kind":"text","field":"name"}}}},
 "rules":{"indexes":{"id":{"unique":true,"indexer":{"kind":"text","field":"name"}},

@@ -1,4 +1,4 @@
--- For private clauses: a document in the words of `json`, whose tokens are written one after another.
+-- A document in the words of `json`, whose tokens are written one after another.
 use Rattle.std.specs.Prelude.{List}
 use Rattle.std.specs.Fmt.{signed_decimal}
 use Rattle.json.specs.Json as json

@@ -1,4 +1,4 @@
--- For private clauses: the refusals that the types of this crate stand for.
+-- The refusals that the types of this crate stand for.
 use Rattle.mdb_encode.specs.ArgRefusal.{ArgRefusal, arg_count, arg_kind, arg_out_of_range, arg_bad_uuid, arg_too_long, no_prefix_form}
 use Rattle.mdb_encode.specs.KeyRefusal.{KeyRefusal, wrong_kind, out_of_range, bad_uuid, too_many, too_long}
 use Rattle.mdb_encode.specs.declared.refusal.ArgRefusal as of_args

@@ -1,5 +1,5 @@
--- How the logic stores an indexer: as a tree that tells its constructor and its parts, so that no two
--- share a tree.
+-- How the logic stores an indexer: as a tree that tells its constructor and its parts, so that no
+-- two share a tree.
 use Rattle.std.specs.Prelude.{◌≡◌, ℕ, zero, suc, Bool, refl}
 use Rattle.std.specs.Coded.{Coded, coded×, coded_ℕ, coded_bool, coded_list}
 use base.Stored.{Gv, gnil, gnum, gcons}

@@ -5,8 +5,9 @@ ghost use Rattle.mdb_encode.specs.Answers.{AnswersKey};
 ghost use Rattle.mdb_encode.specs.inner.ArgReading.{arg_read, joined_form, exact_parts, prefix_parts, MeasuresArg, HasKey};
 ghost use Rattle.mdb_encode.specs.Arguments.{limited_arg, then_with};
 ghost use Rattle.mdb_encode.specs.Bytes.{Bytes};
-ghost use Rattle.mdb_encode.specs.Kind.{indexers_of, part_list, parts_of};
+ghost use Rattle.mdb_encode.specs.Kind.{indexers_of, part_list};
 ghost use Rattle.mdb_encode.specs.Lawful.{AreParts};
+ghost use Rattle.mdb_encode.specs.inner.CompoundParts.{parts_of};
 
 use super::read::read_form;
 use crate::item::item_at;

@@ -2,9 +2,9 @@
 ghost use Rattle.std.specs.Prelude.{◌≡◌, ◌∷◌, [], IfOk, Ok, OnOk};
 ghost use Rattle.mdb_encode.specs.Answers.{AnswersKeys};
 ghost use Rattle.mdb_encode.specs.Keys.{joined_keys, limited};
-ghost use Rattle.mdb_encode.specs.Kind.{parts_of};
 ghost use Rattle.mdb_encode.specs.Lawful.{AreParts};
 ghost use Rattle.mdb_encode.specs.inner.KeyLength.{MeasuresKey, HasOneKey};
+ghost use Rattle.mdb_encode.specs.inner.CompoundParts.{parts_of};
 
 use super::part::read_part;
 use crate::limit::LONGEST_KEY;

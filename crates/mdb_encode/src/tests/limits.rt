@@ -9,7 +9,8 @@ use std::test::Fail;
 #[derive(Clone, Copy)]
 struct Spread(&'static str, &'static str, usize, &'static str);
 
-/// Rows at a limit and just past it: how many keys they have, and of how many bytes, or the refusal.
+/// Rows at a limit and just past it: how many keys they have, and of how many bytes, or the
+/// refusal.
 const ROWS: [(Sample, Spread, Result<(usize, usize), KeyError>); 6] = [
     (
         Sample::Str(false),

@@ -1,5 +1,5 @@
-//! The files of the host, and its output. The tests of a crate may share a folder, so each has names
-//! of its own.
+//! The files of the host, and its output. The tests of a crate may share a folder, so each has
+//! names of its own.
 use super::{fetch_first, gives, put_three};
 use crate::*;
 use std::fs;

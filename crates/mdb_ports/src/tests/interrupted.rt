@@ -14,8 +14,8 @@ fn interrupts(left: &Cell<u32>) -> bool {
     count > 0
 }
 
-/// An output of which the first calls are interrupted, and the others take at most so many bytes, or
-/// fail.
+/// An output of which the first calls are interrupted, and the others take at most so many bytes,
+/// or fail.
 #[derive(Drop)]
 struct FakeOutput {
     interruptions: Cell<u32>,

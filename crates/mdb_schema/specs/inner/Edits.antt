@@ -1,11 +1,13 @@
--- What the transaction of an index does to its entries: keys are taken out and put in, one after the
--- other.
-use Rattle.std.specs.Prelude.{List, [], ◌∷◌, not, filter}
+-- What the transaction of an index does to its entries: keys are taken out and put in, one after
+-- the other.
+use Rattle.std.specs.Prelude.{List, [], ◌∷◌, Option, Some, None, not, filter}
 use Rattle.std.specs.FinMap as finite
 use Rattle.std.specs.FinMap.Entries.{where_key}
 use Rattle.std.specs.Ordering.{eq_by_cmp}
 use Rattle.mdb_datum.specs.Row.{Fields, Pair}
 use Rattle.mdb_encode.specs.Bytes.{Bytes, byte_order}
+use Rattle.mdb_schema.specs.Schema.{IndexSchema, TableSchema}
+use Rattle.mdb_schema.specs.State.{full_keys}
 use Rattle.mdb_schema.specs.Write.{is_among}
 
 -- the entries of the other keys
@@ -21,6 +23,11 @@ without_all (k ∷ ks) es = without_all ks (without k es)
 abbrev pub put_all : List Bytes → Fields → List Pair → List Pair
 put_all [] row es = es
 put_all (k ∷ ks) row es = put_all ks row (finite.put byte_order k row es)
+
+-- the full keys of a row, if there is one
+abbrev pub full_keys_of : TableSchema → IndexSchema → Option Fields → List Bytes
+full_keys_of t i None = []
+full_keys_of t i (Some row) = full_keys t i row
 
 -- the full keys of a row that was there, without those that the row in its place has too
 abbrev pub stale_keys : List Bytes → List Bytes → List Bytes

@@ -1,4 +1,4 @@
--- For private clauses: the answer to a list of members, held in a vector; and an error that gets
+-- The answer to a list of members, held in a vector; and an error that gets
 -- the names where a rule is broken.
 use Rattle.std.specs.Prelude.{◌≡◌, List, Option, Result, Ok, Err, ⊤}
 use Rattle.std.specs.declared.alloc.Global.{Global}

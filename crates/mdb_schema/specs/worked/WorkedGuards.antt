@@ -40,7 +40,8 @@ missing_is_not_guarded = apart asked_code tt refl
 pub fool_is_touched : rows_written sample (state_at sample three_words 1) (put_user (user (codes "fool") 3) ∷ []) (codes "users") ≡ user (codes "fool") 3 ∷ []
 fool_is_touched = refl
 
--- a put in the place of a row touches the full keys of both, and a removal those of the row that was there
+-- a put in the place of a row touches the full keys of both, and a removal those of the row that
+-- was there
 pub both_are_touched : rows_written sample (state_at sample three_words 2) (put_user (user (codes "foo") 4) ∷ remove_user (only_name (codes "foo")) ∷ []) (codes "users")
     ≡ user (codes "foo") 4 ∷ user (codes "foo") 1 ∷ user (codes "foo") 4 ∷ []
 both_are_touched = refl

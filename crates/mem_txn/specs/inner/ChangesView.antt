@@ -45,8 +45,8 @@ AreSince turn writes tables =
     AreChangesOf turn.base.ids.next turn.base.trees
     (rows_written turn.caller.schema (state_seen turn.caller) writes) tables
 
--- until a write finds no memory the tables stand for the present state, few ids were drawn, and all that
--- was written is what the writes say
+-- until a write finds no memory the tables stand for the present state, few ids were drawn, and all
+-- that was written is what the writes say
 pub record AreChanges (t : changes.Inside) : Type 0 where
   pub few : length t.pass.caller.seen < 2 ^ 63
   pub number : t.number ≡ length t.pass.caller.seen

@@ -1,5 +1,5 @@
 -- Tables without rows, as a database begins.
-use Rattle.std.specs.Prelude.{◌≡◌, List, All, [], map}
+use Rattle.std.specs.Prelude.{◌≡◌, List, All, []}
 use Rattle.mdb_schema.specs.Schema.{TableSchema, DbSchema}
 use Rattle.mdb_schema.specs.State.{empty_state}
 use Rattle.radix_node.specs.Ids.{Counter}

@@ -1,5 +1,5 @@
 -- What a write transaction ends with.
-use Rattle.std.specs.Prelude.{◌≡◌, List, [], ◌∷◌, Option, Some, None, All, map, ⊤}
+use Rattle.std.specs.Prelude.{◌≡◌, List, [], ◌∷◌, Option, Some, None, map, ⊤}
 use Rattle.table_index.specs.Frozen.{AreFrozen}
 use Rattle.table_index.specs.Table.{TableChange, TableRows}
 use Rattle.table_index.specs.Watched.{HoldsRows, QuestionsHoldSince}

@@ -45,8 +45,8 @@ pub record IsStep (old new : Version) : Type 0 where
   -- each table of the schema had its trees, and there were no others
   pub planted : let v = old.view in length old.trees ≡ length v.schema
 
--- each value of a list is the state after the commits before it, and what its writes make of the value
--- before it
+-- each value of a list is the state after the commits before it, and what its writes make of the
+-- value before it
 pub record AreSteps (h : Versions) : Type 0 where
   pub views : (n : ℕ) (e : ℕ × Version) → slice_get h n ≡ Some e
       → e.1.view ≡ view_after (schema_in h) (take n (history_in h))

@@ -1,8 +1,8 @@
 -- How the logic stores what contracts see of a database, its callers and their transactions.
-use Rattle.std.specs.Prelude.{◌≡◌, ℕ, Bool, true, false, List, refl}
+use Rattle.std.specs.Prelude.{◌≡◌, ℕ, Bool, true, false, List, [], refl}
 use Rattle.std.specs.Coded.{Coded, code_by, coded×, coded_ℕ, coded_bool, coded_list}
-use Rattle.atomic_table.specs.Seated.{table_id_coded}
 use Rattle.db_front.specs.Passes.{FrontId}
+use Rattle.db_front.specs.inner.Stored.{front_coded, no_front}
 use Rattle.radix_node.specs.inner.Stored.{book_coded}
 use Rattle.mdb_datum.specs.Row.{Fields}
 use Rattle.mdb_datum.specs.inner.Stored.{fields_code}
@@ -59,9 +59,6 @@ history_code = coded_list commit_code
 abbrev pub counts_code : Coded (List ℕ)
 counts_code = coded_list coded_ℕ
 
-abbrev pub front_code : Coded FrontId
-front_code = coded× table_id_coded coded_ℕ
-
 abbrev pub forest_code : Coded Forest
 forest_code = coded_list trees_code
 
@@ -92,10 +89,24 @@ caller_from p = record {
 
 abbrev pub caller_code : Coded Caller
 caller_code = code_by CallerParts
-    (coded× (coded× coded_ℕ (coded× front_code (coded× schema_code book_coded)))
+    (coded× (coded× coded_ℕ (coded× front_coded (coded× schema_code book_coded)))
     (coded× (coded× history_code (coded× history_code (coded_list forest_code)))
     (coded× counts_code counts_code)))
     caller_parts caller_from (λ _. refl)
+
+-- a caller that is none
+abbrev pub no_caller : Caller
+no_caller = record {
+  number = 0;
+  database = no_front;
+  schema = [];
+  book = record { number = 0; log_name = 0; cells_name = 0 };
+  seen = [];
+  trees = [];
+  own = [];
+  counts = [];
+  tries = [];
+}
 
 abbrev pub callers_code : Coded Callers
 callers_code = code_by (List Caller × ℕ) (coded× (coded_list caller_code) coded_ℕ)
@@ -103,7 +114,7 @@ callers_code = code_by (List Caller × ℕ) (coded× (coded_list caller_code) co
 
 abbrev pub database_code : Coded Database
 database_code = code_by (FrontId × (ℕ × DbSchema))
-    (coded× front_code (coded× coded_ℕ schema_code))
+    (coded× front_coded (coded× coded_ℕ schema_code))
     (λ d. (d.database, (d.callers, d.schema)))
     (λ p. record { database = p.0; callers = p.1.0; schema = p.1.1 }) (λ _. refl)
 

@@ -29,7 +29,8 @@ opening schema trees ids = record {
   ids = ids;
 }
 
--- after so many writes no more ids are drawn: 32 indexes of 64 tables have a cell each at the opening
+-- after so many writes no more ids are drawn: 32 indexes of 64 tables have a cell each at the
+-- opening
 abbrev pub AreFew : ℕ → Counter → Type 0
 AreFew writes ids = ids.next ≤ 2 ^ 11 + 2 ^ 26 * writes
 

@@ -5,7 +5,7 @@ use Rattle.mdb_datum.specs.Row.{Fields}
 use Rattle.mdb_schema.specs.Answer.{ask_rows}
 use Rattle.mdb_schema.specs.Query.{Query}
 use Rattle.mdb_schema.specs.Refusals.{AnswersAsk, write_error}
-use Rattle.mdb_schema.specs.Schema.{TableSchema, DbSchema}
+use Rattle.mdb_schema.specs.Schema.{DbSchema}
 use Rattle.mdb_schema.specs.State.{State}
 use Rattle.mdb_encode.specs.Bytes.{Bytes}
 use Rattle.mdb_schema.specs.Touched.{row_put}
@@ -60,27 +60,28 @@ pub record IsWithin (ids : Counter) (t : TableChange) : Type 0 where
   pub start : AreWithin ids t.start
   pub trees : AreWithin ids t.trees
 
--- in each tree of the one list a cell is one of the tree at its place in the other, or its id is at least
--- this
+-- in each tree of the one list a cell is one of the tree at its place in the other, or its id is at
+-- least this
 abbrev pub AreOpened : ℕ → List CellTree → List CellTree → Type 0
 AreOpened first [] [] = ⊤
 AreOpened first (old ∷ olds) (new ∷ news) = IsOpened first old new × AreOpened first olds news
 AreOpened first olds news = ⊥
 
--- since its beginning a change opened cells from this id on, and wrote full keys of these rows alone
+-- since its beginning a change opened cells from this id on, and wrote full keys of these rows
+-- alone
 pub record HasChanged (first : ℕ) (rows : List Fields) (t : TableChange) : Type 0 where
   pub opened : AreOpened first t.start t.trees
   pub written : HasWritten rows t
 
--- the tables of a transaction began with these trees, and have changed so since: which rows were written
--- goes by the table's name
+-- the tables of a transaction began with these trees, and have changed so since: which rows were
+-- written goes by the table's name
 pub record AreChangesOf (first : ℕ) (start : Forest) (rows : Bytes → List Fields)
     (tables : List TableChange) : Type 0 where
   pub starts : map (λ (t : TableChange). t.start) tables ≡ start
   pub changed : All (λ (t : TableChange). HasChanged first (rows t.schema.name) t) tables
 
--- a write of these rows keeps all that is said of the cells that were opened since any id, and adds its
--- rows to those that were written
+-- a write of these rows keeps all that is said of the cells that were opened since any id, and adds
+-- its rows to those that were written
 pub record Adds (rows : List Fields) (ids : Counter) (old new : TableChange) : Type 0 where
   pub opened : (first : ℕ) → first ≤ ids.next → AreOpened first old.start old.trees
       → AreOpened first new.start new.trees
@@ -101,8 +102,8 @@ pub record IsWritten (put : List Fields) (c : Changed) (ids ids' : Counter) (old
   pub later : ids.next ≤ ids'.next
   pub adds : Adds (put ++ option_to_list c.1) ids old new
 
--- the answer of a table to a write that puts in these rows, and leaves those or is refused so, with the
--- ids before and after it; after want of memory its rows mean nothing
+-- the answer of a table to a write that puts in these rows, and leaves those or is refused so, with
+-- the ids before and after it; after want of memory its rows mean nothing
 abbrev pub AnswersRows : {A : Type 0} → (Option Fields → A → Type 0) → List Fields → Tested Changed
     → Result A WriteError → Counter → Counter → TableChange → TableChange → Type 0
 AnswersRows gives put (Ok c) result ids ids' old new =

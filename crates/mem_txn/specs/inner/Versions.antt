@@ -9,9 +9,9 @@ use Rattle.mem_txn.specs.inner.Steps.{AreSteps, tables_of}
 use Rattle.mem_txn.specs.inner.VersionTables.{AreWithin}
 pub use Rattle.mem_txn.specs.inner.Values.{AreFew, IsBegun, IsBookOf, Version, Versions, ViewWithTrees, book_in, entry_of, history_in, opening, schema_in}
 
--- The value is that of the last commit of the list: the state after all of them, in trees that hold the
--- entries of its rows and whose cells have ids that were drawn. Each value of the list follows from the one
--- before it.
+-- The value is that of the last commit of the list: the state after all of them, in trees that hold
+-- the entries of its rows and whose cells have ids that were drawn. Each value of the list follows
+-- from the one before it.
 pub record StandsFor (h : Versions) (v : Version) : Type 0 where
   pub begun : IsBegun h
   pub last : (c : ℕ) × (r : Versions) × (h ≡ r ++ (c, v) ∷ [])

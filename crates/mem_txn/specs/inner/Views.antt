@@ -3,7 +3,7 @@ use Rattle.std.specs.Prelude.{◌≡◌, ◌≤◌, ◌^◌, All, map}
 use Rattle.std.specs.Arc.{arc_value}
 use Rattle.mdb_schema.specs.Write.{Write}
 use Rattle.db_front.specs.Commits as front
-use Rattle.mem_txn.specs.Database.{Caller, Callers, Database, Reading, View}
+use Rattle.mem_txn.specs.Database.{Caller, Callers, Database, Reading}
 use Rattle.mem_txn.specs.declared.accepted.Accepted.TheInside as accepted
 use Rattle.mem_txn.specs.declared.db.Db.TheInside as db
 use Rattle.mem_txn.specs.declared.pass.Pass.TheInside as pass

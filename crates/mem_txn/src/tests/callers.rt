@@ -160,7 +160,8 @@ pub(super) fn some_borrowed<R: Wait>(
     done
 }
 
-/// How many users there are of each caller, by age, where each caller's are in the order of its own.
+/// How many users there are of each caller, by age, where each caller's are in the order of its
+/// own.
 fn in_order(alloc: Global, rows: &Rows) -> Result<Option<(u64, u64)>, Fail> {
     let mut counts = (0, 0);
     for row in rows.iter() {
@@ -315,10 +316,18 @@ fn is_kept<R: Threads + Wait + Sync>(
     Ok(kept? && stays_empty(alloc, read)?)
 }
 
+/// A snapshot of what the first caller reads.
+fn snapshot_of<R: Wait>(rt: &R, db: &Db, pass: &mut Pass) -> Result<ReadTxn, AllocError>
+    requires own { IsCaller db.now 1 pass.old }
+    ensures { IsCaller db.now 1 pass.new }
+{
+    db.read(rt, pass)?.snapshot()
+}
+
 /// The same of the first caller's snapshot, and the number of commits at the end.
 fn kept_long<R: Threads + Wait + Sync>(rt: &R, alloc: Global) -> Result<(bool, u64), Fail> {
     let (db, passes, mut one, two) = pair(alloc)?;
-    let read = db.read(rt, &mut one);
+    let read = snapshot_of(rt, &db, &mut one);
     let mut two = Some(two);
     let kept = match &read {
         Ok(read) => is_kept(rt, alloc, &db, read, &mut two),

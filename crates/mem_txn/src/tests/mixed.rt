@@ -1,6 +1,6 @@
 //! Thousands of transactions on a database and on plain lists, which answer the same.
 ghost use Rattle.std.specs.Prelude.{◌≡◌};
-ghost use Rattle.mem_txn.specs.Database.{IsCaller};
+ghost use Rattle.mem_txn.specs.Database.{IsCaller, IsOf};
 ghost use Rattle.mem_txn.specs.Transactions.{changes_of};
 
 use super::drawn::{Plain, QUESTIONS, Question, Random, is_alike, table_of, text_of, wipe_plain};
@@ -234,7 +234,7 @@ fn run_both<R: Wait>(
     }
 }
 
-/// Whether the rows that are read now are alike.
+/// Whether the rows that a caller reads now are alike.
 pub fn reads_alike<R: Wait>(
     rt: &R,
     alloc: Global,
@@ -242,8 +242,9 @@ pub fn reads_alike<R: Wait>(
     pass: &mut Pass,
     plain: &Plain,
 ) -> Result<bool, Fail>
-    requires own { IsCaller db.now 1 pass.old }
-    ensures { IsCaller db.now 1 pass.new }
+    requires own { IsOf db.now pass.old }
+    ensures own { IsOf db.now pass.new }
+    ensures number { pass.new.number ≡ pass.old.number }
 {
     let read = db.read(rt, pass)?;
     are_read(alloc, &read, plain)

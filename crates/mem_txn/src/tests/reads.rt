@@ -1,4 +1,4 @@
-// Read transactions of a database without rows.
+//! Read transactions of a database without rows.
 use super::{closed, failed, is_told, opened, query_of};
 use crate::ReadTxn;
 use mdb_schema::{Ask, AskError};

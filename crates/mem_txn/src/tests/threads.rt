@@ -9,7 +9,8 @@ use std::sync::Wait;
 use std::test::Fail;
 use std::thread::{Threads, join_mut};
 
-/// Fifty commits of the second caller on one thread, and fifty transactions of the first on another.
+/// Fifty commits of the second caller on one thread, and fifty transactions of the first on
+/// another.
 fn side_by_side<R: Threads + Wait + Sync>(
     rt: &R,
     alloc: Global,

@@ -1,5 +1,5 @@
-//! Thousands of commits with a hundred held watches. After each commit a watch has fired exactly where its
-//! question has another cell, and else the answer is as it was.
+//! Thousands of commits with a hundred held watches. After each commit a watch has fired exactly
+//! where its question has another cell, and else the answer is as it was.
 ghost use Rattle.std.specs.Prelude.{◌≡◌, IfOk};
 ghost use Rattle.mem_txn.specs.Database.{IsCaller};
 ghost use Rattle.mem_txn.specs.Transactions.{changes_of};
@@ -109,8 +109,8 @@ fn watch_asked(alloc: Global, read: &ReadTxn, log: &Front, asked: &Asked) -> Res
     watch_of(alloc, read, log, &query)
 }
 
-/// Whether a watch has fired exactly where its question has another cell now, and else its answer is as it
-/// was.
+/// Whether a watch has fired exactly where its question has another cell now, and else its answer
+/// is as it was.
 fn is_right(kept: &Kept, next: &Kept) -> bool {
     let fired = kept.is_fired();
     fired == (next.held.id() != kept.held.id())

@@ -139,8 +139,8 @@ pub fn write_and_read<R: Wait>(
     }
 }
 
-/// Whether a watch has fired before the second commit and after it, and whether its question has another
-/// cell then.
+/// Whether a watch has fired before the second commit and after it, and whether its question has
+/// another cell then.
 fn watched<R: Wait>(
     rt: &R,
     alloc: Global,
@@ -198,7 +198,8 @@ fn watch<R: Wait>(rt: &R, alloc: Global, run: &Run) -> Result<[bool; 3], Fail> {
     told
 }
 
-/// Whether the second commit fires a watch, and only it does, and the question then has another cell.
+/// Whether the second commit fires a watch, and only it does, and the question then has another
+/// cell.
 fn fires<R: Wait>(rt: &R, alloc: Global, run: &Run) -> Result<bool, Fail> {
     Ok(watch(rt, alloc, run)? == [false, true, true])
 }
@@ -275,7 +276,8 @@ fn another_table_fires_nothing(rt: HostRuntime) -> Result<(), Fail> {
 
 const FOOP: [Line; 1] = [("insert", "users", r#"{"name":"foop","age":3}"#, "inserted")];
 
-/// The node of the path `foo`, which guards `fool`, is copied; that of `football`, which guards `foot`, stays.
+/// The node of the path `foo`, which guards `fool`, is copied; that of `football`, which guards
+/// `foot`, stays.
 #[test]
 fn a_neighbour_fires_the_node_that_it_is_under(rt: HostRuntime) -> Result<(), Fail> {
     let copied = Run {

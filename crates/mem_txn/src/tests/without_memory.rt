@@ -1,12 +1,13 @@
-//! Each allocation may fail: a refused call gives the pass back, and the database answers as
-//! before.
+//! Each allocation may fail: a refused call gives the pass back, and the database answers another
+//! caller as before.
 ghost use Rattle.std.specs.Prelude.{◌≡◌};
 ghost use Rattle.mem_txn.specs.Database.{IsCaller};
 ghost use Rattle.mem_txn.specs.Transactions.{changes_of};
 
+use super::callers::{closed, pair};
 use super::drawn::{Plain, Random, table_of, text_of};
 use super::mixed::reads_alike;
-use super::{closed, opened, row_of};
+use super::row_of;
 use crate::{
     BeginError, BeginRefused, CommitError, CommitRefused, Committed, Db, Pass, SnapError, WriteTxn,
 };
@@ -128,24 +129,28 @@ fn try_both<R: Wait>(
     }
 }
 
-/// Tries a transaction, and tells whether the rows after it are right. Then these are the rows.
+/// Tries a transaction, and tells whether the rows that another caller reads after it are right.
+/// Then these are the rows.
 fn try_read<R: Wait>(
     rt: &R,
     alloc: Global,
     random: &mut Random,
     db: &Db,
     pass: Pass,
+    other: &mut Pass,
     plain: &mut Plain,
 ) -> (Pass, Result<bool, Fail>)
     requires own { IsCaller db.now 1 pass }
-    ensures { IsCaller db.now 1 result.0 }
+    requires other { IsCaller db.now 2 other.old }
+    ensures own { IsCaller db.now 1 result.0 }
+    ensures other { IsCaller db.now 2 other.new }
 {
-    let (mut pass, tried) = try_both(rt, alloc, random, db, pass, plain);
+    let (pass, tried) = try_both(rt, alloc, random, db, pass, plain);
     let told = match tried {
         Ok(tried) => {
             let after = tried.plain;
             *plain = after;
-            match reads_alike(rt, alloc, db, &mut pass, plain) {
+            match reads_alike(rt, alloc, db, other, plain) {
                 Ok(alike) => Ok(tried.right && alike),
                 Err(fail) => Err(fail),
             }
@@ -156,15 +161,23 @@ fn try_read<R: Wait>(
 }
 
 /// Whether each of some transactions is answered right.
-fn are_tried<R: Wait>(rt: &R, alloc: Global, db: &Db, pass: Pass) -> (Pass, Result<bool, Fail>)
+fn are_tried<R: Wait>(
+    rt: &R,
+    alloc: Global,
+    db: &Db,
+    pass: Pass,
+    other: &mut Pass,
+) -> (Pass, Result<bool, Fail>)
     requires own { IsCaller db.now 1 pass }
-    ensures { IsCaller db.now 1 result.0 }
+    requires other { IsCaller db.now 2 other.old }
+    ensures own { IsCaller db.now 1 result.0 }
+    ensures other { IsCaller db.now 2 other.new }
 {
     let mut random = Random(0x2545_f491_4f6c_dd1d);
     let mut plain: Plain = [None; 12];
     let mut pass = pass;
     for _ in 0..12 {
-        let (next, told) = try_read(rt, alloc, &mut random, db, pass, &mut plain);
+        let (next, told) = try_read(rt, alloc, &mut random, db, pass, other, &mut plain);
         pass = next;
         match told {
             Ok(true) => {}
@@ -176,9 +189,9 @@ fn are_tried<R: Wait>(rt: &R, alloc: Global, db: &Db, pass: Pass) -> (Pass, Resu
 
 /// Whether they are in a new database.
 fn are_tried_anew<R: Wait>(rt: &R, alloc: Global) -> Result<bool, Fail> {
-    let (db, passes, pass) = opened(alloc)?;
-    let (pass, told) = are_tried(rt, alloc, &db, pass);
-    drop(closed(rt, db, passes, pass));
+    let (db, passes, one, mut two) = pair(alloc)?;
+    let (one, told) = are_tried(rt, alloc, &db, one, &mut two);
+    drop(closed(rt, db, passes, one, two));
     told
 }
 

@@ -1,7 +1,6 @@
 -- The files of a command, as `clap` gives them.
-use Rattle.std.specs.Prelude.{List}
-use Rattle.mdb_datum.specs.Bytes.{Bytes}
+use Rattle.memdb.specs.Words.{Named}
 use Rattle.memdb.specs.declared.words.command.RunFiles.{RunFiles}
 
-abbrev pub files_of : RunFiles → Bytes × List Bytes
-files_of f = (f.schema, f.clients)
+abbrev pub files_of : RunFiles → Named
+files_of f = record { schema = f.schema; clients = f.clients }

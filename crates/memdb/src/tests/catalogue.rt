@@ -1,5 +1,5 @@
-//! A session over a catalogue of nodes and services: keys in lower case, of two parts, of each member
-//! of a map, and of a test.
+//! A session over a catalogue of nodes and services: keys in lower case, of two parts, of each
+//! member of a map, and of a test.
 use super::is_answered;
 use std::test::Fail;
 

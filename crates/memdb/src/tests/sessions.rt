@@ -1,4 +1,5 @@
-//! Worked sessions over keys, notes, rules and users: scripts, each with the whole output of its run.
+//! Worked sessions over keys, notes, rules and users: scripts, each with the whole output of its
+//! run.
 use super::is_answered;
 use std::alloc::{AllocError, Global};
 use std::sync::Wait;

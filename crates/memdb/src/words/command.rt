@@ -1,9 +1,9 @@
 //! The command line, read by `clap`.
-ghost use Rattle.std.specs.Prelude.{◌≡◌, IfOk, false, map, option_map, true};
+ghost use Rattle.std.specs.Prelude.{◌≡◌, ◌++◌, ◌∷◌, [], IfOk, OnOk, false, map, option_and_then, option_map, true};
 ghost use Rattle.std.specs.List.{list_all};
 ghost use Rattle.clap.specs.Words.{app_of, found_of, rows_of, rule_of};
 ghost use Rattle.memdb.specs.Words.{may_name_a_file, run_of};
-ghost use Rattle.memdb.specs.inner.CommandLine.{AreRead, bare, clients_rule, files_in, files_of_matches, program, schema_rule};
+ghost use Rattle.memdb.specs.inner.CommandLine.{AreRead, IsLocal, bare, clients_rule, files, files_in, files_of_matches, program, run_app, schema_rule};
 ghost use Rattle.memdb.specs.inner.FilesOf.{files_of};
 
 use clap::error::ErrorKind;
@@ -33,11 +33,8 @@ fn read_texts<'a>(alloc: Global, words: &'a [&'a str]) -> Result<Option<RunFiles
     requires plain { list_all may_name_a_file (map (λ w. w.now) words.now) ≡ true }
     ensures { IfOk result (λ r. option_map files_of r ≡ run_of (map (λ w. w.now) words.entry.now)) }
 {
-    let command = program(alloc)?;
-    match parsed(command, words)? {
-        Some(matches) => read_files(alloc, &matches),
-        None => Ok(None),
-    }
+    let matches = parsed(program(alloc)?, words)?;
+    read_matches(alloc, matches)
 }
 
 /// The commands of the program. Neither help nor a version is asked for by a word: all that isn't a
@@ -45,10 +42,20 @@ fn read_texts<'a>(alloc: Global, words: &'a [&'a str]) -> Result<Option<RunFiles
 fn program<'a>(alloc: Global) -> Result<Command<'a>, AllocError>
     ensures { IfOk result (λ c. app_of c ≡ program) }
 {
-    let run = Command::new(alloc, "run")
-        .arg(schema_word(alloc))?
-        .arg(client_words(alloc))?;
+    let run = run_command(alloc)?;
     Ok(bare(alloc).subcommand(run)?)
+}
+
+/// The command `run`, with its words.
+fn run_command<'a>(alloc: Global) -> Result<Command<'a>, AllocError>
+    ensures app { IfOk result (λ c. app_of c ≡ run_app) }
+    ensures local { IfOk result (λ c. IsLocal c) }
+{
+    Ok(
+        Command::new(alloc, "run")
+            .arg(schema_word(alloc))?
+            .arg(client_words(alloc))?,
+    )
 }
 
 /// The program with no command.
@@ -96,6 +103,20 @@ fn parsed<'a>(
     }
 }
 
+/// The files of a parse, where the words are a command.
+fn read_matches(
+    alloc: Global,
+    matches: Option<ArgMatches<'_>>,
+) -> Result<Option<RunFiles>, AllocError>
+    ensures { IfOk result
+        (λ r. option_map files_of r ≡ option_and_then files_of_matches matches.entry) }
+{
+    match matches {
+        Some(matches) => read_files(alloc, &matches),
+        None => Ok(None),
+    }
+}
+
 /// The files that `clap` found.
 fn read_files(alloc: Global, matches: &ArgMatches<'_>) -> Result<Option<RunFiles>, AllocError>
     ensures { IfOk result (λ r. option_map files_of r ≡ files_of_matches matches.now) }
@@ -116,10 +137,16 @@ fn read_run(alloc: Global, found: &ArgMatches<'_>) -> Result<Option<RunFiles>, A
     let Some(clients) = found.get_strs("clients") else {
         return Ok(None);
     };
-    Ok(Some(RunFiles {
-        schema: Text::of(alloc, schema)?,
-        clients: copies(alloc, clients)?,
-    }))
+    Ok(Some(run_files(alloc, schema, clients)?))
+}
+
+/// Copies of the files' names.
+fn run_files(alloc: Global, schema: &str, clients: &[&str]) -> Result<RunFiles, AllocError>
+    ensures { IfOk result (λ r. files_of r ≡ files schema.now (map (λ w. w.now) clients.now)) }
+{
+    let schema = Text::of(alloc, schema)?;
+    let clients = copies(alloc, clients)?;
+    Ok(RunFiles { schema, clients })
 }
 
 /// Copies of words.
@@ -128,9 +155,16 @@ fn copies(alloc: Global, words: &[&str]) -> Result<Texts, AllocError>
 {
     let mut copies = Texts::new(alloc);
     for word in words {
-        copies.push(Text::of(alloc, word)?)?;
+        add_copy(alloc, word, &mut copies)?;
     }
     Ok(copies)
+}
+
+/// Adds a copy of a word.
+fn add_copy(alloc: Global, word: &str, copies: &mut Texts) -> Result<(), AllocError>
+    ensures { OnOk result (copies.new ≡ copies.old ++ word.now ∷ []) }
+{
+    copies.push(Text::of(alloc, word)?)
 }
 
 /// The words as `clap` takes them.

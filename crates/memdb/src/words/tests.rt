@@ -4,7 +4,7 @@ use std::alloc::{AllocError, Global};
 use std::test::Fail;
 
 /// The words, parted by bars, and whether they are a command.
-const CASES: [(&str, bool); 16] = [
+const CASES: [(&str, bool); 19] = [
     ("run|s.json|c1", true),
     ("run|c1|c1", true),
     ("run|a-b|c 1", true),
@@ -19,7 +19,10 @@ const CASES: [(&str, bool); 16] = [
     ("run|s.json|", false),
     ("run|s\n|c1", false),
     ("run|s.json|\nc1", false),
-    ("run|s.json|c1|c2", false),
+    ("run|s.json|c1|c2", true),
+    ("run|s.json|c1|c1|c1", true),
+    ("run|s.json|c1||c2", false),
+    ("run|s.json|c1|-c2", false),
     ("Run|s.json|c1", false),
 ];
 
@@ -32,10 +35,24 @@ fn is_command(alloc: Global, text: &str) -> Result<bool, AllocError> {
 }
 
 #[test]
-fn run_names_a_schema_and_a_client(rt: HostRuntime) -> Result<(), Fail> {
+fn run_names_a_schema_and_clients(rt: HostRuntime) -> Result<(), Fail> {
     for (text, want) in &CASES {
         let found = is_command(rt.alloc(), text)?;
         assert!(rt; found == *want, "{text:?}");
     }
+    Ok(())
+}
+
+/// Whether a schema's word and so many clients' are a command.
+fn may_be_so_many(alloc: Global, clients: usize) -> Result<bool, AllocError> {
+    let mut text = String::from_str(alloc, "run|s.json")?;
+    text.push_str(&"|c".repeat(alloc, clients)?)?;
+    is_command(alloc, &text)
+}
+
+#[test]
+fn at_most_sixty_four_clients_are_run(rt: HostRuntime) -> Result<(), Fail> {
+    assert!(rt; may_be_so_many(rt.alloc(), 64)?);
+    assert!(rt; !may_be_so_many(rt.alloc(), 65)?);
     Ok(())
 }

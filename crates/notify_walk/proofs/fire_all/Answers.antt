@@ -1,5 +1,5 @@
 use Rattle.std.proofs.Common.{rules}
-use Rattle.notify_walk.proofs.Firing.{later_again, next}
+use Rattle.notify_walk.proofs.Firings.{later_again, next}
 use Rattle.notify_walk.proofs.fire_all.Goals as goal
 
 pub loop-at-preserved : goal.loop-at-preserved

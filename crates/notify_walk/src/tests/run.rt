@@ -1,9 +1,8 @@
-//! A long run of transactions on one tree. Before each, the watches of a set of keys are held; after it, each of them is
-//! in the notice exactly where the new tree gives another cell, and else the key is there if it was.
+//! A long run of transactions on one tree. Before each, the watches of a set of keys are held;
+//! after it, each of them is in the notice exactly where the new tree gives another cell, and else
+//! the key is there if it was.
 ghost use Rattle.std.specs.Prelude.{◌≡◌, ◌+◌, ◌≤◌, ◌^◌, IfOk, OnOk, false, length};
-ghost use Rattle.notify_walk.specs.Fired.{AreOf};
-ghost use Rattle.radix_node.specs.Cells as cells;
-ghost use Rattle.radix_node.specs.Cells.{AreBelow};
+ghost use Rattle.radix_node.specs.Cells.{AreBelow, AreOf};
 
 use super::{empty, has, members};
 use mdb_datum::Row;
@@ -50,7 +49,8 @@ fn next(number: u64) -> u64 {
         .wrapping_add(1_442_695_040_888_963_407)
 }
 
-/// The write of a number: half are inserts, a quarter takes one key out, and a quarter those that begin with one.
+/// The write of a number: half are inserts, a quarter takes one key out, and a quarter those that
+/// begin with one.
 fn write(
     txn: &mut TreeTxn,
     front: &Front,
@@ -60,14 +60,14 @@ fn write(
 ) -> Result<(), Fail>
     requires sound { txn.old.spoiled ≡ false }
     requires book { front.now.book ≡ ids.old.book }
-    requires of { cells.AreOf ids.old.book txn.old.tree }
+    requires of { AreOf ids.old.book txn.old.tree }
     requires below { AreBelow ids.old.next txn.old.tree }
     requires below_start { AreBelow ids.old.next txn.old.start }
     requires left { ids.old.next + 4096 ≤ 2 ^ 63 }
     ensures sound { OnOk result (txn.new.spoiled ≡ false) }
     ensures start { txn.new.start ≡ txn.old.start }
     ensures book { ids.new.book ≡ ids.old.book }
-    ensures of { cells.AreOf ids.new.book txn.new.tree }
+    ensures of { AreOf ids.new.book txn.new.tree }
     ensures below { AreBelow ids.new.next txn.new.tree }
     ensures below_start { AreBelow ids.new.next txn.new.start }
     ensures left { ids.new.next ≤ ids.old.next + 4096 }
@@ -90,11 +90,11 @@ fn changed(
     row: &Row,
 ) -> Result<(Tree, Notice), Fail>
     requires book { front.now.book ≡ ids.old.book }
-    requires of { cells.AreOf ids.old.book tree.now }
+    requires of { AreOf ids.old.book tree.now }
     requires below { AreBelow ids.old.next tree.now }
     requires left { ids.old.next ≤ 2 ^ 40 }
     ensures book { ids.new.book ≡ ids.old.book }
-    ensures of { IfOk result (λ w. cells.AreOf ids.new.book w.0) }
+    ensures of { IfOk result (λ w. AreOf ids.new.book w.0) }
     ensures below { IfOk result (λ w. AreBelow ids.new.next w.0) }
     ensures left { ids.new.next ≤ ids.old.next + 12288 }
 {
@@ -130,7 +130,7 @@ fn all_are_told(old: &Tree, new: &Tree, notice: &Notice) -> bool {
 /// Whether all is told in each transaction, from this tree on.
 fn run_on(mut tree: Tree, front: &Front, mut ids: Ids, row: &Row) -> Result<bool, Fail>
     requires book { front.now.book ≡ ids.book }
-    requires of { cells.AreOf ids.book tree }
+    requires of { AreOf ids.book tree }
     requires below { AreBelow ids.next tree }
     requires left { ids.next ≤ 1 }
 {

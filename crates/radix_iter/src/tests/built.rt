@@ -103,9 +103,9 @@ pub fn tree_of(alloc: Global, entries: &[Entry]) -> Result<Tree, Fail> {
     Ok(work.tree()?)
 }
 
-/// The tree of a key and of its prefixes, each in a node of its own under the one before. The row of
-/// each tells its length. The longest is put first, so that each of the others splits the node under
-/// the root.
+/// The tree of a key and of its prefixes, each in a node of its own under the one before. The row
+/// of each tells its length. The longest is put first, so that each of the others splits the node
+/// under the root.
 pub fn chain(alloc: Global, key: &[u8]) -> Result<Tree, Fail> {
     let mut work = Work::new(alloc)?;
     for len in (0..=key.len()).rev() {

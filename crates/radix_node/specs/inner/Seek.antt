@@ -4,8 +4,9 @@ use Rattle.std.specs.FinMap.Entries.{by_order}
 use Rattle.mdb_datum.specs.Row.{Pair}
 use Rattle.radix_node.specs.Nodes.{Nodes, no_nodes, node, Plain, part, first_order}
 
--- what a node answers, where its prefix goes on by p after what it has in common with the rest of the key, and the
--- rest goes on by k: its leaf at the end of both, and what is found under it at the end of the prefix alone
+-- what a node answers, where its prefix goes on by p after what it has in common with the rest of
+-- the key, and the rest goes on by k: its leaf at the end of both, and what is found under it at
+-- the end of the prefix alone
 abbrev pub found : List ℕ → List ℕ → Option Pair → Option Pair → Option Pair
 found (y ∷ p) k leaf below = None
 found [] [] leaf below = leaf

@@ -10,7 +10,8 @@ use Rattle.radix_node.specs.declared.tree.Tree.TheInside.{Inside}
 abbrev pub tree_cells : Inside → CellTree
 tree_cells t = tree_at (cell_ref t.root)
 
--- the root has no prefix, the nodes have the shape, the keys are counted, and no two cells have one id
+-- the root has no prefix, the nodes have the shape, the keys are counted, and no two cells have one
+-- id
 pub record IsTree (t : Inside) : Type 0 where
   pub rooted : let n = node_of t.root in n.prefix ≡ []
   pub shape : HasShape (plain_of (tree_cells t))

@@ -6,7 +6,8 @@ use Rattle.mdb_datum.specs.Row.{Pair}
 use Rattle.radix_node.specs.Nodes.{part, first_order, pairs_of_leaf, pairs_of_nodes}
 use Rattle.radix_node.specs.Cells.{CellLeaf, CellNode, CellNodes, no_cells, celled, CellTree, plain_leaf, plain_nodes, root_of}
 
--- where a walk ends: the last node that it enters, and what the key has after the path of the node above that one
+-- where a walk ends: the last node that it enters, and what the key has after the path of the node
+-- above that one
 pub record End : Type 0 where
   pub node : CellNode
   pub rest : Bytes
@@ -17,7 +18,8 @@ arrived here (y ∷ p) k below = here
 arrived here [] [] below = here
 arrived here [] (x ∷ k) below = below
 
--- among the nodes under one where the walk ends if it enters none of them, for the rest of a key, which is not empty
+-- among the nodes under one where the walk ends if it enters none of them, for the rest of a key,
+-- which is not empty
 abbrev pub walk : End → Bytes → CellNodes → End
 walk above rest no_cells = above
 walk above rest (celled cell prefix leaf under later) =

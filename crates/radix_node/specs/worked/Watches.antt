@@ -1,5 +1,5 @@
--- The cells that keys watch in the tree of `foo` and `football`, each ended by a byte 00, worked out; and in that tree
--- with `foot`, which splits the node of `football`.
+-- The cells that keys watch in the tree of `foo` and `football`, each ended by a byte 00, worked
+-- out; and in that tree with `foot`, which splits the node of `football`.
 use Rattle.std.specs.Prelude.{◌≡◌, refl, ◌++◌, [], ◌∷◌, Some, None, codes}
 use Rattle.mdb_datum.specs.Bytes.{Bytes}
 use Rattle.mdb_datum.specs.Row.{Fields}
@@ -33,7 +33,8 @@ module _ (root foo end ball here there : Cell) (row : Fields) where
   inside : seek_watch (codes "f") tree ≡ foo
   inside = refl
 
-  -- a missing key watches the node below which it would lie; one that parts from a child's prefix, that child
+  -- a missing key watches the node below which it would lie; one that parts from a child's prefix,
+  -- that child
   beside : get_watch (ended (codes "fool")) tree ≡ foo
   beside = refl
 

@@ -2,15 +2,16 @@
 ghost use Rattle.std.specs.Prelude.{◌≡◌, IfOk, OnOk, map};
 ghost use Rattle.std.specs.Arc.{arc_value};
 ghost use Rattle.radix_node.specs.CellNode.{cell_node};
-ghost use Rattle.radix_node.specs.Left.{all_cells, leave, leave_all, leave_leaf, own_left};
+ghost use Rattle.radix_node.specs.Left.{all_cells, leave, leave_all, leave_leaf};
+ghost use Rattle.radix_node.specs.inner.OwnLeft.{own_left};
 
 use crate::node::Node;
 use std::alloc::AllocError;
 use std::sync::Arc;
 use watch_word::WatchCell;
 
-/// Adds a cell to a list, if its id is below `first`. It takes memory where the list has no room, and
-/// is refused only for want of it, or of room to count one more owner of the cell.
+/// Adds a cell to a list, if its id is below `first`. It takes memory where the list has no room,
+/// and is refused only for want of it, or of room to count one more owner of the cell.
 pub fn push_cell(
     first: u64,
     cell: &Arc<WatchCell>,

@@ -16,10 +16,10 @@ use std::sync::Arc;
 use watch_word::WatchCell;
 
 impl Tree {
-    /// The cell that tells when what is under a key may have changed, and the row under the key: the
-    /// cell of its leaf, and where there is none, that of the node where the key leaves the tree. It
-    /// takes no memory, and time in the length of the key, with a binary search among the edges at
-    /// each node on the way.
+    /// The cell that tells when what is under a key may have changed, and the row under the key:
+    /// the cell of its leaf, and where there is none, that of the node where the key leaves the
+    /// tree. It takes no memory, and time in the length of the key, with a binary search among the
+    /// edges at each node on the way.
     pub fn get_watch(&self, key: &[u8]) -> (&Arc<WatchCell>, Option<&Row>)
         ensures cell { arc_value result.0.now ≡ get_watch key.now self.now }
         ensures row { option_copied result.1 ≡ find key.now (pairs_of (plain_of self.now)) }

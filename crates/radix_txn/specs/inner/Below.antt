@@ -28,8 +28,8 @@ abbrev pub insert_below : Pair → List ℕ → Plain → Plain
 insert_below pair [] t = record { leaf = Some pair; nodes = t.nodes }
 insert_below pair (x ∷ k) t = record { leaf = t.leaf; nodes = insert pair (x ∷ k) t.nodes }
 
--- a node, not the root, of a prefix and a tree: none where the tree is empty, and merged with the node under it where
--- there is no leaf and one edge
+-- a node, not the root, of a prefix and a tree: none where the tree is empty, and merged with the
+-- node under it where there is no leaf and one edge
 abbrev pub settled_node : List ℕ → Option Pair → Nodes → Option PlainNode
 settled_node prefix (Some pair) under = Some (record { prefix = prefix; leaf = Some pair; under = under })
 settled_node prefix None no_nodes = None

@@ -13,8 +13,8 @@ abbrev pub ordered : List ℕ → Option Pair → Nodes → List ℕ → Option 
 ordered p leaf under q leaf_2 under_2 =
     by_order (first_order p q) (node p leaf under (node q leaf_2 under_2 no_nodes)) (node q leaf_2 under_2 (node p leaf under no_nodes)) (node q leaf_2 under_2 (node p leaf under no_nodes))
 
--- the node in place of one that has the prefix `shared` and then p, where the rest of the key is `shared` and then k;
--- `below` is the nodes under it with the pair put there
+-- the node in place of one that has the prefix `shared` and then p, where the rest of the key is
+-- `shared` and then k; `below` is the nodes under it with the pair put there
 abbrev pub grown : Pair → List ℕ → List ℕ → List ℕ → Option Pair → Nodes → Nodes → Nodes → Nodes
 grown pair shared [] [] leaf under below later = node shared (Some pair) under later
 grown pair shared [] (x ∷ k) leaf under below later = node shared leaf below later
@@ -38,8 +38,8 @@ insert_plain (x ∷ key) row t = record { leaf = t.leaf; nodes = insert (x ∷ k
 
 -- ---- delete
 
--- a node after a change under it: without leaf and edges it goes, and without a leaf and with one edge it is merged
--- with the node there
+-- a node after a change under it: without leaf and edges it goes, and without a leaf and with one
+-- edge it is merged with the node there
 abbrev pub settled : List ℕ → Option Pair → Nodes → Nodes → Nodes
 settled prefix (Some pair) under later = node prefix (Some pair) under later
 settled prefix None no_nodes later = later
@@ -51,8 +51,9 @@ abbrev pub ended : Target → Nodes → Nodes
 ended Key under = under
 ended Prefix under = no_nodes
 
--- the nodes in place of one from whose prefix the key or the prefix parts by p and k, where `below` is the nodes under
--- it after the delete; a prefix that ends within the node's takes it with all under it
+-- the nodes in place of one from whose prefix the key or the prefix parts by p and k, where `below`
+-- is the nodes under it after the delete; a prefix that ends within the node's takes it with all
+-- under it
 abbrev pub cut : Target → List ℕ → List ℕ → List ℕ → Option Pair → Nodes → Nodes → Nodes → Nodes
 cut target [] [] prefix leaf under below later = settled prefix None (ended target under) later
 cut target [] (x ∷ k) prefix leaf under below later = settled prefix leaf below later
@@ -60,8 +61,8 @@ cut Key (y ∷ p) [] prefix leaf under below later = node prefix leaf under late
 cut Prefix (y ∷ p) [] prefix leaf under below later = later
 cut target (y ∷ p) (x ∷ k) prefix leaf under below later = node prefix leaf under later
 
--- the nodes without the leaf at the end of the rest of a key, or without the leaves whose keys go on with the rest,
--- which is not empty
+-- the nodes without the leaf at the end of the rest of a key, or without the leaves whose keys go
+-- on with the rest, which is not empty
 abbrev pub remove : Target → List ℕ → Nodes → Nodes
 remove target rest no_nodes = no_nodes
 remove target rest (node prefix leaf under later) =

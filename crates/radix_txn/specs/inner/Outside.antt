@@ -17,7 +17,8 @@ inner_pieces (celled cell prefix leaf under later) = inside_of leaf under ++ inn
 abbrev pub below_pieces : Option CellLeaf → CellNodes → List Piece
 below_pieces leaf under = leaf_pieces leaf ++ inner_pieces under
 
--- within one node from whose prefix the key or the prefix parts by p and k, where `below` stays under it
+-- within one node from whose prefix the key or the prefix parts by p and k, where `below` stays
+-- under it
 abbrev pub staying : Target → Bytes → Bytes → Option CellLeaf → CellNodes → List Piece → List Piece
 staying target [] (x ∷ k) leaf under below = leaf_pieces leaf ++ below
 staying Key [] [] leaf under below = below
@@ -26,7 +27,8 @@ staying Key (y ∷ p) k leaf under below = inside_of leaf under
 staying Prefix (y ∷ p) [] leaf under below = []
 staying Prefix (y ∷ p) (x ∷ k) leaf under below = inside_of leaf under
 
--- of the pieces within nodes, those that stay in a write of the rest of a key, or of what begins with it
+-- of the pieces within nodes, those that stay in a write of the rest of a key, or of what begins
+-- with it
 abbrev pub outside : Target → Bytes → CellNodes → List Piece
 outside target rest no_cells = []
 outside target rest (celled cell prefix leaf under later) =

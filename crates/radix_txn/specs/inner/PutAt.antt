@@ -12,6 +12,7 @@ grown_parts pair shared [] (x ∷ k) n below = record { prefix = shared; leaf = 
 grown_parts pair shared (y ∷ p) [] n below = record { prefix = shared; leaf = Some pair; under = node (y ∷ p) n.leaf n.under no_nodes }
 grown_parts pair shared (y ∷ p) (x ∷ k) n below = record { prefix = shared; leaf = None; under = ordered (x ∷ k) (Some pair) no_nodes (y ∷ p) n.leaf n.under }
 
--- the node with a pair put at the end of the rest of its key, which begins with the prefix's first byte
+-- the node with a pair put at the end of the rest of its key, which begins with the prefix's first
+-- byte
 abbrev pub grown_node : Pair → List ℕ → PlainNode → PlainNode
 grown_node pair rest n = let parts = part n.prefix rest in grown_parts pair parts.0 parts.1 parts.2 n (insert pair parts.2 n.under)

@@ -6,6 +6,7 @@ use Rattle.mdb_datum.specs.Row.{Fields, Pair}
 use Rattle.radix_node.specs.Nodes.{Plain, pairs_of}
 use Rattle.radix_node.specs.Pairs.{find, without, without_prefix}
 use Rattle.radix_node.specs.inner.Seek.{seek_plain}
+use Rattle.radix_txn.specs.Kept.{deleted_key, deleted_keys}
 use Rattle.radix_txn.specs.declared.target.Target.{Target}
 use Rattle.radix_txn.specs.declared.target.Target.TheVariants.{Key, Prefix}
 use Rattle.radix_txn.specs.inner.Below.{row_in}
@@ -35,6 +36,16 @@ pub record IsTaken (target : Target) (key : Bytes) (before after : List Pair) (r
   pub counted : count + length after ≡ length before
   pub some : 0 < count
   pub there : IsThere target key before
+
+-- the answer of a delete says that nothing was taken out
+abbrev pub TakesNone : Target → Option Fields → ℕ → Type 0
+TakesNone Key row count = row ≡ None
+TakesNone Prefix row count = count ≡ 0
+
+-- the keys that it writes, before those that were written already
+abbrev pub taken_keys : Target → Bytes → List Pair → List Bytes → List Bytes
+taken_keys Key key pairs keys = deleted_key key (find key pairs) keys
+taken_keys Prefix prefix pairs keys = deleted_keys prefix pairs keys
 
 -- there is no such key
 pub record IsAbsent (target : Target) (key : Bytes) (pairs : List Pair) : Type 0 where

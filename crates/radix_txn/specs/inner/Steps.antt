@@ -42,7 +42,8 @@ pub record IsStep (P : Cell → Type 0) (first : ℕ) (a b : Tally) : Type 0 whe
   -- and only that
   pub gone : (c : Cell) → Has c b.left → Has c a.left ⊎ (Has c (map piece_cell a.pieces) × (c.id < first))
 
--- how far the drawing of ids is, for cells that aren't in a log, where ids below `first` are those of the old tree
+-- how far the drawing of ids is, for cells that aren't in a log, where ids below `first` are those
+-- of the old tree
 pub record Ledger : Type 0 where
   pub log : Log
   pub first : ℕ

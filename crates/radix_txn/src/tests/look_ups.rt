@@ -1,5 +1,5 @@
-//! Look-ups in trees that were written. What is asked of one stands in tables, which small functions
-//! walk.
+//! Look-ups in trees that were written. What is asked of one stands in tables, which small
+//! functions walk.
 use super::written::{is_row, labels_are, work_of};
 use radix_node::{Node, Tree};
 use std::test::Fail;
@@ -16,7 +16,8 @@ fn is_node(node: &Node, prefix: &[u8], has_leaf: bool, labels: &[u8]) -> bool {
 
 // ---- the node of a prefix
 
-/// A prefix, and of the node that it leads to the own prefix, whether it has a leaf, and the labels.
+/// A prefix, and of the node that it leads to the own prefix, whether it has a leaf, and the
+/// labels.
 type Line = (&'static [u8], &'static [u8], bool, &'static [u8]);
 
 /// In the forked tree.

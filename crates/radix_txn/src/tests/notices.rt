@@ -1,13 +1,13 @@
-//! The cells that a write fires, on the trees of the words `foo`, `football` and `foot`, each ended by
-//! a byte 00. Each watch is told by its key.
+//! The cells that a write fires, on the trees of the words `foo`, `football` and `foot`, each ended
+//! by a byte 00. Each watch is told by its key.
 use super::written::{Work, row, work_of};
 use crate::Notice;
 use radix_node::Tree;
 use std::alloc::Global;
 use std::test::Fail;
 
-/// A write, the key of a watch, and whether the watch of the key's look-up fires, and that of the keys
-/// that begin with it.
+/// A write, the key of a watch, and whether the watch of the key's look-up fires, and that of the
+/// keys that begin with it.
 type Line = (&'static [u8], &'static [u8], bool, bool);
 
 const OLD: [&[u8]; 2] = [b"foo\0", b"football\0"];
@@ -73,8 +73,8 @@ fn an_insert_fires_what_it_copies(rt: HostRuntime) -> Result<(), Fail> {
     Ok(())
 }
 
-/// The tree of `foo` and `football` before and after `football` is taken out: the node above is merged
-/// with that of `foo`, whose leaf stays.
+/// The tree of `foo` and `football` before and after `football` is taken out: the node above is
+/// merged with that of `foo`, whose leaf stays.
 fn merged(alloc: Global) -> Result<bool, Fail> {
     let mut work = work_of(alloc, &OLD)?;
     let old = work.stand()?;

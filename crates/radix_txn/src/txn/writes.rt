@@ -9,6 +9,7 @@ ghost use Rattle.radix_node.specs.Paths.{Has, IsPath, paths_of_plain};
 ghost use Rattle.radix_txn.specs.Kept.{AreWritten, deleted_key, deleted_keys};
 ghost use Rattle.radix_txn.specs.Notice.{IsDrawn};
 ghost use Rattle.radix_txn.specs.Txn.{txn_pairs};
+ghost use Rattle.radix_txn.specs.inner.Removal.{TakesNone, kept_pairs, old_row, taken_keys};
 ghost use Rattle.radix_txn.specs.Write.{IsShort, after_write, after_writes, all_keys, write_keys};
 
 use crate::cells::Cells;
@@ -23,6 +24,13 @@ use radix_node::{Ids, Tree};
 use std::alloc::AllocError;
 use std::mem;
 use watch_word::Front;
+
+/// The row of the key, where one key was to go, and how many keys went.
+#[derive(Drop)]
+struct Deleted {
+    row: Option<Row>,
+    count: u64,
+}
 
 impl TreeTxn {
     /// Puts a row under a key, and gives the old row, if there was one. It takes memory for a copy
@@ -73,9 +81,9 @@ impl TreeTxn {
     }
 
     /// Takes out a key, and gives the old row; `None`, where the key isn't stored, and then nothing
-    /// is copied and no cell is made. Else it takes memory for a copy of each node on the key's path,
-    /// each with a new cell, and is refused only for want of it, or of room to count one more owner of
-    /// a node or row; that spoils the transaction.
+    /// is copied and no cell is made. Else it takes memory for a copy of each node on the key's
+    /// path, each with a new cell, and is refused only for want of it, or of room to count one more
+    /// owner of a node or row; that spoils the transaction.
     pub fn delete(
         &mut self,
         front: &Front,
@@ -109,30 +117,13 @@ impl TreeTxn {
         ensures unchanged { OnErr result (self.new.tree ≡ self.old.tree) }
         ensures spoiled { self.new.spoiled ≡ is_err result }
     {
-        // Brings the first tree's shape into the proof of what is kept.
-        let _ = self.start.root();
-        self.spoiled = true;
-        let mut cells = begin(&mut self.state, front, ids)?;
-        let taken = remove::take(&self.state.tree, key, Target::Key, &mut cells)?;
-        let Some(taken) = taken else {
-            restore(&mut self.state, cells);
-            self.spoiled = false;
-            return Ok(None);
-        };
-        let Taken {
-            tree,
-            row,
-            count: _,
-        } = taken;
-        settle(&mut self.state, ids, tree, cells);
-        self.spoiled = false;
-        Ok(row)
+        Ok(self.take_out(front, ids, key, Target::Key)?.row)
     }
 
     /// Takes out the keys that begin with a prefix, and says how many they were; 0, where there is
-    /// no such key, and then nothing is copied and no cell is made. Else it takes memory for a copy of
-    /// each node on the prefix's path, each with a new cell, and is refused as [`TreeTxn::delete`] is.
-    /// It takes time in the number of keys that go.
+    /// no such key, and then nothing is copied and no cell is made. Else it takes memory for a copy
+    /// of each node on the prefix's path, each with a new cell, and is refused as
+    /// [`TreeTxn::delete`] is. It takes time in the number of keys that go.
     pub fn delete_prefix(
         &mut self,
         front: &Front,
@@ -169,24 +160,65 @@ impl TreeTxn {
         ensures unchanged { OnErr result (self.new.tree ≡ self.old.tree) }
         ensures spoiled { self.new.spoiled ≡ is_err result }
     {
+        Ok(self.take_out(front, ids, prefix, Target::Prefix)?.count)
+    }
+
+    /// Takes out the keys of a target.
+    fn take_out(
+        &mut self,
+        front: &Front,
+        ids: &mut Ids,
+        key: &[u8],
+        target: Target,
+    ) -> Result<Deleted, AllocError>
+        requires short { length key.now ≤ 2048 }
+        requires sound { self.old.spoiled ≡ false }
+        requires book { front.now.book ≡ ids.old.book }
+        requires left { ids.old.next + 4096 ≤ 2 ^ 63 }
+        requires below { AreBelow ids.old.next self.old.tree }
+        requires of { AreOf ids.old.book self.old.tree }
+        requires below_start { AreBelow ids.old.next self.old.start }
+
+        ensures pairs { OnOk result
+            (txn_pairs self.new ≡ kept_pairs target key.now (txn_pairs self.old)) }
+        ensures old { IfOk result (λ d. d.row ≡ old_row target key.now (txn_pairs self.old)) }
+        ensures count { IfOk result
+            (λ d. d.count + length (txn_pairs self.new) ≡ length (txn_pairs self.old)) }
+        ensures missing { IfOk result (λ d. TakesNone target d.row d.count
+            → (self.new ≡ self.old) × (ids.new ≡ ids.old)) }
+        ensures start { self.new.start ≡ self.old.start }
+        ensures below { AreBelow ids.new.next self.new.tree }
+        ensures of { AreOf ids.new.book self.new.tree }
+        ensures drawn { IsDrawn front.now ids.old ids.new self.old.tree self.new.tree }
+        ensures below_start { AreBelow ids.new.next self.new.start }
+        ensures ids { (ids.old.next ≤ ids.new.next) × (ids.new.next ≤ ids.old.next + 4096) }
+        ensures book { ids.new.book ≡ ids.old.book }
+
+        ensures written { OnOk result ((keys : List Bytes)
+            → AreWritten self.old.start self.old.tree keys
+            → AreWritten self.new.start self.new.tree
+            (taken_keys target key.now (txn_pairs self.old) keys)) }
+
+        ensures unchanged { OnErr result (self.new.tree ≡ self.old.tree) }
+        ensures spoiled { self.new.spoiled ≡ is_err result }
+    {
         // Brings the first tree's shape into the proof of what is kept.
         let _ = self.start.root();
         self.spoiled = true;
         let mut cells = begin(&mut self.state, front, ids)?;
-        let taken = remove::take(&self.state.tree, prefix, Target::Prefix, &mut cells)?;
+        let taken = remove::take(&self.state.tree, key, target, &mut cells)?;
         let Some(taken) = taken else {
             restore(&mut self.state, cells);
             self.spoiled = false;
-            return Ok(0);
+            return Ok(Deleted {
+                row: None,
+                count: 0,
+            });
         };
-        let Taken {
-            tree,
-            row: _,
-            count,
-        } = taken;
+        let Taken { tree, row, count } = taken;
         settle(&mut self.state, ids, tree, cells);
         self.spoiled = false;
-        Ok(count)
+        Ok(Deleted { row, count })
     }
 
     /// Makes a write.

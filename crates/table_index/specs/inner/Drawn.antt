@@ -8,8 +8,8 @@ use Rattle.radix_txn.specs.Txn.{Txn}
 use Rattle.table_index.specs.Table.{AreDrawn}
 use Rattle.table_index.specs.inner.Held.{AreSound, starts_of, trees_of}
 
--- all cells of a transaction's trees have ids that were drawn, and those of the present tree are of the
--- counter's book
+-- all cells of a transaction's trees have ids that were drawn, and those of the present tree are of
+-- the counter's book
 pub record IsWithin (ids : Counter) (x : Txn) : Type 0 where
   pub start : AreBelow ids.next x.start
   pub tree : AreBelow ids.next x.tree

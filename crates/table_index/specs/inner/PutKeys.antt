@@ -4,8 +4,8 @@ use Rattle.std.specs.List.{list_any}
 use Rattle.mdb_datum.specs.Row.{Fields, Pair}
 use Rattle.mdb_encode.specs.Bytes.{Bytes}
 use Rattle.mdb_schema.specs.Schema.{IndexSchema, TableSchema}
-use Rattle.mdb_schema.specs.Touched.{full_keys_of}
 use Rattle.mdb_schema.specs.Write.{Changed, is_among, put_row}
+use Rattle.mdb_schema.specs.inner.Edits.{full_keys_of}
 use Rattle.radix_node.specs.Pairs.{find}
 use Rattle.table_index.specs.inner.TreeEdits.{NewAndOld}
 

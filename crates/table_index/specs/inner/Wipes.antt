@@ -77,8 +77,8 @@ pub record IsMoved (t : TableSchema) (cut : ℕ) (row : Fields) (before after : 
   pub taking : IsTaking t cut row taken before after
   pub gone : new ≡ (if taken then old ++ row ∷ [] else old)
 
--- the rows are all that the tree of an index lists under a key, there are ids for them, and the tree is
--- without its keys that begin with the key
+-- the rows are all that the tree of an index lists under a key, there are ids for them, and the
+-- tree is without its keys that begin with the key
 pub record IsCut (t : TableSchema) (place : ℕ) (key : Bytes) (listed : List Fields) (next : ℕ)
     (before after : List Txn) : Type 0 where
   pub rows : listed ≡ listed_from key (slice_get before place)

@@ -1,4 +1,4 @@
-// Questions of a table without rows: what each is answered, and each refusal.
+//! Questions of a table without rows: what each is answered, and each refusal.
 use super::work::Base;
 use super::{right, table_of};
 use mdb_datum::{Datum, Items, Text, read_doc};

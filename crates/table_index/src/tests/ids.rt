@@ -97,7 +97,8 @@ fn wiped(alloc: Global, count: u64, tag: &str) -> Result<Result<u64, WipeError>,
     Ok(work.remove_all(&query))
 }
 
-/// How many ids there are at the opening, a tag, and how a wipe of the tags that begin so is answered.
+/// How many ids there are at the opening, a tag, and how a wipe of the tags that begin so is
+/// answered.
 type Wipe = (u64, &'static str, Result<u64, WipeError>);
 
 /// Three entries are listed of two rows.
@@ -142,8 +143,9 @@ fn is_noticed(
     Ok(have(&notices, by_name, by_tag))
 }
 
-// In the tree of names the root goes, whose edges are `ann` and `bob`; a tag `d` is a new edge of the root
-// of the other, and a name with the first letters of another splits its node, which keeps its leaf.
+// In the tree of names the root goes, whose edges are `ann` and `bob`; a tag `d` is a new edge of
+// the root of the other, and a name with the first letters of another splits its node, which keeps
+// its leaf.
 #[test]
 fn each_index_has_a_notice(rt: HostRuntime) -> Result<(), Fail> {
     right(is_noticed(rt.alloc(), None, 0, 0)?, "no row")?;

@@ -16,8 +16,8 @@ const ROWS: &str = r#"insert {"age":1,"name":"foo"} => inserted
 insert {"age":2,"name":"football"} => inserted
 "#;
 
-/// A question of the index `id`: its word, its name of the index and its arguments; a write; and whether
-/// the question's watch moves by it.
+/// A question of the index `id`: its word, its name of the index and its arguments; a write; and
+/// whether the question's watch moves by it.
 type Case = (&'static str, &'static str, &'static str, &'static str, bool);
 
 const FOOL: &str = "insert {\"age\":3,\"name\":\"fool\"} => inserted\n";
@@ -28,8 +28,8 @@ const FOOT: &str = "insert {\"age\":3,\"name\":\"foot\"} => inserted\n";
 
 const WITHOUT_FOOTBALL: &str = "delete {\"name\":\"football\"} => deleted\n";
 
-/// A look-up of a missing key is guarded by the node where the key leaves the tree: that of the common
-/// prefix `foo`, or of `football` where the key goes on towards it.
+/// A look-up of a missing key is guarded by the node where the key leaves the tree: that of the
+/// common prefix `foo`, or of `football` where the key goes on towards it.
 const CASES: [Case; 11] = [
     ("first", "id", r#"["fool"]"#, FOOL, true),
     ("first", "id", r#"["foo"]"#, FOOL, false),
@@ -81,7 +81,8 @@ fn is_noticed(notices: &Notices, spot: &Spot) -> bool {
     false
 }
 
-/// Whether the cell of the same question is another one in a later table, which the notices must tell too.
+/// Whether the cell of the same question is another one in a later table, which the notices must
+/// tell too.
 fn moves(table: &Table, notices: &Notices, spot: &Spot) -> Result<bool, Fail> {
     if spot.index() as usize >= schema_of(table).len() {
         return Err(Fail::from("no index"));

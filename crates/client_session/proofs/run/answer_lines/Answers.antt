@@ -4,7 +4,7 @@ use Rattle.std.proofs.lemmas.Option.{slice_get-get_or}
 use Rattle.client_script.specs.declared.line.Line.{Line}
 use Rattle.client_session.specs.inner.OpenView.{caller_of}
 use Rattle.client_script.specs.declared.command.Command.TheVariants as command
-use Rattle.client_session.proofs.Carrying.{next, kept_some, known_at, own_later, was_err, was_ok}
+use Rattle.client_session.proofs.OneMoreLine.{next, kept_some, known_at, own_later, was_err, was_ok}
 use Rattle.client_session.proofs.run.answer_lines.Goals as goal
 
 pub loop-at-init : goal.loop-at-init

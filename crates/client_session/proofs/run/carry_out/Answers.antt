@@ -1,4 +1,4 @@
-use Rattle.client_session.proofs.Carrying.{carried_ok}
+use Rattle.client_session.proofs.OneMoreLine.{carried_ok}
 use Rattle.client_session.proofs.run.carry_out.Goals as goal
 
 pub returns-clause-answered : goal.returns-clause-answered

@@ -1,5 +1,5 @@
 use Rattle.std.proofs.Common.{rules, ◌++◌, ap, ◌∙◌, sym, option_to_list}
-use Rattle.db_front.proofs.Gathered.{none_first, gathered, gathered_all}
+use Rattle.db_front.proofs.SeatNumbers.{none_first, gathered, gathered_all}
 use Rattle.db_front.proofs.close.gather.Goals as goal
 
 pub loop-pass-preserved : goal.loop-pass-preserved

@@ -6,7 +6,7 @@ use Rattle.mdb_datum.specs.Canonical.{names_in, IsRegular, AreRegular, HaveRegul
 use Rattle.mdb_datum.specs.Doc.{doc_list, field_list}
 use Rattle.mdb_datum.specs.Datum.{doc_of, items_of, members_of}
 use Rattle.mdb_datum.specs.Reading.{whole_docs, whole_fields}
-use Rattle.mdb_datum.proofs.Reading.{docs_before, whole_docs-more, docs_before-no_docs, fields_before, whole_fields-more, fields_before-no_fields}
+use Rattle.mdb_datum.proofs.Readings.{docs_before, whole_docs-more, docs_before-no_docs, fields_before, whole_fields-more, fields_before-no_fields}
 use Rattle.std.specs.Str.{IsUtf8}
 use Rattle.mdb_datum.proofs.Levels.{text_level}
 use Rattle.mdb_datum.proofs.Regular.{AreRegular-one_more, HaveRegularMembers-one_more, names_of, key_bytes, names_of-one_more, names_in-field_list, key_bytes-rise}

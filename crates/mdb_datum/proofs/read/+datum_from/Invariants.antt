@@ -5,7 +5,7 @@ use Rattle.mdb_datum.specs.Canonical.{AreRegular, HaveRegularMembers}
 use Rattle.mdb_datum.specs.Datum.{items_of, members_of}
 use Rattle.mdb_datum.specs.Doc.{doc_list, field_list}
 use Rattle.mdb_datum.specs.Reading.{whole_docs, whole_fields}
-use Rattle.mdb_datum.proofs.Reading.{docs_before, fields_before}
+use Rattle.mdb_datum.proofs.Readings.{docs_before, fields_before}
 use Rattle.mdb_datum.proofs.Regular.{names_of, key_bytes}
 use Rattle.mdb_datum.proofs.read.+datum_from.Given as goal
 

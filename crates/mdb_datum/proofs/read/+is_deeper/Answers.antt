@@ -1,7 +1,7 @@
 use Rattle.std.proofs.Common.{nat_lt, ap, ◌∙◌}
 use Rattle.serde_json.specs.View.{items_view}
 use Rattle.serde_json.specs.Data.{items_depth}
-use Rattle.mdb_datum.proofs.Reading.{values_depth}
+use Rattle.mdb_datum.proofs.Readings.{values_depth}
 use Rattle.mdb_datum.proofs.read.+is_deeper.Goals as goal
 
 pub any_member_is_deeper-loop-member-init : goal.any_member_is_deeper-loop-member-init

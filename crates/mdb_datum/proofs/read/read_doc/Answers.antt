@@ -2,7 +2,7 @@ use Rattle.std.proofs.Common.{ap, ◌∙◌, rules}
 use Rattle.std.proofs.lemmas.Result.{err_from_is_err_and}
 use Rattle.serde_json.specs.View.{view}
 use Rattle.mdb_datum.specs.Reading.{or_not_whole}
-use Rattle.mdb_datum.proofs.Reading.{reading-too_deep, reading-shallow}
+use Rattle.mdb_datum.proofs.Readings.{reading-too_deep, reading-shallow}
 use Rattle.mdb_datum.specs.Datum.{doc_of}
 use Rattle.mdb_datum.proofs.Regular.{IsCanonical-whole_doc}
 use Rattle.mdb_datum.proofs.read.read_doc.Goals as goal

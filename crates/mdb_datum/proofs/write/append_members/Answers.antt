@@ -4,7 +4,7 @@ use Rattle.json.specs.Print.{print}
 use Rattle.mdb_datum.specs.Doc.{object, field_list}
 use Rattle.mdb_datum.specs.Datum.{members_of}
 use Rattle.mdb_datum.specs.inner.Tokens.{doc_tokens}
-use Rattle.mdb_datum.proofs.Writing.{print_doc_tokens}
+use Rattle.mdb_datum.proofs.TokenText.{print_doc_tokens}
 use Rattle.mdb_datum.proofs.write.append_members.Goals as goal
 
 on_ok : {T E P Q : Type 0} (r : Result T E) → OnOk r P → (P → Q) → OnOk r Q

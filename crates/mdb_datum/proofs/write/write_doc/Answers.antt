@@ -4,7 +4,7 @@ use Rattle.mdb_datum.specs.Datum.{doc_of}
 use Rattle.mdb_datum.specs.inner.Tokens.{doc_tokens}
 use Rattle.mdb_datum.specs.Reading.{reading}
 use Rattle.mdb_datum.proofs.RoundTrip.{reading-compact}
-use Rattle.mdb_datum.proofs.Writing.{print_doc_tokens}
+use Rattle.mdb_datum.proofs.TokenText.{print_doc_tokens}
 use Rattle.mdb_datum.proofs.write.write_doc.Goals as goal
 
 pub returns : goal.returns

@@ -1,6 +1,6 @@
 use Rattle.std.proofs.Common.{refl}
 use Rattle.mdb_schema.proofs.Tables.{table_at-some}
-use Rattle.mdb_schema.proofs.Wiped.{wipe-ok, after_wipe-table, after_wipe-other}
+use Rattle.mdb_schema.proofs.WipeLaws.{wipe-ok, after_wipe-table, after_wipe-other}
 use Rattle.mdb_schema.proofs.laws.wipes_take_out_what_they_list.Goals as goal
 
 pub returns-clause-leaves : goal.returns-clause-leaves

@@ -2,7 +2,7 @@
 use Rattle.std.proofs.Common.{sym}
 use Rattle.mdb_datum.specs.Datum.{doc_of, members_of}
 use Rattle.mdb_schema.proofs.LawfulSchemas.{schema_lawful}
-use Rattle.mdb_schema.proofs.Listed.{table_list_found}
+use Rattle.mdb_schema.proofs.IndexLists.{table_list_found}
 use Rattle.mdb_schema.proofs.read.schema_in.Goals as goal
 
 pub tables_in-requires : goal.tables_in-requires

@@ -1,7 +1,7 @@
 use Rattle.mdb_datum.specs.Datum.{doc_of, members_of}
 use Rattle.mdb_schema.specs.Reading.{table_in}
 use Rattle.mdb_schema.proofs.Each.{each_pushed, named_refusal_at}
-use Rattle.mdb_schema.proofs.Listed.{regular_at}
+use Rattle.mdb_schema.proofs.IndexLists.{regular_at}
 use Rattle.mdb_schema.proofs.read.tables_in.Goals as goal
 
 pub table_in-requires : goal.table_in-requires

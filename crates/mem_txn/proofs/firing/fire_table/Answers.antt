@@ -1,5 +1,5 @@
 use Rattle.std.proofs.Common.{rules}
-use Rattle.notify_walk.proofs.Firing.{later_again}
+use Rattle.notify_walk.proofs.Firings.{later_again}
 use Rattle.mem_txn.proofs.FiredTables.{fired_more, notice_of}
 use Rattle.mem_txn.proofs.firing.fire_table.Goals as goal
 

@@ -1,5 +1,5 @@
 use Rattle.std.proofs.Common.{map}
-use Rattle.notify_walk.proofs.Firing.{later_again}
+use Rattle.notify_walk.proofs.Firings.{later_again}
 use Rattle.mem_txn.specs.inner.Firing.{cells_in}
 use Rattle.mem_txn.proofs.FiredTables.{cells_there, fired_more, notice_of}
 use Rattle.mem_txn.proofs.firing.fire_tables.Goals as goal

@@ -1,7 +1,7 @@
 use Rattle.std.proofs.Common.{◌∙◌, sym, arith}
 use Rattle.std.specs.Arc.{arc_value}
 use Rattle.std.proofs.Common.{map}
-use Rattle.mem_txn.proofs.EmptyTables.{none_empty, one_more}
+use Rattle.mem_txn.proofs.EmptyTables.{one_more}
 use Rattle.mem_txn.proofs.view.empty_tables.Goals as goal
 
 pub loop-at-preserved : goal.loop-at-preserved

@@ -1,6 +1,6 @@
 use Rattle.std.proofs.Common.{refl, sym}
 use Rattle.mdb_schema.specs.Write.{remove}
-use Rattle.mem_txn.proofs.Gathered.{gathered_more}
+use Rattle.mem_txn.proofs.ListLoops.{gathered_more}
 use Rattle.mem_txn.proofs.wipe.removals.Goals as goal
 
 pub loop-at-preserved : goal.loop-at-preserved

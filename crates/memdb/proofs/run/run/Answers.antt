@@ -1,4 +1,5 @@
--- Where a cause is there, its status is the one that the output has, and status 8 is told by the output alone.
+-- Where a cause is there, its status is the one that the output has, and status 8 is told by the
+-- output alone.
 use Rattle.std.proofs.Common.{rules, inl}
 use Rattle.memdb.proofs.Exclusion.{called_for, only_not_yet}
 use Rattle.memdb.proofs.run.run.Goals as goal

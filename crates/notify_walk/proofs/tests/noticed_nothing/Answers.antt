@@ -1,5 +1,5 @@
 use Rattle.std.proofs.Common.{refl, rules}
-use Rattle.notify_walk.proofs.Firing.{notice_from}
+use Rattle.notify_walk.proofs.Firings.{notice_from}
 use Rattle.notify_walk.proofs.tests.noticed_nothing.Goals as goal
 
 pub returns : goal.returns

@@ -1,5 +1,5 @@
 use Rattle.std.proofs.Common.{rules}
-use Rattle.notify_walk.proofs.Firing.{notice_from}
+use Rattle.notify_walk.proofs.Firings.{notice_from}
 use Rattle.notify_walk.proofs.tests.with.Goals as goal
 
 pub returns-clause-notice : goal.returns-clause-notice

@@ -1,4 +1,5 @@
--- The steps down along the key, each of which adds the row of a prefix of it and the rows of lower keys beside it.
+-- The steps down along the key, each of which adds the row of a prefix of it and the rows of lower
+-- keys beside it.
 use Rattle.std.proofs.lemmas.Result.{IfOk-equal}
 use Rattle.radix_node.specs.Cells.{plain_of}
 use Rattle.radix_node.specs.Node.{plain_node}

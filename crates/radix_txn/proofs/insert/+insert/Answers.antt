@@ -1,57 +1,50 @@
 -- The walk goes on by the edge of the first byte.
-use Rattle.std.proofs.Common.{◌≡◌, [], ◌∷◌, ◌+◌, ◌-◌, ◌<◌, ◌≤◌, ◌∙◌, List, ℕ, length, take, drop, sym, ap, subst, arith, length-drop}
+use Rattle.std.proofs.Common.{refl, ◌≡◌, [], ◌-◌, ◌<◌, ◌≤◌, ◌∙◌, List, ℕ, length, take, drop, sym, ap, subst, arith, length-drop}
 use Rattle.std.specs.Arc.{arc_value}
 use Rattle.std.proofs.lemmas.List.{take_rest}
 use Rattle.mdb_datum.specs.Bytes.{Bytes}
-use Rattle.radix_node.specs.CellNode.{led as edge_led, cell_node, cell_ref, led_node}
+use Rattle.radix_node.specs.CellNode.{cell_node, cell_ref}
 use Rattle.radix_node.specs.Cells.{CellNode}
-use Rattle.radix_node.specs.Node.{below, leaf_pair, edges_of, labelled, node_of, plain_edge, plain_node}
+use Rattle.radix_node.specs.Node.{below, leaf_pair, edges_of, node_of, plain_edge, plain_node}
 use Rattle.radix_node.specs.Nodes.{common}
 use Rattle.radix_node.specs.inner.Seek.{seek_plain}
 use Rattle.radix_node.proofs.CellLevels.{same_prefix}
-use Rattle.radix_txn.specs.inner.Below.{row_in, over, insert_below}
+use Rattle.radix_txn.specs.inner.Below.{row_in, over, insert_below, leaf_node}
 use Rattle.radix_txn.specs.declared.target.Target.TheVariants.{Key}
 use Rattle.radix_txn.specs.inner.Outside.{AllIn, outside_node}
 use Rattle.radix_txn.specs.inner.Pieces.{inside}
-use Rattle.radix_txn.proofs.CellInserts.{gap_step, place_step, led_at, led_in}
+use Rattle.radix_txn.proofs.CellInserts.{place_step, led_at}
 use Rattle.radix_txn.proofs.ChildShape.{child_at, rises}
 use Rattle.radix_txn.proofs.EditStays.{gap_stays, no_bytes, onward_stays, split_stays}
-use Rattle.radix_txn.proofs.InsertSteps.{gap_within, in_range, insert_gap, insert_onward, led_there, put_at, seek_gap, seeks}
-use Rattle.radix_txn.proofs.SettledNode.{next_fits}
+use Rattle.radix_txn.proofs.InsertSteps.{gap_within, in_range, insert_gap, insert_onward, led_there, seek_gap, seeks}
 use Rattle.radix_txn.proofs.Split.{first_none, found_below, found_split, grown_onward, second_long, second_rest}
 use Rattle.radix_txn.proofs.insert.+insert.Goals as goal
 
 pub find_edge-requires : goal.find_edge-requires
 find_edge-requires t c = record { rising = rises _ (edges_of c.edges.result.now) c.requires.shape c.edges.ensures.edges }
 
-pub with_edge-requires-clause-in_range : goal.with_edge-requires-clause-in_range
-with_edge-requires-clause-in_range t c = gap_within c.in-Some.first.now c.in-Some.after.now c.args.rest.now c.in-Some.ensures.cases.0 (plain_node c.args.node.now) (edges_of c.edges.result.now) c.edges.ensures.edges c.in-Err.at c.in-Err.ensures.gap
+pub add_edge-requires-clause-in_range : goal.add_edge-requires-clause-in_range
+add_edge-requires-clause-in_range t c = gap_within c.in-Some.first.now c.in-Some.after.now c.args.rest.now c.in-Some.ensures.cases.0 (plain_node c.args.node.now) (edges_of c.edges.result.now) c.edges.ensures.edges c.in-Err.at c.in-Err.ensures.gap
 
 pub returns-in-Err-clause-node : goal.returns-in-Err-clause-node
 returns-in-Err-clause-node t c =
-    c.in_ok-node-in-Err.ensures.node ∙ put_at (plain_node c.args.node.now) c.in-Err.at c.in-Err.at (ap labelled c.of.ensures.edge)
-    ∙ insert_gap c.in-Some.first.now c.in-Some.after.now c.args.rest.now c.in-Some.ensures.cases.0 (plain_node c.args.node.now) (edges_of c.edges.result.now) c.edges.ensures.edges (leaf_pair c.args.leaf) c.in-Err.at (node_of c.in_ok-child-in-Err.child) c.in-Err.ensures.gap c.in_ok-child-in-Err.ensures.node
+    c.in_ok-node-in-Err.ensures.node
+    ∙ insert_gap c.in-Some.first.now c.in-Some.after.now c.args.rest.now c.in-Some.ensures.cases.0 (plain_node c.args.node.now) (edges_of c.edges.result.now) c.edges.ensures.edges (leaf_pair c.args.leaf) c.in-Err.at (leaf_node c.in-Some.after.now (leaf_pair c.args.leaf)) c.in-Err.ensures.gap refl
 
 pub returns-in-Err-clause-old : goal.returns-in-Err-clause-old
 returns-in-Err-clause-old t c = ap row_in (sym (seek_gap c.in-Some.first.now c.in-Some.after.now c.args.rest.now c.in-Some.ensures.cases.0 (plain_node c.args.node.now) (edges_of c.edges.result.now) c.edges.ensures.edges c.in-Err.at c.in-Err.ensures.gap))
 
-pub overflow_add-at : goal.overflow_add-at
-overflow_add-at t c = next_fits c.in-Ok.found.0 c.edges.result.now _ c.edges.ensures.edges (in_range c.in-Some.first.now c.in-Some.after.now c.args.rest.now c.in-Some.ensures.cases.0 (plain_node c.args.node.now) (edges_of c.edges.result.now) c.edges.ensures.edges c.in-Ok.found.0 c.in-Ok.ensures.place)
+pub with_child-requires-clause-in_range : goal.with_child-requires-clause-in_range
+with_child-requires-clause-in_range t c = in_range c.in-Some.first.now c.in-Some.after.now c.args.rest.now c.in-Some.ensures.cases.0 (plain_node c.args.node.now) (edges_of c.edges.result.now) c.edges.ensures.edges c.in-Ok.found.0 c.in-Ok.ensures.place
 
-pub overflow_add-at-2 : goal.overflow_add-at-2
-overflow_add-at-2 t c = next_fits c.in-Ok.found.0 c.edges.result.now _ c.edges.ensures.edges (in_range c.in-Some.first.now c.in-Some.after.now c.args.rest.now c.in-Some.ensures.cases.0 (plain_node c.args.node.now) (edges_of c.edges.result.now) c.edges.ensures.edges c.in-Ok.found.0 c.in-Ok.ensures.place)
-
-pub with_edge-requires-then-shared-prefix-clause-in_range : goal.with_edge-requires-then-shared-prefix-clause-in_range
-with_edge-requires-then-shared-prefix-clause-in_range t c = omega (arith, in_range c.in-Some.first.now c.in-Some.after.now c.args.rest.now c.in-Some.ensures.cases.0 (plain_node c.args.node.now) (edges_of c.edges.result.now) c.edges.ensures.edges c.in-Ok.found.0 c.in-Ok.ensures.place)
-
-pub with_edge-requires-2-clause-in_range : goal.with_edge-requires-2-clause-in_range
-with_edge-requires-2-clause-in_range t c = omega (arith, in_range c.in-Some.first.now c.in-Some.after.now c.args.rest.now c.in-Some.ensures.cases.0 (plain_node c.args.node.now) (edges_of c.edges.result.now) c.edges.ensures.edges c.in-Ok.found.0 c.in-Ok.ensures.place)
+pub with_child-requires-2-clause-in_range : goal.with_child-requires-2-clause-in_range
+with_child-requires-2-clause-in_range t c = in_range c.in-Some.first.now c.in-Some.after.now c.args.rest.now c.in-Some.ensures.cases.0 (plain_node c.args.node.now) (edges_of c.edges.result.now) c.edges.ensures.edges c.in-Ok.found.0 c.in-Ok.ensures.place
 
 pub returns-then-shared-prefix-clause-node : goal.returns-then-shared-prefix-clause-node
 returns-then-shared-prefix-clause-node t c =
     let c_node = plain_node c.node-child.result.now in
     let there = led_there c.in-Some.first.now (edges_of c.edges.result.now) c.in-Ok.found.0 (plain_edge c.in-Ok.found.1.now) c_node c.in-Ok.ensures.edge c.in-Ok.ensures.place c.node-child.ensures.node in
-    c.in_ok-node.ensures.node ∙ put_at (plain_node c.args.node.now) c.in-Ok.found.0 (c.in-Ok.found.0 + 1) (ap labelled c.of-then-shared-prefix.ensures.edge)
+    c.in_ok-node.ensures.node
     ∙ insert_onward c.in-Some.first.now c.in-Some.after.now c.args.rest.now c.in-Some.ensures.cases.0 (plain_node c.args.node.now) (edges_of c.edges.result.now) c.edges.ensures.edges c.in-Ok.found.0 c.in-Ok.ensures.place c_node there (leaf_pair c.args.leaf) (node_of c.in_ok-child.child) c.in_ok-child.ensures.node
 
 pub returns-then-shared-prefix-clause-old : goal.returns-then-shared-prefix-clause-old
@@ -81,7 +74,7 @@ returns-clause-node t c =
     let c_node = plain_node c.node-child.result.now in
     let there = led_there c.in-Some.first.now (edges_of c.edges.result.now) c.in-Ok.found.0 (plain_edge c.in-Ok.found.1.now) c_node c.in-Ok.ensures.edge c.in-Ok.ensures.place c.node-child.ensures.node in
     let grown : node_of c.in_ok-child-2.field-0.node ≡ over c_node (insert_below (leaf_pair c.args.leaf) (drop c.common_prefix_len-shared.result c.in-Some.after.now) (below c_node)) = c.in_ok-child-2.ensures.node ∙ ap (λ (z : List ℕ). over c_node (insert_below (leaf_pair c.args.leaf) z (below c_node))) (take_rest c.in-Some.after.now c.common_prefix_len-shared.result) in
-    c.in_ok-node-2.ensures.node ∙ put_at (plain_node c.args.node.now) c.in-Ok.found.0 (c.in-Ok.found.0 + 1) (ap labelled c.of-2.ensures.edge)
+    c.in_ok-node-2.ensures.node
     ∙ insert_onward c.in-Some.first.now c.in-Some.after.now c.args.rest.now c.in-Some.ensures.cases.0 (plain_node c.args.node.now) (edges_of c.edges.result.now) c.edges.ensures.edges c.in-Ok.found.0 c.in-Ok.ensures.place c_node there (leaf_pair c.args.leaf) (node_of c.in_ok-child-2.field-0.node)
     (grown ∙ sym (grown_onward (leaf_pair c.args.leaf) c.in-Some.after.now c_node c.common_prefix_len-shared.result c.common_prefix_len-shared.ensures (subst (λ (z : List ℕ). length z ≤ c.common_prefix_len-shared.result) c.prefix.ensures c.if-shared-prefix.false)))
 
@@ -96,27 +89,19 @@ returns-clause-old t c =
 
 -- ---- cells
 
-pub returns-in-Err-clause-cells : goal.returns-in-Err-clause-cells
-returns-in-Err-clause-cells t c =
-    let made = c.in_ok-child-in-Err.ensures.cells in
-    let edge = c.in_ok-node-in-Err.ensures.cells in
-    gap_step (arc_value c.args.leaf) (cell_node c.args.node.now) (cell_ref c.in_ok-node-in-Err.node) (led_node c.of.result) c.in-Err.at made.0 edge.0 _ _ _ c.in_ok-child-in-Err.ensures.begun made.1 (c.in-Some.first.now ∷ c.in-Some.after.now)
-    (ap edge_led c.of.ensures.cells ∙ ap (λ (w : CellNode). edge_led (record { label = c.in-Some.first.now; node = w })) made.2)
-    c.in_ok-child-in-Err.ensures.drawn edge.1 edge.2 c.in_ok-node-in-Err.ensures.left
-
 pub returns-then-shared-prefix-clause-cells : goal.returns-then-shared-prefix-clause-cells
 returns-then-shared-prefix-clause-cells t c =
     let edge = c.in_ok-node.ensures.cells in
     let there = led_at c.in-Some.first.now c.edges.result.now c.in-Ok.found.0 c.in-Ok.found.1.now (cell_node c.node-child.result.now) _ c.edges.ensures.cells c.in-Ok.ensures.cells c.in-Ok.ensures.edge c.in-Ok.ensures.place c.node-child.ensures.cells in
     place_step (arc_value c.args.leaf) (cell_node c.args.node.now) (cell_ref c.in_ok-node.node) (cell_node c.node-child.result.now) (cell_ref c.in_ok-child.child) c.in-Some.first.now c.in-Ok.found.0 edge.0 _ _ _ there c.in_ok-child.ensures.cells c.in_ok-child.ensures.onward edge.1
-    (edge.2 ∙ led_in (cell_node c.args.node.now) c.in-Ok.found.0 edge.0 (ap edge_led c.of-then-shared-prefix.ensures.cells)) c.in_ok-node.ensures.left
+    edge.2 c.in_ok-node.ensures.left
 
 pub returns-clause-cells : goal.returns-clause-cells
 returns-clause-cells t c =
     let edge = c.in_ok-node-2.ensures.cells in
     let there = led_at c.in-Some.first.now c.edges.result.now c.in-Ok.found.0 c.in-Ok.found.1.now (cell_node c.node-child.result.now) _ c.edges.ensures.cells c.in-Ok.ensures.cells c.in-Ok.ensures.edge c.in-Ok.ensures.place c.node-child.ensures.cells in
     place_step (arc_value c.args.leaf) (cell_node c.args.node.now) (cell_ref c.in_ok-node-2.node) (cell_node c.node-child.result.now) (cell_ref c.in_ok-child-2.field-0.node) c.in-Some.first.now c.in-Ok.found.0 edge.0 _ _ _ there c.in_ok-child-2.ensures.cells c.in_ok-child-2.ensures.onward edge.1
-    (edge.2 ∙ led_in (cell_node c.args.node.now) c.in-Ok.found.0 edge.0 (ap edge_led c.of-2.ensures.cells)) c.in_ok-node-2.ensures.left
+    edge.2 c.in_ok-node-2.ensures.left
 
 pub returns-then-shared-prefix-clause-fresh : goal.returns-then-shared-prefix-clause-fresh
 returns-then-shared-prefix-clause-fresh t c =
@@ -134,15 +119,15 @@ returns-clause-fresh t c =
 
 pub returns-in-Err-clause-stays : goal.returns-in-Err-clause-stays
 returns-in-Err-clause-stays t c =
-    let edge = c.in_ok-node-in-Err.ensures.cells in
-    gap_stays c.in-Some.first.now c.in-Some.after.now c.args.rest.now c.in-Some.ensures.cases.0 (cell_node c.args.node.now) (cell_ref c.in_ok-node-in-Err.node) (led_node c.of.result) edge.0 c.in-Err.at edge.2
+    let edge = c.in_ok-node-in-Err.ensures.edge in
+    gap_stays c.in-Some.first.now c.in-Some.after.now c.args.rest.now c.in-Some.ensures.cases.0 (cell_node c.args.node.now) (cell_ref c.in_ok-node-in-Err.node) edge.2 edge.0 c.in-Err.at edge.3
 
 pub returns-then-shared-prefix-clause-stays : goal.returns-then-shared-prefix-clause-stays
 returns-then-shared-prefix-clause-stays t c =
     let edge = c.in_ok-node.ensures.cells in
     let there = led_at c.in-Some.first.now c.edges.result.now c.in-Ok.found.0 c.in-Ok.found.1.now (cell_node c.node-child.result.now) _ c.edges.ensures.cells c.in-Ok.ensures.cells c.in-Ok.ensures.edge c.in-Ok.ensures.place c.node-child.ensures.cells in
     split_stays c.in-Some.first.now c.in-Some.after.now c.args.rest.now c.in-Some.ensures.cases.0 (cell_node c.args.node.now) (cell_ref c.in_ok-node.node) (cell_node c.node-child.result.now) (cell_ref c.in_ok-child.child) c.in-Ok.found.0 edge.0 there
-    (edge.2 ∙ led_in (cell_node c.args.node.now) c.in-Ok.found.0 edge.0 (ap edge_led c.of-then-shared-prefix.ensures.cells)) c.in_ok-child.ensures.stays
+    edge.2 c.in_ok-child.ensures.stays
 
 pub returns-clause-stays : goal.returns-clause-stays
 returns-clause-stays t c =
@@ -155,7 +140,7 @@ returns-clause-stays t c =
     let is : shared ≡ length (common child.prefix after) = c.common_prefix_len-shared.ensures ∙ ap (λ (z : List ℕ). length (common z after)) prefix in
     let long : length child.prefix ≤ shared = subst (λ (z : List ℕ). length z ≤ shared) (c.prefix.ensures ∙ prefix) c.if-shared-prefix.false in
     onward_stays c.in-Some.first.now after c.args.rest.now c.in-Some.ensures.cases.0 (cell_node c.args.node.now) (cell_ref c.in_ok-node-2.node) child (cell_ref c.in_ok-child-2.field-0.node) c.in-Ok.found.0 edge.0 there
-    (edge.2 ∙ led_in (cell_node c.args.node.now) c.in-Ok.found.0 edge.0 (ap edge_led c.of-2.ensures.cells))
+    edge.2
     (take (length after - shared) (drop shared after)) (first_none child.prefix after shared is long) (sym (second_rest child.prefix after shared is) ∙ sym (take_rest after shared)) c.in_ok-child-2.ensures.stays
 
 pub returns-in_default-clause-stays : goal.returns-in_default-clause-stays

@@ -9,7 +9,8 @@ use Rattle.radix_txn.proofs.remains.kept.Goals as goal
 
 pub returns-clause-cells : goal.returns-clause-cells
 returns-clause-cells c =
-    kept_step (option_map arc_value c.args.leaf) (cells_in (cell_edges c.args.edges)) c.args.prefix.now (cell_ref c.in_ok-of.field-0) (arc_value c.in_ok-cell.cell) c.args.cells.now c.draw.new.self c.in_ok-cell.ensures.begun c.in_ok-cell.ensures.next c.in_ok-of.ensures.cells c.in_ok-cell.ensures.drawn
+    let made = c.in_ok-of.ensures.cells in
+    kept_step (option_map arc_value c.args.leaf) (cells_in (cell_edges c.args.edges)) c.args.prefix.now (cell_ref c.in_ok-of.field-0) made.0 c.args.cells.now c.of.new.cells c.in_ok-of.ensures.begun made.1 made.2 c.in_ok-of.ensures.drawn
 
 pub returns-clause-stays : goal.returns-clause-stays
-returns-clause-stays c = ap inside c.in_ok-of.ensures.cells
+returns-clause-stays c = ap inside c.in_ok-of.ensures.cells.2

@@ -1,8 +1,11 @@
 -- The walk goes on by the edge of the first byte.
-use Rattle.std.proofs.Common.{◌≡◌, [], ◌∷◌, Some, None, ◌<◌, ◌∙◌, List, ℕ, length, IfSome, IfNone, sym, ap, subst, arith}
+use Rattle.std.proofs.Common.{◌≡◌, [], ◌∷◌, Option, Some, None, ◌<◌, ◌∙◌, List, ℕ, length, IfSome, IfNone, sym, ap, subst, arith}
 use Rattle.mdb_datum.specs.Bytes.{Bytes}
+use Rattle.mdb_datum.specs.Row.{Fields}
+use Rattle.radix_node.specs.Nodes.{pairs_of}
 use Rattle.radix_node.specs.CellNode.{cell_node, led_node}
-use Rattle.radix_node.specs.Node.{below_prefix, edges_of, nodes_list, plain_edge, plain_node, rest_past}
+use Rattle.radix_node.specs.Node.{PlainNode, below, below_prefix, edges_of, plain_edge, plain_node, rest_past}
+use Rattle.radix_node.specs.inner.Siblings.{nodes_list}
 use Rattle.radix_node.proofs.CellLevels.{same_prefix}
 use Rattle.radix_node.proofs.LookupSteps.{left_shorter}
 use Rattle.radix_txn.specs.inner.Below.{settled_node}
@@ -44,19 +47,23 @@ returns-in_err-without_child-clause-there t c =
     err_always _ (covered_loses c.in-Some.first.now c.in-Some.after.now c.args.rest.now c.in-Some.ensures.cases.0 (plain_node c.args.node.now) es c.edges.ensures.edges c.in-Ok.at c.in-Ok.ensures.place (plain_node c.node-child.result.now) there c.args.target c.in_default-strip_prefix.ensures
     (ap (λ (p : List ℕ). covers c.args.target p c.in-Some.after.now) (sym c.prefix.ensures) ∙ sym c.if-not-covers.ensures) child.occupied)
 
-pub count-requires : goal.count-requires
-count-requires t c =
+pub without_child-requires-clause-few : goal.without_child-requires-clause-few
+without_child-requires-clause-few t c =
     let es = edges_of c.edges.result.now in
     let there = led_there c.in-Some.first.now es c.in-Ok.at (plain_edge c.in-Ok.edge.now) (plain_node c.node-child.result.now) c.in-Ok.ensures.edge c.in-Ok.ensures.place c.node-child.ensures.node in
-    omega (arith, c.requires.few, fewer c.in-Some.first.now c.in-Some.after.now c.args.rest.now c.in-Some.ensures.cases.0 (plain_node c.args.node.now) es c.edges.ensures.edges c.in-Ok.at c.in-Ok.ensures.place (plain_node c.node-child.result.now) there)
+    let same = ap (λ (n : PlainNode). length (pairs_of (below n))) c.node-child.ensures.node in
+    omega (arith, c.requires.few, same, fewer c.in-Some.first.now c.in-Some.after.now c.args.rest.now c.in-Some.ensures.cases.0 (plain_node c.args.node.now) es c.edges.ensures.edges c.in-Ok.at c.in-Ok.ensures.place (plain_node c.node-child.result.now) there)
 
 pub returns-in_default-strip_prefix-clause-removed : goal.returns-in_default-strip_prefix-clause-removed
 returns-in_default-strip_prefix-clause-removed t c =
     let es = edges_of c.edges.result.now in
     let there = led_there c.in-Some.first.now es c.in-Ok.at (plain_edge c.in-Ok.edge.now) (plain_node c.node-child.result.now) c.in-Ok.ensures.edge c.in-Ok.ensures.place c.node-child.ensures.node in
     let child = child_at _ es c.in-Ok.at _ c.requires.shape c.edges.ensures.edges (sym there) in
-    covered_removal c.in-Some.first.now c.in-Some.after.now c.args.rest.now c.in-Some.ensures.cases.0 (plain_node c.args.node.now) es c.edges.ensures.edges c.in-Ok.at c.in-Ok.ensures.place (plain_node c.node-child.result.now) there c.args.target _ c.count.result c.in_default-strip_prefix.ensures
-    (ap (λ (p : List ℕ). covers c.args.target p c.in-Some.after.now) (sym c.prefix.ensures) ∙ sym c.if-not-covers.ensures) child.occupied c.count.ensures c.in_ok-without_child.ensures.plain
+    let r = c.in_ok-without_child.field-0 in
+    let count = c.in_ok-without_child.ensures.gone.1 ∙ sym (ap (λ (n : PlainNode). length (pairs_of (below n))) c.node-child.ensures.node) in
+    subst (λ (o : Option Fields). IsRemoval c.args.target c.args.rest.now (below_prefix c.args.node.now) (remains_of r.remains) o r.count) (sym c.in_ok-without_child.ensures.gone.0)
+    (covered_removal c.in-Some.first.now c.in-Some.after.now c.args.rest.now c.in-Some.ensures.cases.0 (plain_node c.args.node.now) es c.edges.ensures.edges c.in-Ok.at c.in-Ok.ensures.place (plain_node c.node-child.result.now) there c.args.target _ r.count c.in_default-strip_prefix.ensures
+    (ap (λ (p : List ℕ). covers c.args.target p c.in-Some.after.now) (sym c.prefix.ensures) ∙ sym c.if-not-covers.ensures) child.occupied count c.in_ok-without_child.ensures.plain)
 
 pub remove-requires : goal.remove-requires
 remove-requires t c =
@@ -99,8 +106,12 @@ returns-in_ok-above-in-Some-2-clause-removed t c =
     let label = led_prefix c.in-Some.first.now es c.in-Ok.at (plain_edge c.in-Ok.edge.now) (plain_node c.node-child.result.now) c.in-Ok.ensures.edge c.in-Ok.ensures.place c.node-child.ensures.node in
     let b = remains_of c.in-Some-2.below.remains in
     let removed = subst (λ o. IfSome o (λ (r : Removed). IsRemoval c.args.target c.in-Some-strip_prefix.left.now (below_prefix c.node-child.result.now) (remains_of r.remains) r.row r.count)) c.in-Some-2.is c.in_ok-remove.ensures.removed in
-    onward_removal c.in-Some.first.now c.in-Some.after.now c.args.rest.now c.in-Some.ensures.cases.0 n es c.edges.ensures.edges c.in-Ok.at c.in-Ok.ensures.place (plain_node c.node-child.result.now) there c.in-Some-strip_prefix.left.now c.in-Some-strip_prefix.ensures c.args.target b _ _ _ removed
-    (c.in_ok-above-in-Some-2.ensures.plain ∙ ap (λ (p : List ℕ). tree_of n.leaf (with_at c.in-Ok.at (settled_node p b.leaf b.nodes) (nodes_list n.under))) label)
+    let r = c.in_ok-above-in-Some-2.field-0 in
+    let gone = c.in_ok-above-in-Some-2.ensures.gone in
+    subst (λ (o : Option Fields). IsRemoval c.args.target c.args.rest.now (below_prefix c.args.node.now) (remains_of r.remains) o r.count) (sym gone.0)
+    (subst (λ k. IsRemoval c.args.target c.args.rest.now (below_prefix c.args.node.now) (remains_of r.remains) c.in-Some-2.below.row k) (sym gone.1)
+    (onward_removal c.in-Some.first.now c.in-Some.after.now c.args.rest.now c.in-Some.ensures.cases.0 n es c.edges.ensures.edges c.in-Ok.at c.in-Ok.ensures.place (plain_node c.node-child.result.now) there c.in-Some-strip_prefix.left.now c.in-Some-strip_prefix.ensures c.args.target b _ _ _ removed
+    (c.in_ok-above-in-Some-2.ensures.plain ∙ ap (λ (p : List ℕ). tree_of n.leaf (with_at c.in-Ok.at (settled_node p b.leaf b.nodes) (nodes_list n.under))) label)))
 
 -- ---- cells
 
@@ -133,7 +144,7 @@ returns-in_default-strip_prefix-clause-stays t c =
     let after = c.in-Some.after.now in
     let child = cell_node c.node-child.result.now in
     let there = led_at x c.edges.result.now c.in-Ok.at c.in-Ok.edge.now child _ c.edges.ensures.cells c.in-Ok.ensures.cells c.in-Ok.ensures.edge c.in-Ok.ensures.place c.node-child.ensures.cells in
-    let r = c.in_ok-without_child.field-0 in
+    let r = c.in_ok-without_child.field-0.remains in
     let prefix = same_prefix c.node-child.result.now in
     covered_stays c.args.target x after c.args.rest.now c.in-Some.ensures.cases.0 (cell_node c.args.node.now) child c.in-Ok.at there (own_leaf r) (own_nodes r) c.in_ok-without_child.ensures.leaf
     (subst (λ (z : Bytes). None ≡ rest_past z after) prefix c.in_default-strip_prefix.ensures)
@@ -146,7 +157,7 @@ returns-in_ok-above-in-Some-2-clause-stays t c =
     let left = c.in-Some-strip_prefix.left.now in
     let child = cell_node c.node-child.result.now in
     let there = led_at x c.edges.result.now c.in-Ok.at c.in-Ok.edge.now child _ c.edges.ensures.cells c.in-Ok.ensures.cells c.in-Ok.ensures.edge c.in-Ok.ensures.place c.node-child.ensures.cells in
-    let r = c.in_ok-above-in-Some-2.field-0 in
+    let r = c.in_ok-above-in-Some-2.field-0.remains in
     let nodes = c.in_ok-above-in-Some-2.ensures.nodes in
     let stays = subst (λ o. IfSome o (λ (r : Removed). AllIn (outside_node c.args.target left child) (stays_left r.remains))) c.in-Some-2.is c.in_ok-remove.ensures.stays in
     above_stays c.args.target x after c.args.rest.now c.in-Some.ensures.cases.0 (cell_node c.args.node.now) child c.in-Ok.at there (own_leaf r) (own_nodes r) c.in_ok-above-in-Some-2.ensures.leaf left

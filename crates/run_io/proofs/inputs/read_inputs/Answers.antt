@@ -8,7 +8,7 @@ use Rattle.mdb_schema.specs.Reading.{schema_of}
 use Rattle.run_io.specs.Inputs.{schema_answer, scripts_in}
 use Rattle.run_io.specs.inner.Answers.{Answers}
 use Rattle.run_io.specs.inner.ContentsOf.{bytes_in}
-use Rattle.run_io.proofs.Loaded.{inputs_stopped}
+use Rattle.run_io.proofs.LoadAnswers.{inputs_stopped}
 use Rattle.run_io.proofs.inputs.read_inputs.Goals as goal
 
 pub returns-in_err-scripts : goal.returns-in_err-scripts

@@ -7,8 +7,8 @@ use Rattle.run_io.specs.Observed.{observed}
 use Rattle.run_io.specs.inner.ContentsOf.{contents_of, bytes_in}
 use Rattle.run_io.specs.inner.Reading.{Reads}
 use Rattle.run_io.specs.Observed.{AreWhole}
-use Rattle.run_io.proofs.Excluded.{load_called}
-use Rattle.run_io.proofs.Loaded.{read_loads, unread_loads}
+use Rattle.run_io.proofs.Exclusion.{load_called}
+use Rattle.run_io.proofs.LoadAnswers.{read_loads, unread_loads}
 use Rattle.run_io.proofs.loading.load.Goals as goal
 
 pub returns-in_err-contents-clause-comes : goal.returns-in_err-contents-clause-comes

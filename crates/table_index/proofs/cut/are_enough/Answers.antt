@@ -13,13 +13,13 @@ returns-then-has_ids-clause-answers c =
       λ e. cc,
     )
 
-pub count_once-requires-clause-stored : goal.count_once-requires-clause-stored
-count_once-requires-clause-stored c =
+pub count_once-requires : goal.count_once-requires
+count_once-requires c =
     let t = c.args.def.now in
     let txns = c.args.txns.now in
     let place = c.args.place in
-    let count = same_count t txns c.requires.lawful c.requires.held in
+    let count = same_count t txns c.len.ensures.lawful c.requires.held in
     let within : place < length t.indexes = omega (arith, count, c.requires.place) in
     let at = there_within txns place c.requires.place in
-    listed_stored t c.requires.lawful place c.args.key.now txns c.requires.held within at.0 at.1 c.in_ok-listed.listed
+    listed_stored t c.len.ensures.lawful place c.args.key.now txns c.requires.held within at.0 at.1 c.in_ok-listed.listed
     (listed_there c.args.key.now c.in_ok-listed.listed (slice_get txns place) at.0 c.in_ok-listed.ensures.rows at.1)

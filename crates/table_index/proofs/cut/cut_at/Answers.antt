@@ -1,6 +1,6 @@
 use Rattle.std.proofs.Common.{◌≡◌, ◌∙◌, Some, length, slice_get, get_or, refl, ap, Option, Contains, sym, subst}
 use Rattle.std.proofs.lemmas.Option.{slice_get_read}
-use Rattle.table_index.proofs.Drawn.{drawn_at, ready_at}
+use Rattle.table_index.proofs.DrawnIds.{drawn_at, ready_at}
 use Rattle.table_index.proofs.WipeSteps.{cut_one, on_ok}
 use Rattle.radix_txn.specs.Txn.{Txn}
 use Rattle.table_index.specs.inner.Writes.{IsCutAt, keys_begun}

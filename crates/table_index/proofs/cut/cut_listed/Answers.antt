@@ -5,7 +5,7 @@ use Rattle.radix_txn.specs.Txn.{Txn}
 use Rattle.table_index.specs.Table.{AreLeft}
 use Rattle.table_index.specs.inner.Drawn.{HaveDrawn}
 use Rattle.table_index.specs.inner.Wipes.{listed_from}
-use Rattle.table_index.proofs.Drawn.{idle_drawn, more_drawn}
+use Rattle.table_index.proofs.DrawnIds.{idle_drawn, more_drawn}
 use Rattle.table_index.proofs.RowCounts.{once_more}
 use Rattle.table_index.specs.inner.Writes.{TreesWrote, IsCutAt}
 use Rattle.table_index.proofs.WrittenTrees.{trees_same}

@@ -5,7 +5,7 @@ use Rattle.mdb_encode.specs.Bytes.{Bytes}
 use Rattle.mdb_schema.specs.inner.Edits.{without_all}
 use Rattle.radix_txn.specs.Txn.{Txn, txn_pairs}
 use Rattle.table_index.specs.inner.Writes.{IsAt}
-use Rattle.table_index.proofs.Drawn.{none_drawn, ready_again, ready_at, step_drawn}
+use Rattle.table_index.proofs.DrawnIds.{none_drawn, ready_again, ready_at, step_drawn}
 use Rattle.table_index.proofs.EditSteps.{edited_next}
 use Rattle.table_index.proofs.WrittenTrees.{trees_none, step_keys}
 use Rattle.table_index.proofs.edits.delete_each.Goals as goal

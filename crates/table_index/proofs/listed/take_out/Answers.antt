@@ -3,7 +3,7 @@ use Rattle.mdb_encode.specs.Bytes.{Bytes}
 use Rattle.radix_txn.specs.Txn.{txn_pairs}
 use Rattle.table_index.specs.inner.TreeEdits.{without_each}
 use Rattle.table_index.proofs.ListedKeys.{listed_count, keys_out, stored_keys, listed_keys}
-use Rattle.table_index.proofs.Drawn.{none_drawn}
+use Rattle.table_index.proofs.DrawnIds.{none_drawn}
 use Rattle.mdb_schema.proofs.Membership.{Contains-first}
 use Rattle.table_index.proofs.WrittenRows.{row_wrote}
 use Rattle.table_index.proofs.listed.take_out.Goals as goal

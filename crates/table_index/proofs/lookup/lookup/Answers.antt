@@ -2,7 +2,7 @@ use Rattle.std.proofs.Common.{◌∙◌, sym, ap}
 use Rattle.mdb_encode.specs.Bytes.{Bytes}
 use Rattle.mdb_schema.specs.Answer.{own_name}
 use Rattle.mdb_schema.specs.Schema.{index_place}
-use Rattle.table_index.proofs.Looked.{all_passed, key_found, key_refused}
+use Rattle.table_index.proofs.Lookups.{all_passed, key_found, key_refused}
 use Rattle.table_index.proofs.lookup.lookup.Goals as goal
 
 pub returns-in-Ok-clause-answers : goal.returns-in-Ok-clause-answers

@@ -9,12 +9,12 @@ use Rattle.table_index.proofs.put.keys_of_id.Goals as goal
 
 pub returns-in-Err : goal.returns-in-Err
 returns-in-Err c =
-    not_taken c.args.def.now c.args.txns.now c.requires.lawful c.requires.held c.args.row.now c.args.id.now c.requires.known c.in-Err.error c.in-Err.ensures
+    not_taken c.args.def.now c.args.txns.now c.len.ensures.lawful c.requires.held c.args.row.now c.args.id.now c.requires.known c.in-Err.error c.in-Err.ensures
 
 pub first_taken-requires-clause-all_keys : goal.first_taken-requires-clause-all_keys
 first_taken-requires-clause-all_keys c =
     ap length c.lists.ensures
-    ∙ all_new c.args.def.now c.args.txns.now c.requires.lawful c.requires.held c.args.row.now c.args.id.now c.requires.known c.in-Ok.keys c.in-Ok-old_keys_of.keys.keys
+    ∙ all_new c.args.def.now c.args.txns.now c.len.ensures.lawful c.requires.held c.args.row.now c.args.id.now c.requires.known c.in-Ok.keys c.in-Ok-old_keys_of.keys.keys
     c.in-Ok.ensures c.in-Ok-old_keys_of.ensures.0
 
 pub returns-in-Some : goal.returns-in-Some
@@ -23,7 +23,7 @@ returns-in-Some c =
     c.in-Some.ensures.place ∙ (λ j. first_taken 0 (zip (c.lists.ensures j) (c.lists-2.ensures j)) (map txn_pairs c.args.txns.now)) in
     inr (
       key_taken c.in-Some.place,
-      key_is_taken c.args.def.now c.args.txns.now c.requires.lawful c.requires.held c.args.row.now c.args.id.now c.requires.known c.in-Ok.keys c.in-Ok-old_keys_of.keys.keys
+      key_is_taken c.args.def.now c.args.txns.now c.len.ensures.lawful c.requires.held c.args.row.now c.args.id.now c.requires.known c.in-Ok.keys c.in-Ok-old_keys_of.keys.keys
           c.in-Ok.ensures c.in-Ok-old_keys_of.ensures.0 c.in-Some.place found,
       ap (λ (n : ℕ). KeyTaken n) c.told_place.ensures,
     )
@@ -32,5 +32,5 @@ pub returns-in-None : goal.returns-in-None
 returns-in-None c =
     let found : None ≡ first_taken 0 (zip c.in-Ok.keys c.in-Ok-old_keys_of.keys.keys) (map txn_pairs c.args.txns.now) =
     c.in-None.ensures.place ∙ (λ j. first_taken 0 (zip (c.lists.ensures j) (c.lists-2.ensures j)) (map txn_pairs c.args.txns.now)) in
-    accepted c.args.def.now c.args.txns.now c.requires.lawful c.requires.held c.args.row.now c.args.id.now c.requires.known c.in-Ok.keys c.in-Ok-old_keys_of.keys.keys
+    accepted c.args.def.now c.args.txns.now c.len.ensures.lawful c.requires.held c.args.row.now c.args.id.now c.requires.known c.in-Ok.keys c.in-Ok-old_keys_of.keys.keys
     c.in-Ok.ensures c.in-Ok-old_keys_of.ensures.0 c.in-Ok-old_keys_of.keys.there c.in-Ok-old_keys_of.ensures.1 found

@@ -3,7 +3,7 @@ use Rattle.radix_txn.specs.Txn.{txn_pairs}
 use Rattle.table_index.specs.inner.Held.{nodes_of, rows_held}
 use Rattle.table_index.specs.inner.TreeEdits.{replaced_each}
 use Rattle.table_index.proofs.PutSteps.{put_in}
-use Rattle.table_index.proofs.Drawn.{none_drawn}
+use Rattle.table_index.proofs.DrawnIds.{none_drawn}
 use Rattle.table_index.proofs.WrittenRows.{put_wrote}
 use Rattle.table_index.proofs.put.write_row.Goals as goal
 

@@ -4,5 +4,5 @@ use Rattle.table_index.proofs.remove.stored_row.Goals as goal
 
 pub returns-in-Err : goal.returns-in-Err
 returns-in-Err c =
-    inl (only_memory c.args.def.now c.args.txns.now c.requires.lawful c.requires.held c.args.id.now c.in-Some.row.now
+    inl (only_memory c.args.def.now c.args.txns.now c.len.ensures.lawful c.requires.held c.args.id.now c.in-Some.row.now
     (sym c.in-Some.ensures) c.in-Err.error c.in-Err.ensures)

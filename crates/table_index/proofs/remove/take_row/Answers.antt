@@ -3,8 +3,8 @@ use Rattle.std.proofs.lemmas.List.{length-map}
 use Rattle.mdb_schema.specs.Schema.{IndexSchema}
 use Rattle.mdb_schema.specs.State.{full_keys}
 use Rattle.table_index.proofs.StoredRows.{keys_are, same_count}
-use Rattle.table_index.proofs.Taken.{removal_told}
-use Rattle.table_index.proofs.Drawn.{none_drawn}
+use Rattle.table_index.proofs.RowRemoval.{removal_told}
+use Rattle.table_index.proofs.DrawnIds.{none_drawn}
 use Rattle.table_index.proofs.WrittenRows.{stored_wrote}
 use Rattle.table_index.proofs.remove.take_row.Goals as goal
 

@@ -5,7 +5,7 @@ use Rattle.std.proofs.lemmas.List.Elements.{All-set}
 use Rattle.radix_txn.specs.Txn.{Txn, txn_pairs}
 use Rattle.table_index.specs.inner.TreeEdits.{replaced_in}
 use Rattle.table_index.specs.inner.Writes.{IsAt}
-use Rattle.table_index.proofs.Drawn.{none_drawn, ready_again, ready_at, step_drawn}
+use Rattle.table_index.proofs.DrawnIds.{none_drawn, ready_again, ready_at, step_drawn}
 use Rattle.table_index.proofs.EditSteps.{edited_next, edited_end, in_both, both_there, both_end}
 use Rattle.table_index.proofs.WrittenTrees.{trees_none, step_both}
 use Rattle.table_index.proofs.replace.replace_each.Goals as goal

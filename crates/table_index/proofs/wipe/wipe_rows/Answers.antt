@@ -6,7 +6,7 @@ use Rattle.table_index.specs.Table.{rows_asked}
 use Rattle.table_index.specs.inner.Drawn.{HaveDrawn}
 use Rattle.table_index.specs.inner.Held.{nodes_of, rows_held}
 use Rattle.table_index.specs.inner.Wipes.{listed_at}
-use Rattle.table_index.proofs.Drawn.{none_drawn}
+use Rattle.table_index.proofs.DrawnIds.{none_drawn}
 use Rattle.table_index.proofs.WipeAnswers.{wiped-listed, wiped_trees, question_refused}
 use Rattle.table_index.specs.Written.{rows_told}
 use Rattle.table_index.specs.inner.Writes.{WroteRows}

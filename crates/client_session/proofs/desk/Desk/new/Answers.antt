@@ -1,4 +1,4 @@
-use Rattle.client_session.proofs.Carrying.{first}
+use Rattle.client_session.proofs.OneMoreLine.{first}
 use Rattle.client_session.proofs.desk.Desk.new.Goals as goal
 
 pub returns : goal.returns

@@ -1,5 +1,5 @@
 use Rattle.std.proofs.Common.{rules}
-use Rattle.client_session.proofs.Carrying.{answered_ok}
+use Rattle.client_session.proofs.OneMoreLine.{answered_ok}
 use Rattle.client_session.proofs.session.Session.carry_out.Goals as goal
 
 pub returns-clause-answered : goal.returns-clause-answered

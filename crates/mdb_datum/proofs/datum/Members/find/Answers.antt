@@ -6,7 +6,7 @@ use Rattle.std.specs.Ordering.{nat_cmp}
 use Rattle.std.proofs.lemmas.Fn.{always_returns_same}
 use Rattle.mdb_datum.specs.declared.datum.Datum.{Datum}
 use Rattle.mdb_datum.specs.declared.text.Text.{Text}
-use Rattle.mdb_datum.proofs.Found.{found, missing}
+use Rattle.mdb_datum.proofs.MemberSearch.{found, missing}
 use Rattle.mdb_datum.proofs.datum.Members.find.Goals as goal
 
 pub returns-in-Ok : goal.returns-in-Ok

@@ -2,9 +2,10 @@ use Rattle.std.proofs.Common.{◌≡◌, [], length, map}
 use Rattle.std.specs.Slice.Iter.{iter_rest}
 use Rattle.mdb_encode.specs.Bytes.{Bytes}
 use Rattle.mdb_encode.specs.Keys.{joined_keys}
-use Rattle.mdb_encode.specs.Kind.{indexer_of, parts_of, part_list}
+use Rattle.mdb_encode.specs.Kind.{indexer_of, part_list}
 use Rattle.mdb_encode.specs.Lawful.{AreParts}
 use Rattle.mdb_encode.specs.inner.KeyLength.{counted}
+use Rattle.mdb_encode.specs.inner.CompoundParts.{parts_of}
 use Rattle.mdb_encode.proofs.row.compound.compound_len.Given as goal
 
 -- what stands so far has this length, and the other parts come behind it

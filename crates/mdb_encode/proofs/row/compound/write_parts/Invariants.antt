@@ -1,8 +1,9 @@
 use Rattle.std.proofs.Common.{◌≡◌, [], map}
 use Rattle.std.specs.Slice.Iter.{iter_rest}
 use Rattle.mdb_encode.specs.Keys.{joined_keys}
-use Rattle.mdb_encode.specs.Kind.{indexer_of, parts_of, part_list}
+use Rattle.mdb_encode.specs.Kind.{indexer_of, part_list}
 use Rattle.mdb_encode.specs.Lawful.{AreParts}
+use Rattle.mdb_encode.specs.inner.CompoundParts.{parts_of}
 use Rattle.mdb_encode.proofs.row.compound.write_parts.Given as goal
 
 -- the other parts come behind what is written

@@ -3,7 +3,7 @@ use Rattle.std.proofs.Common.{rules, ap, ◌∙◌}
 use Rattle.std.proofs.lemmas.Fn.{always_returns_same}
 use Rattle.mdb_encode.specs.Bytes.{byte_order}
 use Rattle.mdb_schema.specs.Schema.{TableSchema, table_place}
-use Rattle.mdb_schema.proofs.Searched.{table_searched}
+use Rattle.mdb_schema.proofs.NameSearch.{table_searched}
 use Rattle.mdb_schema.proofs.schema.Schema.find.Goals as goal
 
 pub returns : goal.returns

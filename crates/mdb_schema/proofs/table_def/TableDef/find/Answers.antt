@@ -1,10 +1,10 @@
 -- The closure compares a name with the one that is looked for.
-use Rattle.std.proofs.Common.{rules, ap, ◌∙◌, List}
+use Rattle.std.proofs.Common.{rules, ap, ◌∙◌}
 use Rattle.std.proofs.lemmas.Fn.{always_returns_same}
 use Rattle.mdb_encode.specs.Bytes.{byte_order}
 use Rattle.mdb_schema.specs.Schema.{IndexSchema, TableSchema, index_place}
 use Rattle.mdb_schema.specs.declared.table_def.TableParts.{TableParts}
-use Rattle.mdb_schema.proofs.Searched.{index_searched}
+use Rattle.mdb_schema.proofs.NameSearch.{index_searched}
 use Rattle.mdb_schema.proofs.table_def.TableDef.find.Goals as goal
 
 pub returns : goal.returns

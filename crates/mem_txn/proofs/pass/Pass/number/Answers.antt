@@ -1,1 +1,0 @@
-use Rattle.mem_txn.proofs.CellsWatched.{watch_of_book}

@@ -1,6 +1,6 @@
-use Rattle.std.proofs.Common.{◌≡◌, ◌∙◌, ◌++◌, ◌∷◌, [], map, sym, ap, subst, Some, None, Option}
+use Rattle.std.proofs.Common.{◌≡◌, ◌∙◌, ◌++◌, ◌∷◌, [], map, sym, ap, subst, Option}
 use Rattle.std.specs.Prelude.{MatchOption, option_to_list}
-use Rattle.db_front.proofs.Gathered.{none_first}
+use Rattle.db_front.proofs.SeatNumbers.{none_first}
 use Rattle.mem_txn.specs.Database.{Caller, Callers}
 use Rattle.mem_txn.specs.inner.Versions.{caller_of}
 use Rattle.mem_txn.proofs.passes.Passes.take.Goals.{in-Some, in-None}

@@ -1,4 +1,4 @@
-use Rattle.std.proofs.Common.{◌≡◌, ◌∙◌, Ok, Err, Some, Result, ap, rules, subst}
+use Rattle.std.proofs.Common.{◌≡◌, ◌∙◌, Ok, Err, Some, ap, rules, subst}
 use Rattle.std.specs.Arc.{arc_value}
 use Rattle.mdb_schema.specs.Answer.{Asked, ask}
 use Rattle.mdb_schema.specs.declared.answer.Answer.{Answer}

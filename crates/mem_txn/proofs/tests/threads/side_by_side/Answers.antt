@@ -1,4 +1,5 @@
--- The closure borrows five things. One search through all of them gives up, so each is shown by itself, and then their tuple.
+-- The closure borrows five things. One search through all of them gives up, so each is shown by
+-- itself, and then their tuple.
 use base.Fml.{Lft}
 use denote.Builtin.{bool}
 use denote.Param.{param}

@@ -2,4 +2,4 @@ use Rattle.mem_txn.specs.Database.{IsCaller}
 use Rattle.mem_txn.proofs.tests.without_memory.are_tried.Given as goal
 
 abbrev pub invariant-loop : goal.invariant-loop
-invariant-loop g l = IsCaller l.db 1 l.pass
+invariant-loop g l = IsCaller l.db 1 l.pass × IsCaller l.db 2 l.other

@@ -2,7 +2,7 @@ use Rattle.std.proofs.Common.{◌≡◌, ◌∙◌, ◌++◌, ◌∷◌, ◌-◌
 use Rattle.std.specs.Arc.{arc_value}
 use Rattle.db_front.specs.Commits.{HasFirings}
 use Rattle.db_front.specs.Passes.{Known}
-use Rattle.notify_walk.specs.Fired.{AreOf}
+use Rattle.radix_node.specs.Cells.{AreCellsOf}
 use Rattle.radix_node.specs.Ids.{Book}
 use Rattle.watch_word.specs.Logs.{Log}
 use Rattle.mem_txn.specs.Database.{cells_seen}
@@ -28,7 +28,7 @@ fire_tables-log-requires-clause-book g c =
     let gone : AreGone v.trees c.args.ready.trees (cells_told c.args.gone.now) = subst (λ (p : Turned). AreGone p.base.trees c.args.ready.trees (cells_told c.args.gone.now)) (sym c.self.view_is) c.requires.gone in
     let stands = c.self.invariant.stands in
     let log = log_of v.view.number t.token.seen t.log stands.begun c.self.invariant.log in
-    subst (λ (b : Book). AreOf b (cells_told c.args.gone.now)) (same_book t.token.seen v.ids.book t.log.book stands.book log) (gone_of v.ids v.trees c.args.ready.trees (cells_told c.args.gone.now) stands.within gone)
+    subst (λ (b : Book). AreCellsOf b (cells_told c.args.gone.now)) (same_book t.token.seen v.ids.book t.log.book stands.book log) (gone_of v.ids v.trees c.args.ready.trees (cells_told c.args.gone.now) stands.within gone)
 
 pub finish-requires-clause-log : goal.finish-requires-clause-log
 finish-requires-clause-log g c =

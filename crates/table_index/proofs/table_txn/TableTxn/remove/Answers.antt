@@ -6,7 +6,7 @@ use Rattle.radix_txn.specs.Txn.{Txn}
 use Rattle.table_index.specs.Table.{TableChange, AnswersRemove, AreLeft}
 use Rattle.table_index.specs.inner.Held.{AreTrees, nodes_of, rows_held, starts_of}
 use Rattle.table_index.specs.inner.TreeEdits.{IsWritten, IsRefused}
-use Rattle.table_index.proofs.Answered.{change_of, removed_answer, remove_refused}
+use Rattle.table_index.proofs.WriteAnswers.{change_of, removed_answer, remove_refused}
 use Rattle.table_index.proofs.Changes.{carried, change_ready, made_below, made_drawn, made_of, made_start}
 use Rattle.mdb_datum.specs.Row.{Fields}
 use Rattle.table_index.specs.inner.Writes.{WroteRows}

@@ -8,7 +8,7 @@ use Rattle.radix_txn.specs.Txn.{Txn}
 use Rattle.table_index.specs.Table.{TableChange, AnswersTake, AreLeft, rows_asked}
 use Rattle.table_index.specs.inner.Held.{AreTrees, nodes_of, rows_held, starts_of}
 use Rattle.table_index.specs.inner.Wipes.{IsRefusedWipe, IsWiped}
-use Rattle.table_index.proofs.Answered.{change_of}
+use Rattle.table_index.proofs.WriteAnswers.{change_of}
 use Rattle.table_index.proofs.Changes.{carried, change_ready, made_below, made_drawn, made_of, made_start}
 use Rattle.table_index.proofs.WipeAnswers.{wiped_answer, refused_answer}
 use Rattle.table_index.specs.inner.Writes.{WroteRows}

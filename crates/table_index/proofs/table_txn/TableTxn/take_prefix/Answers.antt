@@ -1,4 +1,4 @@
-use Rattle.table_index.proofs.Drawn.{same_drawn}
+use Rattle.table_index.proofs.DrawnIds.{same_drawn}
 use Rattle.table_index.proofs.table_txn.TableTxn.take_prefix.Goals as goal
 
 pub returns-in_err-check_prefix_name-clause-drawn : goal.returns-in_err-check_prefix_name-clause-drawn

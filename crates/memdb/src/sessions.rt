@@ -1,0 +1,110 @@
+//! The sessions of all clients: their beginning, their run side by side, and their end.
+ghost use Rattle.std.specs.Prelude.{◌≡◌, ◌+◌, ◌++◌, ◌≤◌, [], OnOk, length, vec_capacity};
+ghost use Rattle.std.specs.Thread.{IsSync};
+ghost use Rattle.mem_txn.specs.Database.{AreOf};
+ghost use Rattle.memdb.specs.inner.Sessions.{AreLater, AreReady, HaveAnswered, begun, callers_back};
+
+use client_script::Scripts;
+use client_session::Session;
+use mdb_ports::Gate;
+use mem_txn::{Db, Passes};
+use std::alloc::{AllocError, Global};
+use std::sync::Wait;
+use std::thread::{Threads, join_mut};
+
+/// A session for each script, the first with the first pass, put into the room that there is.
+pub fn begin_all(
+    alloc: Global,
+    passes: &mut Passes,
+    scripts: Scripts,
+    room: Vec<Session>,
+) -> Vec<Session>
+    requires passes { length passes.old.passes ≡ length scripts }
+    requires empty { room.items ≡ [] }
+    requires room { length scripts ≤ vec_capacity room }
+    ensures sessions { result.items ≡ begun passes.old.passes scripts }
+    ensures passes { passes.new ≡ record passes.old { passes = [] } }
+{
+    let mut scripts = scripts;
+    let mut sessions = room;
+    while let Some(script) = scripts.take() {
+        let Some(pass) = passes.take() else {
+            unreachable!();
+        };
+        let client = pass.number();
+        sessions.push_reserved(Session::new(alloc, client, script, pass));
+    }
+    sessions
+}
+
+/// Carries out every session, each on a thread of its own but the last, which this one has.
+#[cycle(run_all)]
+pub fn run_all<R: Threads + Wait + Sync, G: Gate + Sync>(
+    rt: &R,
+    db: &Db,
+    gate: &G,
+    sessions: &mut [Session],
+) -> Result<(), AllocError>
+    requires sync { IsSync R.row × IsSync G.row }
+    requires ready { AreReady db.now sessions.old }
+    ensures answered { OnOk result (HaveAnswered sessions.old sessions.new) }
+    ensures later { AreLater sessions.old sessions.new }
+{
+    match sessions {
+        [] => Ok(()),
+        [session] => session.run(rt, db, gate),
+        sessions => {
+            let (front, back) = sessions.split_at_mut(sessions.len() / 2);
+            run_both(rt, db, gate, front, back)
+        }
+    }
+}
+
+/// Carries out two lists of sessions side by side.
+#[cycle(run_all)]
+fn run_both<R: Threads + Wait + Sync, G: Gate + Sync>(
+    rt: &R,
+    db: &Db,
+    gate: &G,
+    front: &mut [Session],
+    back: &mut [Session],
+) -> Result<(), AllocError>
+    requires sync { IsSync R.row × IsSync G.row }
+    requires some { (1 ≤ length front.old) × (1 ≤ length back.old) }
+    requires front { AreReady db.now front.old }
+    requires back { AreReady db.now back.old }
+    ensures front { OnOk result (HaveAnswered front.old front.new) }
+    ensures back { OnOk result (HaveAnswered back.old back.new) }
+    ensures later_front { AreLater front.old front.new }
+    ensures later_back { AreLater back.old back.new }
+{
+    let (first, second) = join_mut(
+        rt,
+        &mut || -> Result<(), AllocError>
+            requires { IsSync R.row × IsSync G.row × AreReady db.now front.now }
+            ensures { OnOk result (HaveAnswered front.entry.now front.exit.now)
+                × AreLater front.entry.now front.exit.now }
+        { run_all(rt, db, gate, front) },
+        &mut || -> Result<(), AllocError>
+            requires { IsSync R.row × IsSync G.row × AreReady db.now back.now }
+            ensures { OnOk result (HaveAnswered back.entry.now back.exit.now)
+                × AreLater back.entry.now back.exit.now }
+        { run_all(rt, db, gate, back) },
+    );
+    first.and(second)
+}
+
+/// Ends every session, and gives its pass back, the last first. It takes no memory.
+pub fn end_all(db: &Db, sessions: Vec<Session>, passes: &mut Passes)
+    requires own { AreOf db.now (callers_back sessions.items) }
+    requires room { length passes.old.passes + length sessions.items ≤ passes.old.made }
+    ensures { passes.new ≡ record passes.old {
+      passes = passes.old.passes ++ callers_back sessions.items;
+    } }
+{
+    let mut sessions = sessions;
+    while let Some(session) = sessions.pop() {
+        passes.give(session.end(db));
+    }
+    sessions.destroy_empty();
+}
