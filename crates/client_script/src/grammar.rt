@@ -2,7 +2,7 @@
 ghost use Rattle.std.specs.Prelude.{◌≡◌};
 ghost use Rattle.std.specs.Result.{result_map_both};
 ghost use Rattle.client_script.specs.Grammar.{alone, of_row, of_query, of_text, of_name, of_snapshot, watch_of, watch_in, of_watch, of_add, of_add_limit, wait_until, of_wait, command_of, command_in};
-ghost use Rattle.client_script.specs.inner.GrammarParts.{table_and_row, named_row, named_query, watch_kept, asked_of, one_name, two_words, two_names, limit_words, words_behind, until_word};
+ghost use Rattle.client_script.specs.inner.GrammarParts.{table_and_row, named_row, named_query, watch_kept, watch_by, asked_of, one_word, one_name, two_words, two_names, limit_words, words_behind, until_word};
 ghost use Rattle.client_script.specs.inner.LineAnswer.{Answers, rule_of};
 ghost use Rattle.client_script.specs.inner.WordView.{word_of, question_view, limit_words_view};
 ghost use Rattle.client_script.specs.declared.command.Command.TheVariants as commands;
@@ -143,13 +143,21 @@ fn of_text(alloc: Global, rest: &str) -> Result<Command, LineError>
     })
 }
 
+/// One word, of which no more may follow.
+fn one_word(rest: &str) -> Result<&str, LineRule>
+    ensures { result_map_both (λ s. s.now) rule_of result ≡ one_word rest.now }
+{
+    let word = next_word(rest)?;
+    nothing(word.rest)?;
+    Ok(word.text)
+}
+
 /// The one name of `snapshot`, `check` and `size`.
 fn one_name(alloc: Global, rest: &str) -> Result<Text, LineError>
     ensures { Answers (λ t. t) (one_name rest.now) result }
 {
-    let name = next_word(rest)?;
-    nothing(name.rest)?;
-    name_in(alloc, name.text)
+    let name = one_word(rest)?;
+    name_in(alloc, name)
 }
 
 /// Two words, of which no more may follow.
@@ -157,9 +165,8 @@ fn two_words(rest: &str) -> Result<(&str, &str), LineRule>
     ensures { result_map_both (λ p. (p.0.now, p.1.now)) rule_of result ≡ two_words rest.now }
 {
     let first = next_word(rest)?;
-    let second = next_word(first.rest)?;
-    nothing(second.rest)?;
-    Ok((first.text, second.text))
+    let second = one_word(first.rest)?;
+    Ok((first.text, second))
 }
 
 /// Two names.
@@ -257,10 +264,17 @@ fn of_watch(alloc: Global, rest: &str) -> Result<Command, LineError>
 {
     let word = next_word(rest)?;
     let next = next_word(word.rest)?;
+    watch_by(alloc, &word, &next)
+}
+
+/// The same, behind the name and the next word, which tells the form.
+fn watch_by(alloc: Global, word: &Word, next: &Word) -> Result<Command, LineError>
+    ensures { Answers (λ c. c) (watch_by (word_of word.now) (word_of next.now)) result }
+{
     if next.text == "in" {
-        watch_in(alloc, &word, next.rest)
+        watch_in(alloc, word, next.rest)
     } else {
-        watch_of(alloc, &word, &next)
+        watch_of(alloc, word, next)
     }
 }
 
@@ -320,9 +334,7 @@ fn until_word(rest: &str) -> Result<&str, LineRule>
     if until.text != "until" {
         return Err(LineRule::BadShape);
     }
-    let name = next_word(until.rest)?;
-    nothing(name.rest)?;
-    Ok(name.text)
+    one_word(until.rest)
 }
 
 /// `wait SET until NAME`, behind the set.

@@ -2,6 +2,7 @@
 ghost use Rattle.std.specs.Prelude.{◌≡◌};
 ghost use Rattle.std.specs.Result.{result_map_both};
 ghost use Rattle.client_script.specs.Parts.{question_of, question_by, question_in, query_in};
+ghost use Rattle.client_script.specs.inner.GrammarParts.{query_of};
 ghost use Rattle.client_script.specs.inner.LineAnswer.{Answers, rule_of};
 ghost use Rattle.client_script.specs.inner.WordView.{word_of, question_view};
 
@@ -10,6 +11,7 @@ use crate::line_error::LineError;
 use crate::line_rule::LineRule;
 use crate::parts::{args_in, index_name_in, name_in, next_word};
 use crate::word::Word;
+use mdb_datum::Text;
 use mdb_schema::{Ask, Query};
 use std::alloc::Global;
 
@@ -60,6 +62,18 @@ pub(crate) fn query_in(alloc: Global, question: &Question) -> Result<Query, Line
 {
     let table = name_in(alloc, question.table)?;
     let index = index_name_in(alloc, question.index)?;
+    query_of(alloc, question, table, index)
+}
+
+/// The question with its arguments, of a table and an index of these names.
+fn query_of(
+    alloc: Global,
+    question: &Question,
+    table: Text,
+    index: Text,
+) -> Result<Query, LineError>
+    ensures { Answers (λ q. q) (query_of (question_view question.now) table index) result }
+{
     let args = args_in(alloc, question.args)?;
     Ok(Query::from_parts(alloc, question.ask, table, index, args)?)
 }

@@ -44,12 +44,36 @@ pub fn read_file<F: Files>(
         Reads content_of seen file (name.now ∷ []) result }
 {
     let mut bytes = Vec::new(alloc);
+    read_into(files, file, name, piece, &mut bytes)?;
+    Ok(bytes)
+}
+
+/// The same, into a vector that is empty.
+///
+/// # Errors
+/// As [`read_file`].
+fn read_into<F: Files>(
+    files: &mut F,
+    file: u32,
+    name: &Text,
+    piece: &mut [u8],
+    bytes: &mut Vec<u8>,
+) -> Result<(), LoadError>
+    requires piece { 0 < length piece.old }
+    requires empty { bytes.old.items ≡ [] }
+    ensures stays { let seen = observed (F.told files.old) (F.reliable files.old)
+        (F.faults files.old) (F.faults files.new) in
+        Stays seen (F.told files.new) (F.reliable files.new) }
+    ensures reads { let seen = observed (F.told files.old) (F.reliable files.old)
+        (F.faults files.old) (F.faults files.new) in
+        Reads (λ _. bytes.new.items ∷ []) seen file (name.now ∷ []) result }
+{
     loop {
         let Ok(count) = files.fetch(name.as_str(), bytes.len() as u64, piece) else {
             return Err(LoadError::Read { file });
         };
         if count == 0 {
-            return Ok(bytes);
+            return Ok(());
         }
         if count > LIMIT - bytes.len() {
             return Err(LoadError::TooLarge { file });

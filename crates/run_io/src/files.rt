@@ -2,7 +2,7 @@
 ghost use Rattle.std.specs.Prelude.{◌≡◌, ◌<◌, ◌∷◌, ◌^◌, [], length, vec_len, IfOk};
 ghost use Rattle.run_io.specs.Observed.{observed, Stays};
 ghost use Rattle.run_io.specs.inner.ContentsOf.{contents_of};
-ghost use Rattle.run_io.specs.inner.Reading.{Reads, contents_in};
+ghost use Rattle.run_io.specs.inner.Reading.{Reads, AddsFile, contents_in};
 
 use crate::contents::Contents;
 use crate::file::{new_piece, read_file};
@@ -31,8 +31,31 @@ pub fn read_contents<F: Files>(
         Reads contents_of seen 0 (schema.now ∷ clients.now) result }
 {
     let mut piece = new_piece(alloc)?;
-    let schema = read_file(alloc, files, 0, schema, &mut piece)?;
-    let clients = read_clients(alloc, files, clients, &mut piece)?;
+    read_by_pieces(alloc, files, schema, clients, &mut piece)
+}
+
+/// The same, by pieces that fit a buffer.
+///
+/// # Errors
+/// As [`read_contents`].
+fn read_by_pieces<F: Files>(
+    alloc: Global,
+    files: &mut F,
+    schema: &Text,
+    clients: &[Text],
+    piece: &mut [u8],
+) -> Result<Contents, LoadError>
+    requires piece { 0 < length piece.old }
+    requires few { length clients.now < 2 ^ 32 }
+    ensures stays { let seen = observed (F.told files.old) (F.reliable files.old)
+        (F.faults files.old) (F.faults files.new) in
+        Stays seen (F.told files.new) (F.reliable files.new) }
+    ensures reads { let seen = observed (F.told files.old) (F.reliable files.old)
+        (F.faults files.old) (F.faults files.new) in
+        Reads contents_of seen 0 (schema.now ∷ clients.now) result }
+{
+    let schema = read_file(alloc, files, 0, schema, piece)?;
+    let clients = read_clients(alloc, files, clients, piece)?;
     Ok(Contents { schema, clients })
 }
 
@@ -60,7 +83,32 @@ fn read_clients<F: Files>(
     let mut contents = Vec::new(alloc);
     for (at, name) in names.iter().enumerate() {
         let file = at as u32 + 1;
-        contents.push(read_file(alloc, files, file, name, piece)?)?;
+        add_file(alloc, files, file, name, piece, &mut contents)?;
     }
     Ok(contents)
+}
+
+/// Reads the file of this name whole, by pieces that fit a buffer, and adds its bytes at the end of
+/// a list. After an error the list is unchanged.
+///
+/// # Errors
+/// As [`read_file`].
+fn add_file<F: Files>(
+    alloc: Global,
+    files: &mut F,
+    file: u32,
+    name: &Text,
+    piece: &mut [u8],
+    contents: &mut Vec<Vec<u8>>,
+) -> Result<(), LoadError>
+    requires { 0 < length piece.old }
+    ensures stays { let seen = observed (F.told files.old) (F.reliable files.old)
+        (F.faults files.old) (F.faults files.new) in
+        Stays seen (F.told files.new) (F.reliable files.new) }
+    ensures adds { let seen = observed (F.told files.old) (F.reliable files.old)
+        (F.faults files.old) (F.faults files.new) in
+        AddsFile seen file name.now contents.old.items contents.new.items result }
+{
+    contents.push(read_file(alloc, files, file, name, piece)?)?;
+    Ok(())
 }

@@ -1,13 +1,14 @@
 -- What several commands have in common, and the words of a command before its names are looked at.
-use Rattle.std.specs.Prelude.{ℕ, codes, Ok}
+use Rattle.std.specs.Prelude.{ℕ, if◌then◌else◌, codes, Ok}
 use Rattle.std.specs.Str.{bytes_eq}
 use Rattle.mdb_datum.specs.Bytes.{Bytes}
 use Rattle.mdb_datum.specs.Row.{Fields}
 use Rattle.mdb_schema.specs.Query.{Query}
 use Rattle.mdb_schema.specs.Tests.{◌>>=◌, passed}
 use Rattle.mdb_schema.specs.declared.ask.Ask.{Ask}
+use Rattle.client_script.specs.Grammar.{watch_of, watch_in}
 use Rattle.client_script.specs.Lines.{Word}
-use Rattle.client_script.specs.Parts.{Question, next_word, something, nothing, name_in, row_in, limit_in, question_of, query_in}
+use Rattle.client_script.specs.Parts.{Question, next_word, something, nothing, name_in, row_in, args_in, limit_in, question_of, query_in}
 use Rattle.client_script.specs.Refusal.{Ruled, bad_shape}
 use Rattle.client_script.specs.declared.command.Command.{Command}
 use Rattle.client_script.specs.declared.command.Command.TheVariants as command
@@ -43,11 +44,29 @@ watch_kept word kept q = do
   query ← query_in q
   Ok (command.WatchIn name snapshot query)
 
+-- `watch NAME QUESTION` or `watch NAME in NAME QUESTION`, behind the name and the next word
+abbrev pub watch_by : Word → Word → Ruled Command
+watch_by w next =
+    if bytes_eq next.text (codes "in") then watch_in w next.rest else watch_of w next
+
+-- a question, of a table and an index of these names
+abbrev pub query_of : Question → Bytes → Bytes → Ruled Query
+query_of q table index = do
+  args ← args_in q.args
+  Ok (record { ask = q.ask; table = table; index = index; args = args })
+
 -- `TABLE INDEX ARGS`
 abbrev pub asked_of : Ask → Bytes → Ruled Query
 asked_of a rest = do
   q ← question_of a rest
   query_in q
+
+-- one word, of which no more may follow
+abbrev pub one_word : Bytes → Ruled Bytes
+one_word rest = do
+  w ← next_word rest
+  end ← nothing w.rest
+  Ok w.text
 
 -- a name alone
 abbrev pub one_name : Bytes → Ruled Bytes

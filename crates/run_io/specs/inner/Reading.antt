@@ -1,9 +1,9 @@
 -- What the reading of files whole comes to.
-use Rattle.std.specs.Prelude.{◌≡◌, ◌+◌, ℕ, List, [], ◌∷◌, map, Result, Ok, Err, Vec}
+use Rattle.std.specs.Prelude.{◌≡◌, ◌+◌, ℕ, List, [], ◌∷◌, ◌++◌, map, Result, Ok, Err, Vec}
 use Rattle.std.specs.declared.alloc.Global.{Global}
 use Rattle.mdb_datum.specs.Bytes.{Bytes}
 use Rattle.run_io.specs.Loads.{CannotRead, IsPastLimit}
-use Rattle.run_io.specs.Observed.{Observed, AreWhole}
+use Rattle.run_io.specs.Observed.{Observed, IsWhole, AreWhole}
 use Rattle.run_io.specs.declared.load_error.LoadError.{LoadError}
 use Rattle.run_io.specs.declared.load_error.LoadError.TheVariants.{Memory, Read, TooLarge, Schema, Script}
 
@@ -28,3 +28,13 @@ Reads contents seen first names (Err (TooLarge file)) =
     (at : ℕ) × (file ≡ first + at) × IsPastLimit seen names at
 Reads contents seen first names (Err (Schema e)) = ⊥
 Reads contents seen first names (Err (Script client e)) = ⊥
+
+-- The file of this name was read, and its bytes stand at the end of a list; or the list is as it
+-- was, and the reading came to the same error.
+abbrev pub AddsFile : Observed → ℕ → Bytes → List (Vec ℕ Global) → List (Vec ℕ Global)
+    → Result (Unit {0}) LoadError → Type 0
+AddsFile seen file name before after (Ok done) =
+    (bytes : Vec ℕ Global) × (after ≡ before ++ bytes ∷ [])
+    × (seen.now ≡ seen.before) × IsWhole seen.told name bytes.items
+AddsFile seen file name before after (Err e) =
+    (after ≡ before) × Reads content_of seen file (name ∷ []) (Err e)

@@ -1,7 +1,7 @@
 -- Where nothing is left the bytes are the file; a piece past the limit shows one that is too large.
 use Rattle.std.proofs.Common.{arith, ◌≡◌, ◌≤◌, length, refl, ◌∙◌}
 use Rattle.run_io.proofs.Pieces.{front_whole, front_too_large, front_next, fits_next}
-use Rattle.run_io.proofs.file.read_file.Goals as goal
+use Rattle.run_io.proofs.file.read_into.Goals as goal
 
 pub returns-then-count-eq0-clause-reads : goal.returns-then-count-eq0-clause-reads
 returns-then-count-eq0-clause-reads g c =

@@ -2,7 +2,7 @@ use Rattle.std.proofs.Common.{◌≡◌, ◌-◌, ◌≤◌, length}
 use Rattle.std.specs.Prelude.{IfSome}
 use Rattle.run_io.specs.Observed.{file_limit}
 use Rattle.run_io.proofs.Pieces.{IsFront}
-use Rattle.run_io.proofs.file.read_file.Given as goal
+use Rattle.run_io.proofs.file.read_into.Given as goal
 
 -- the bytes so far are the front of the file, and no call has failed
 abbrev pub invariant-loop-count : goal.invariant-loop-count

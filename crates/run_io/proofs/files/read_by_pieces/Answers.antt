@@ -5,7 +5,7 @@ use Rattle.run_io.specs.Observed.{observed}
 use Rattle.run_io.specs.inner.ContentsOf.{contents_of}
 use Rattle.run_io.specs.inner.Reading.{contents_in}
 use Rattle.run_io.proofs.FilesInOrder.{reads_since, reads_later}
-use Rattle.run_io.proofs.files.read_contents.Goals as goal
+use Rattle.run_io.proofs.files.read_by_pieces.Goals as goal
 
 pub returns-in_err-clients-clause-reads : goal.returns-in_err-clients-clause-reads
 returns-in_err-clients-clause-reads g c =
