@@ -8,9 +8,10 @@ mod run;
 mod written;
 
 use mdb_datum::Row;
+use radix_node::Tree;
 use std::alloc::{AllocError, Global};
 use std::test::Fail;
-use written::{Work, applied, nodes_are, row, three_writes, work_of};
+use written::{Work, applied, frozen, nodes_are, row, three_writes, work_of};
 
 /// A node of a tree: a path that leads to it, its own prefix, whether it has a leaf, and the labels
 /// of its edges.
@@ -53,25 +54,42 @@ const WITHOUT_FOOTBALL: [Line; 4] = [
     (b"foot", b"\0", true, b""),
 ];
 
-/// Whether these are the nodes after the keys were put in turn and then some taken out.
+/// Takes keys out in turn.
+fn take_each(work: &mut Work, taken: &[&[u8]]) -> Result<(), AllocError> {
+    for key in taken {
+        drop(work.take(key)?);
+    }
+    Ok(())
+}
+
+/// The tree after keys were taken out.
+fn tree_without(work: &mut Work, taken: &[&[u8]]) -> Result<Tree, AllocError> {
+    take_each(work, taken)?;
+    work.stand()
+}
+
+/// The tree after the keys were put in turn and then some taken out.
+fn tree_after(alloc: Global, keys: &[&[u8]], taken: &[&[u8]]) -> Result<Tree, AllocError> {
+    let mut work = work_of(alloc, keys)?;
+    tree_without(&mut work, taken)
+}
+
+/// Whether these are its nodes.
 fn nodes_after(
     alloc: Global,
     keys: &[&[u8]],
     taken: &[&[u8]],
     nodes: &[Line],
-) -> Result<bool, Fail> {
-    let mut work = work_of(alloc, keys)?;
-    for key in taken {
-        drop(work.take(key)?);
-    }
-    let tree = work.stand()?;
+) -> Result<bool, AllocError> {
+    let tree = tree_after(alloc, keys, taken)?;
     Ok(nodes_are(&tree, nodes))
 }
 
+const BESIDE_KEYS: [&[u8]; 3] = [b"foo\0", b"football\0", b"fool\0"];
+
 #[test]
 fn a_missing_key_goes_beside_the_others(rt: HostRuntime) -> Result<(), Fail> {
-    let keys: [&[u8]; 3] = [b"foo\0", b"football\0", b"fool\0"];
-    assert!(rt; nodes_after(rt.alloc(), &keys, &[], &BESIDE)?);
+    assert!(rt; nodes_after(rt.alloc(), &BESIDE_KEYS, &[], &BESIDE)?);
     Ok(())
 }
 
@@ -83,25 +101,33 @@ fn a_node_is_split_where_the_key_parts_from_it(rt: HostRuntime) -> Result<(), Fa
     Ok(())
 }
 
+const OLD_KEYS: [&[u8]; 2] = [b"foo\0", b"football\0"];
+
+const FOOTBALL: [&[u8]; 1] = [b"football\0"];
+
 #[test]
 fn a_node_left_with_one_edge_is_merged(rt: HostRuntime) -> Result<(), Fail> {
-    let keys: [&[u8]; 2] = [b"foo\0", b"football\0"];
-    assert!(rt; nodes_after(rt.alloc(), &keys, &[b"football\0"], &FOO)?);
+    assert!(rt; nodes_after(rt.alloc(), &OLD_KEYS, &FOOTBALL, &FOO)?);
     Ok(())
 }
 
+const MISSING: [&[u8]; 2] = [b"foo", b"g"];
+
 #[test]
 fn a_missing_key_takes_nothing(rt: HostRuntime) -> Result<(), Fail> {
-    assert!(rt; nodes_after(rt.alloc(), &FORKED_KEYS, &[b"foo", b"g"], &FORKED)?);
+    assert!(rt; nodes_after(rt.alloc(), &FORKED_KEYS, &MISSING, &FORKED)?);
     Ok(())
 }
 
 const ONE: [Line; 2] = [(b"", b"", false, b"a"), (b"a", b"b", true, b"")];
 
+const ROOT_KEYS: [&[u8]; 3] = [b"ab", b"ac", b""];
+
+const ALL_BUT_ONE: [&[u8]; 2] = [b"ac", b""];
+
 #[test]
 fn the_root_is_not_merged(rt: HostRuntime) -> Result<(), Fail> {
-    let keys: [&[u8]; 3] = [b"ab", b"ac", b""];
-    assert!(rt; nodes_after(rt.alloc(), &keys, &[b"ac", b""], &ONE)?);
+    assert!(rt; nodes_after(rt.alloc(), &ROOT_KEYS, &ALL_BUT_ONE, &ONE)?);
     Ok(())
 }
 
@@ -119,11 +145,18 @@ const TAKEN: [(&[u8], u64, &[Line]); 10] = [
     (b"football\0\0", 0, &FORKED),
 ];
 
-fn takes(alloc: Global, prefix: &[u8], count: u64, nodes: &[Line]) -> Result<bool, Fail> {
-    let mut work = work_of(alloc, &FORKED_KEYS)?;
+/// Whether a prefix takes so many keys from a tree, and leaves these nodes.
+fn takes_from(work: Work, prefix: &[u8], count: u64, nodes: &[Line]) -> Result<bool, AllocError> {
+    let mut work = work;
     let gone = work.take_all(prefix)?;
-    let (tree, _) = work.freeze()?;
+    let tree = frozen(work)?;
     Ok(gone == count && nodes_are(&tree, nodes))
+}
+
+/// The same of the forked tree.
+fn takes(alloc: Global, prefix: &[u8], count: u64, nodes: &[Line]) -> Result<bool, AllocError> {
+    let work = work_of(alloc, &FORKED_KEYS)?;
+    takes_from(work, prefix, count, nodes)
 }
 
 #[test]
@@ -143,37 +176,58 @@ fn put_all_bytes(work: &mut Work, row: &Row) -> Result<(), AllocError> {
     Ok(())
 }
 
-fn has_all_bytes(alloc: Global, row: &Row) -> Result<bool, AllocError> {
+/// The tree of these keys.
+fn tree_of_bytes(alloc: Global) -> Result<Tree, AllocError> {
+    let row = row(alloc, 7)?;
     let mut work = Work::new(alloc)?;
-    put_all_bytes(&mut work, row)?;
-    let (tree, _) = work.freeze()?;
-    Ok(
-        tree.seek(b"k")
-            .is_some_and(|node| node.edges().len() == 256),
-    )
+    put_all_bytes(&mut work, &row)?;
+    frozen(work)
+}
+
+fn has_all_bytes(tree: &Tree) -> bool {
+    match tree.seek(b"k") {
+        Some(node) => node.edges().len() == 256,
+        None => false,
+    }
 }
 
 #[test]
 fn a_node_may_have_an_edge_for_each_byte(rt: HostRuntime) -> Result<(), Fail> {
-    let row = row(rt.alloc(), 7)?;
-    assert!(rt; has_all_bytes(rt.alloc(), &row)?);
+    let tree = tree_of_bytes(rt.alloc())?;
+    assert!(rt; has_all_bytes(&tree));
     Ok(())
+}
+
+/// How many keys three writes leave.
+fn count_after_three(alloc: Global) -> Result<Option<u64>, AllocError> {
+    let row = row(alloc, 3)?;
+    let writes = three_writes(alloc, &row)?;
+    applied(alloc, &writes)
 }
 
 #[test]
 fn writes_are_made_in_turn(rt: HostRuntime) -> Result<(), Fail> {
-    let row = row(rt.alloc(), 3)?;
-    let writes = three_writes(rt.alloc(), &row)?;
-    assert!(rt; applied(rt.alloc(), &writes)? == Some(1));
+    assert!(rt; count_after_three(rt.alloc())? == Some(1));
     Ok(())
 }
 
-/// Whether a tree that was given stays as it was, and a later one has the change.
-fn stays(alloc: Global) -> Result<bool, Fail> {
+/// The tree after the keys that begin with `foot` are taken out.
+fn without_foot(work: Work) -> Result<Tree, AllocError> {
+    let mut work = work;
+    work.take_all(b"foot")?;
+    frozen(work)
+}
+
+/// The forked tree and, after a change, the one that comes of it.
+fn two_trees(alloc: Global) -> Result<(Tree, Tree), AllocError> {
     let mut work = work_of(alloc, &FORKED_KEYS)?;
     let tree = work.stand()?;
-    work.take_all(b"foot")?;
-    let (changed, _) = work.freeze()?;
+    Ok((tree, without_foot(work)?))
+}
+
+/// Whether a tree that was given stays as it was, and a later one has the change.
+fn stays(alloc: Global) -> Result<bool, AllocError> {
+    let (tree, changed) = two_trees(alloc)?;
     Ok(nodes_are(&tree, &FORKED) && nodes_are(&changed, &FOO))
 }
 

@@ -18,38 +18,49 @@ mod work;
 mod worked;
 
 use mdb_datum::{Datum, Items, Row, read_doc};
-use mdb_schema::{Ask, Query, Rows, TableDef, read_schema};
-use std::alloc::Global;
+use mdb_schema::{Ask, Query, Rows, Schema, TableDef, read_schema};
+use std::alloc::{AllocError, Global};
 use std::test::Fail;
-use work::Base;
+use work::{Base, Work};
 
 const SCHEMA: &str = "{\"memdb\":1,\"tables\":{\"t\":{\"indexes\":{\
     \"id\":{\"unique\":true,\"indexer\":{\"kind\":\"text\",\"field\":\"name\"}},\
     \"tags\":{\"allow_missing\":true,\"indexer\":{\"kind\":\"text_list\",\"field\":\"tags\"}}}}}}";
 
-/// The row that a text is.
+/// The row that a text is. Another text counts as want of memory, which ends a test.
 #[tactic(auto, using(mdb_datum::proofs::Variants::doc_of_members))]
-fn row_of(alloc: Global, text: &str) -> Result<Row, Fail> {
-    match read_doc(alloc, text.as_bytes())? {
-        Datum::Members(members) => Ok(Row::of(alloc, members)?),
-        _ => Err(Fail::from("no object")),
+fn row_of(alloc: Global, text: &str) -> Result<Row, AllocError> {
+    match read_doc(alloc, text.as_bytes()) {
+        Ok(Datum::Members(members)) => Row::of(alloc, members),
+        _ => Err(AllocError),
     }
 }
 
 /// What a schema says of its first table.
-fn def_of(alloc: Global, schema: &str) -> Result<TableDef, Fail> {
-    let Ok(schema) = read_schema(alloc, schema.as_bytes()) else {
-        return Err(Fail::from("no schema"));
-    };
+fn def_of(alloc: Global, schema: &str) -> Result<TableDef, AllocError> {
+    match read_schema(alloc, schema.as_bytes()) {
+        Ok(schema) => first_def(&schema),
+        Err(_) => Err(AllocError),
+    }
+}
+
+fn first_def(schema: &Schema) -> Result<TableDef, AllocError> {
     match schema.table(0) {
-        Some(def) => Ok(def.share()?),
-        None => Err(Fail::from("no table")),
+        Some(def) => def.share(),
+        None => Err(AllocError),
     }
 }
 
 /// The first table of a schema, without rows.
-fn table_of(alloc: Global, schema: &str) -> Result<Base, Fail> {
-    Ok(Base::empty(alloc, &def_of(alloc, schema)?)?)
+fn table_of(alloc: Global, schema: &str) -> Result<Base, AllocError> {
+    let def = def_of(alloc, schema)?;
+    Base::empty(alloc, &def)
+}
+
+/// A change of that table.
+fn begun(alloc: Global, schema: &str) -> Result<Work, AllocError> {
+    let table = table_of(alloc, schema)?;
+    table.txn()
 }
 
 /// Fails with a name where something else was found.
@@ -81,19 +92,26 @@ fn is_named(rows: &Rows, at: usize, want: &str) -> bool {
 }
 
 /// Adds a row of this text.
-fn push_row(alloc: Global, rows: &mut Rows, text: &str) -> Result<(), Fail> {
-    rows.push(row_of(alloc, text)?)?;
-    Ok(())
+fn push_row(alloc: Global, rows: &mut Rows, text: &str) -> Result<(), AllocError> {
+    rows.push(row_of(alloc, text)?)
+}
+
+/// Rows of the names `b` and `a`.
+fn two_rows(alloc: Global) -> Result<Rows, AllocError> {
+    let mut rows = Rows::new(alloc);
+    push_row(alloc, &mut rows, "{\"name\":\"b\"}")?;
+    push_row(alloc, &mut rows, "{\"name\":\"a\"}")?;
+    Ok(rows)
+}
+
+/// Whether those are all the rows, in this order.
+fn are_in_order(rows: &Rows) -> bool {
+    let order = is_named(rows, 0, "b") && is_named(rows, 1, "a") && rows.get(2).is_none();
+    order && rows.len() == 2 && rows.iter().count() == 2
 }
 
 #[test]
 fn rows_are_kept_in_order(rt: HostRuntime) -> Result<(), Fail> {
-    let mut rows = Rows::new(rt.alloc());
-    push_row(rt.alloc(), &mut rows, "{\"name\":\"b\"}")?;
-    push_row(rt.alloc(), &mut rows, "{\"name\":\"a\"}")?;
-    let order = is_named(&rows, 0, "b") && is_named(&rows, 1, "a") && rows.get(2).is_none();
-    right(
-        order && rows.len() == 2 && rows.iter().count() == 2,
-        "another order",
-    )
+    let rows = two_rows(rt.alloc())?;
+    right(are_in_order(&rows), "another order")
 }

@@ -32,13 +32,18 @@ fn is_deep(tree: &Tree) -> bool {
         && tree.root().count() == 2049
 }
 
-/// Whether the tree is as deep, and its look-ups and deletes are right. Both trees are dropped.
+/// Puts all the keys in, and tells whether the tree is as deep and its look-ups and deletes are
+/// right.
+fn is_deep_run(work: &mut Work, row: &Row, longest_first: bool) -> Result<bool, AllocError> {
+    put_all(work, row, longest_first)?;
+    let tree = work.stand()?;
+    Ok(take_deep(work)? && is_deep(&tree))
+}
+
+/// The same in a new transaction. Both trees are dropped.
 fn deep_run(alloc: Global, row: &Row, longest_first: bool) -> Result<bool, AllocError> {
     let mut work = Work::new(alloc)?;
-    put_all(&mut work, row, longest_first)?;
-    let tree = work.stand()?;
-    let taken = take_deep(&mut work)?;
-    Ok(taken && is_deep(&tree))
+    is_deep_run(&mut work, row, longest_first)
 }
 
 #[test]

@@ -1,6 +1,6 @@
 //! Look-ups in trees that were written. What is asked of one stands in tables, which small
 //! functions walk.
-use super::written::{is_row, labels_are, work_of};
+use super::written::{is_row, labels_are, tree_of};
 use radix_node::{Node, Tree};
 use std::test::Fail;
 
@@ -33,11 +33,17 @@ const NODES: [Line; 9] = [
     (b"football\0", b"all\0", true, b""),
 ];
 
+fn leads_to_one(tree: &Tree, (path, prefix, has_leaf, labels): Line) -> bool {
+    match tree.seek(path) {
+        Some(node) => is_node(node, prefix, has_leaf, labels),
+        None => false,
+    }
+}
+
 fn leads_to(tree: &Tree, nodes: &[Line]) -> bool {
-    for (path, prefix, has_leaf, labels) in nodes {
-        match tree.seek(path) {
-            Some(node) if is_node(node, prefix, *has_leaf, labels) => {}
-            _ => return false,
+    for line in nodes {
+        if !leads_to_one(tree, *line) {
+            return false;
         }
     }
     true
@@ -45,17 +51,26 @@ fn leads_to(tree: &Tree, nodes: &[Line]) -> bool {
 
 #[test]
 fn a_prefix_leads_to_the_node_of_its_keys(rt: HostRuntime) -> Result<(), Fail> {
-    let (tree, _) = work_of(rt.alloc(), &FORKED)?.freeze()?;
+    let tree = tree_of(rt.alloc(), &FORKED)?;
     assert!(rt; leads_to(&tree, &NODES));
     Ok(())
 }
 
 const NOWHERE: [&[u8]; 6] = [b"g", b"fa", b"foo\0\0", b"fooz", b"footbz", b"football\0x"];
 
+fn leads_nowhere(tree: &Tree, prefixes: &[&[u8]]) -> bool {
+    for prefix in prefixes {
+        if tree.seek(prefix).is_some() {
+            return false;
+        }
+    }
+    true
+}
+
 #[test]
 fn a_prefix_of_no_key_leads_nowhere(rt: HostRuntime) -> Result<(), Fail> {
-    let (tree, _) = work_of(rt.alloc(), &FORKED)?.freeze()?;
-    assert!(rt; NOWHERE.iter().all(|prefix| tree.seek(prefix).is_none()));
+    let tree = tree_of(rt.alloc(), &FORKED)?;
+    assert!(rt; leads_nowhere(&tree, &NOWHERE));
     Ok(())
 }
 
@@ -85,7 +100,7 @@ fn finds(tree: &Tree, keys: &[(&[u8], bool)]) -> bool {
 
 #[test]
 fn whole_keys_alone_are_found(rt: HostRuntime) -> Result<(), Fail> {
-    let (tree, _) = work_of(rt.alloc(), &FORKED)?.freeze()?;
+    let tree = tree_of(rt.alloc(), &FORKED)?;
     assert!(rt; finds(&tree, &THERE) && tree.len() == 3);
     Ok(())
 }
@@ -111,23 +126,35 @@ fn finds_longest(tree: &Tree, keys: &[(&[u8], u64)]) -> bool {
 
 #[test]
 fn the_longest_key_that_is_a_prefix_is_found(rt: HostRuntime) -> Result<(), Fail> {
-    let (tree, _) = work_of(rt.alloc(), &NESTED)?.freeze()?;
+    let tree = tree_of(rt.alloc(), &NESTED)?;
     assert!(rt; finds_longest(&tree, &LONGEST));
     Ok(())
 }
 
+/// Whether each key that begins another one has its own row, and keys beside them have none.
+fn are_apart(tree: &Tree) -> bool {
+    is_row(tree.get(b""), 0)
+        && is_row(tree.get(b"ab"), 2)
+        && tree.get(b"abcd").is_none()
+        && tree.get(b"ac").is_none()
+}
+
 #[test]
 fn keys_that_begin_each_other_are_told_apart(rt: HostRuntime) -> Result<(), Fail> {
-    let (tree, _) = work_of(rt.alloc(), &NESTED)?.freeze()?;
-    assert!(rt; is_row(tree.get(b""), 0) && is_row(tree.get(b"ab"), 2));
-    assert!(rt; tree.get(b"abcd").is_none() && tree.get(b"ac").is_none());
+    let tree = tree_of(rt.alloc(), &NESTED)?;
+    assert!(rt; are_apart(&tree));
     Ok(())
+}
+
+const LONG: [u8; 2048] = [b'k'; 2048];
+
+fn has_long(tree: &Tree) -> bool {
+    tree.get(&LONG).is_some() && tree.get(&LONG[..2047]).is_none()
 }
 
 #[test]
 fn a_key_of_2048_bytes_is_found(rt: HostRuntime) -> Result<(), Fail> {
-    let key = [b'k'; 2048];
-    let (tree, _) = work_of(rt.alloc(), &[&key])?.freeze()?;
-    assert!(rt; tree.get(&key).is_some() && tree.get(&key[..2047]).is_none());
+    let tree = tree_of(rt.alloc(), &[&LONG])?;
+    assert!(rt; has_long(&tree));
     Ok(())
 }

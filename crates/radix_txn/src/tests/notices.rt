@@ -1,9 +1,9 @@
 //! The cells that a write fires, on the trees of the words `foo`, `football` and `foot`, each ended
 //! by a byte 00. Each watch is told by its key.
-use super::written::{Work, row, work_of};
+use super::written::{Work, put_number, work_of};
 use crate::Notice;
 use radix_node::Tree;
-use std::alloc::Global;
+use std::alloc::{AllocError, Global};
 use std::test::Fail;
 
 /// A write, the key of a watch, and whether the watch of the key's look-up fires, and that of the
@@ -44,25 +44,54 @@ fn is_told(notice: &Notice, old: u64, new: u64, fires: bool) -> bool {
     has(notice, old) == fires && (old == new) != fires
 }
 
-fn tells(old: &Tree, new: &Tree, notice: &Notice, key: &[u8], get: bool, seek: bool) -> bool {
+/// The key of a watch, whether the watch of its look-up fires, and that of the keys that begin with
+/// it.
+type Told = (&'static [u8], bool, bool);
+
+fn tells(old: &Tree, new: &Tree, notice: &Notice, (key, get, seek): Told) -> bool {
     let (was, is) = (old.get_watch(key).0.id(), new.get_watch(key).0.id());
     let (under_was, under_is) = (old.seek_watch(key).id(), new.seek_watch(key).id());
     is_told(notice, was, is, get) && is_told(notice, under_was, under_is, seek)
 }
 
-/// The tree before and after an insert, with the notice.
-fn inserted(alloc: Global, key: &[u8]) -> Result<(Tree, Tree, Notice), Fail> {
-    let mut work = work_of(alloc, &OLD)?;
-    let old = work.stand()?;
-    let mut next = work.next()?;
-    next.put(key, &row(alloc, 9)?)?;
-    let (new, notice) = next.freeze()?;
-    Ok((old, new, notice))
+fn tells_each(old: &Tree, new: &Tree, notice: &Notice, watches: &[Told]) -> bool {
+    for told in watches {
+        if !tells(old, new, notice, *told) {
+            return false;
+        }
+    }
+    true
 }
 
-fn insert_tells(alloc: Global, (written, key, get, seek): Line) -> Result<bool, Fail> {
-    let (old, new, notice) = inserted(alloc, written)?;
-    Ok(tells(&old, &new, &notice, key, get, seek))
+/// Whether a transaction on a tree ends with a notice of these watches, and of so many cells.
+fn ends_so(work: Work, old: &Tree, watches: &[Told], count: usize) -> Result<bool, AllocError> {
+    let (new, notice) = work.freeze()?;
+    Ok(tells_each(old, &new, &notice, watches) && notice.len() == count)
+}
+
+/// The same of watches alone.
+fn ends_with(work: Work, old: &Tree, watch: Told) -> Result<bool, AllocError> {
+    let (new, notice) = work.freeze()?;
+    Ok(tells(old, &new, &notice, watch))
+}
+
+/// A transaction on a tree, and the tree.
+fn begun(alloc: Global, keys: &[&[u8]]) -> Result<(Work, Tree), AllocError> {
+    let mut work = work_of(alloc, keys)?;
+    let old = work.stand()?;
+    Ok((work.next()?, old))
+}
+
+/// A transaction after an insert into the tree of `foo` and `football`, and the tree.
+fn inserted(alloc: Global, key: &[u8]) -> Result<(Work, Tree), AllocError> {
+    let (mut work, old) = begun(alloc, &OLD)?;
+    put_number(alloc, &mut work, key, 9)?;
+    Ok((work, old))
+}
+
+fn insert_tells(alloc: Global, (written, key, get, seek): Line) -> Result<bool, AllocError> {
+    let (work, old) = inserted(alloc, written)?;
+    ends_with(work, &old, (key, get, seek))
 }
 
 #[test]
@@ -73,19 +102,14 @@ fn an_insert_fires_what_it_copies(rt: HostRuntime) -> Result<(), Fail> {
     Ok(())
 }
 
+const MERGED: [Told; 2] = [(b"foo\0", false, true), (b"football\0", true, true)];
+
 /// The tree of `foo` and `football` before and after `football` is taken out: the node above is
 /// merged with that of `foo`, whose leaf stays.
-fn merged(alloc: Global) -> Result<bool, Fail> {
-    let mut work = work_of(alloc, &OLD)?;
-    let old = work.stand()?;
-    let mut next = work.next()?;
-    next.take(b"football\0")?;
-    let (new, notice) = next.freeze()?;
-    Ok(
-        tells(&old, &new, &notice, b"foo\0", false, true)
-            && tells(&old, &new, &notice, b"football\0", true, true)
-            && notice.len() == 5,
-    )
+fn merged(alloc: Global) -> Result<bool, AllocError> {
+    let (mut work, old) = begun(alloc, &OLD)?;
+    work.take(b"football\0")?;
+    ends_so(work, &old, &MERGED, 5)
 }
 
 #[test]
@@ -94,14 +118,20 @@ fn a_merge_fires_the_child_and_keeps_its_leaf(rt: HostRuntime) -> Result<(), Fai
     Ok(())
 }
 
+const PUT_AGAIN: [Told; 1] = [(b"foo\0", true, true)];
+
 /// A row that is put again fires as another one would.
-fn put_again(alloc: Global) -> Result<bool, Fail> {
-    let work = work_of(alloc, &OLD)?;
-    let mut next = work.next()?;
+fn put_again(alloc: Global) -> Result<bool, AllocError> {
+    let (mut work, old) = begun_after(alloc, &OLD)?;
+    put_number(alloc, &mut work, b"foo\0", 0)?;
+    ends_so(work, &old, &PUT_AGAIN, 4)
+}
+
+/// A transaction on a tree, and the tree that it gives before its first write.
+fn begun_after(alloc: Global, keys: &[&[u8]]) -> Result<(Work, Tree), AllocError> {
+    let mut next = work_of(alloc, keys)?.next()?;
     let old = next.stand()?;
-    next.put(b"foo\0", &row(alloc, 0)?)?;
-    let (new, notice) = next.freeze()?;
-    Ok(tells(&old, &new, &notice, b"foo\0", true, true) && notice.len() == 4)
+    Ok((next, old))
 }
 
 #[test]
@@ -110,14 +140,12 @@ fn an_equal_row_fires_too(rt: HostRuntime) -> Result<(), Fail> {
     Ok(())
 }
 
+const PUT_ABOVE: [Told; 2] = [(b"foo", true, true), (b"foo\0", false, false)];
+
 /// The key `foo` ends at the node above both others, which has no leaf: they stay as they are.
-fn put_above(alloc: Global) -> Result<bool, Fail> {
-    let (old, new, notice) = inserted(alloc, b"foo")?;
-    Ok(
-        tells(&old, &new, &notice, b"foo", true, true)
-            && tells(&old, &new, &notice, b"foo\0", false, false)
-            && notice.len() == 2,
-    )
+fn put_above(alloc: Global) -> Result<bool, AllocError> {
+    let (work, old) = inserted(alloc, b"foo")?;
+    ends_so(work, &old, &PUT_ABOVE, 2)
 }
 
 #[test]
@@ -126,18 +154,15 @@ fn a_leaf_above_others_leaves_them(rt: HostRuntime) -> Result<(), Fail> {
     Ok(())
 }
 
+const THREE: [&[u8]; 3] = [b"foo\0", b"football\0", b"foot\0"];
+
+const TAKEN: [Told; 2] = [(b"foo\0", false, true), (b"foot\0", true, true)];
+
 /// The keys that begin with `foot` are taken out: the leaf of `foo` alone stays.
-fn taken(alloc: Global) -> Result<bool, Fail> {
-    let work = work_of(alloc, &[b"foo\0", b"football\0", b"foot\0"])?;
-    let mut next = work.next()?;
-    let old = next.stand()?;
-    next.take_all(b"foot")?;
-    let (new, notice) = next.freeze()?;
-    Ok(
-        tells(&old, &new, &notice, b"foo\0", false, true)
-            && tells(&old, &new, &notice, b"foot\0", true, true)
-            && notice.len() == 8,
-    )
+fn taken(alloc: Global) -> Result<bool, AllocError> {
+    let (mut work, old) = begun_after(alloc, &THREE)?;
+    work.take_all(b"foot")?;
+    ends_so(work, &old, &TAKEN, 8)
 }
 
 #[test]
@@ -146,16 +171,26 @@ fn a_delete_by_prefix_fires_all_that_goes(rt: HostRuntime) -> Result<(), Fail> {
     Ok(())
 }
 
-/// Cells that come and go within one transaction are in no notice.
-fn between(alloc: Global) -> Result<bool, Fail> {
-    let work = work_of(alloc, &OLD)?;
-    let mut next = work.next()?;
-    next.put(b"fool\0", &row(alloc, 9)?)?;
-    next.put(b"fool\0", &row(alloc, 8)?)?;
-    next.take(b"missing\0")?;
-    next.take_all(b"foot")?;
-    let (new, notice) = next.freeze()?;
+/// Puts a key twice, and takes out one that is missing and those that begin with another text.
+fn put_and_take(alloc: Global, work: &mut Work) -> Result<(), AllocError> {
+    put_number(alloc, work, b"fool\0", 9)?;
+    put_number(alloc, work, b"fool\0", 8)?;
+    work.take(b"missing\0")?;
+    work.take_all(b"foot")?;
+    Ok(())
+}
+
+/// Whether a transaction ends with a tree of two keys and a notice of four cells.
+fn ends_small(work: Work) -> Result<bool, AllocError> {
+    let (new, notice) = work.freeze()?;
     Ok(new.len() == 2 && notice.len() == 4)
+}
+
+/// Cells that come and go within one transaction are in no notice.
+fn between(alloc: Global) -> Result<bool, AllocError> {
+    let mut work = work_of(alloc, &OLD)?.next()?;
+    put_and_take(alloc, &mut work)?;
+    ends_small(work)
 }
 
 #[test]

@@ -1,18 +1,9 @@
 //! Each allocation may fail: a write that is refused leaves the pairs that were there, and spoils
 //! the transaction.
-use super::written::Work;
-use mdb_datum::{Datum, Row, read_doc};
+use super::written::{Work, row_of};
+use mdb_datum::Row;
 use std::alloc::{AllocError, Global};
 use std::test::Fail;
-
-/// A row without members.
-#[tactic(auto, using(mdb_datum::proofs::Variants::doc_of_members))]
-fn bare_row(alloc: Global) -> Option<Row> {
-    match read_doc(alloc, b"{}") {
-        Ok(Datum::Members(members)) => Row::of(alloc, members).ok(),
-        _ => None,
-    }
-}
 
 /// One write of a mixed run: an insert, a delete or a delete by prefix of a key of few letters.
 fn write(work: &mut Work, row: &Row, step: u8) -> Result<(), AllocError> {
@@ -26,29 +17,43 @@ fn write(work: &mut Work, row: &Row, step: u8) -> Result<(), AllocError> {
     Ok(())
 }
 
+/// Makes a write, and tells whether it left what it should: a refused one the pairs that were
+/// there, and a spoiled transaction.
+fn is_left(work: &mut Work, row: &Row, step: u8) -> bool {
+    let before = work.txn().len();
+    let refused = write(work, row, step).is_err();
+    refused == work.txn().spoiled() && (!refused || work.txn().len() == before)
+}
+
 /// Makes writes until one is refused, and tells whether each left what it should.
-fn mixed_run(alloc: Global, row: &Row) -> Result<bool, AllocError> {
-    let mut work = Work::new(alloc)?;
+fn are_left(work: &mut Work, row: &Row) -> bool {
     for step in 0..60u8 {
-        let before = work.txn().len();
-        let refused = write(&mut work, row, step).is_err();
-        if refused != work.txn().spoiled() || (refused && work.txn().len() != before) {
-            return Ok(false);
+        if !is_left(work, row, step) {
+            return false;
         }
-        if refused {
-            return Ok(true);
+        if work.txn().spoiled() {
+            return true;
         }
     }
-    Ok(true)
+    true
+}
+
+/// The same on an empty tree.
+fn mixed_run(alloc: Global, row: &Row) -> Result<bool, AllocError> {
+    let mut work = Work::new(alloc)?;
+    Ok(are_left(&mut work, row))
+}
+
+/// A run with a row without members.
+fn bare_run(alloc: Global) -> Result<bool, AllocError> {
+    let row = row_of(alloc, "{}")?;
+    mixed_run(alloc, &row)
 }
 
 // It passes whichever allocation fails, also before the first write.
 #[test]
 fn a_refused_write_leaves_the_pairs(rt: HostRuntime) -> Result<(), Fail> {
-    let Some(row) = bare_row(rt.alloc()) else {
-        return Ok(());
-    };
-    let is_right = mixed_run(rt.alloc(), &row).unwrap_or(true);
-    assert!(rt; is_right);
+    let told = bare_run(rt.alloc());
+    assert!(rt; told.unwrap_or(true));
     Ok(())
 }

@@ -2,11 +2,15 @@
 ghost use Rattle.std.specs.Prelude.{◌<◌};
 
 use super::written::{Work, is_row, row};
-use std::alloc::Global;
+use mdb_datum::Row;
+use std::alloc::{AllocError, Global};
 use std::collections::BTreeMap;
 use std::test::Fail;
 
 type Plain = BTreeMap<Vec<u8>, u64>;
+
+/// The letters of keys.
+const LETTERS: [u8; 4] = [0, b'a', b'b', 255];
 
 /// Numbers by Marsaglia's shifts, the same in each run.
 #[derive(Drop)]
@@ -26,18 +30,12 @@ impl Random {
     }
 
     /// A key of few letters, so that keys come again and begin with each other.
-    fn key(&mut self, alloc: Global, most: u64) -> Result<Vec<u8>, Fail>
+    fn key(&mut self, alloc: Global, most: u64) -> Result<Vec<u8>, AllocError>
         requires { most < 100 }
     {
         let mut key = Vec::new(alloc);
         for _ in 0..self.below(most + 1) {
-            let letter = match self.below(4) {
-                0 => 0,
-                1 => b'a',
-                2 => b'b',
-                _ => 255,
-            };
-            key.push(letter)?;
+            key.push(LETTERS[self.below(4) as usize])?;
         }
         Ok(key)
     }
@@ -45,24 +43,31 @@ impl Random {
 
 // Each write is made on both, and tells whether both answered the same.
 
-fn put_both(work: &mut Work, plain: &mut Plain, key: Vec<u8>, number: u64) -> Result<bool, Fail> {
+/// Whether a row is the one of a number, where there is a number.
+fn is_same_row(row: Option<&Row>, number: Option<u64>) -> bool {
+    match number {
+        Some(number) => is_row(row, number),
+        None => row.is_none(),
+    }
+}
+
+fn put_both(
+    work: &mut Work,
+    plain: &mut Plain,
+    key: Vec<u8>,
+    number: u64,
+) -> Result<bool, AllocError> {
     let row = row(*key.allocator(), number)?;
     let old = work.put(&key, &row)?;
-    match plain.insert(key, number)? {
-        None => Ok(old.is_none()),
-        Some(number) => Ok(is_row(old.as_ref(), number)),
-    }
+    Ok(is_same_row(old.as_ref(), plain.insert(key, number)?))
 }
 
-fn take_both(work: &mut Work, plain: &mut Plain, key: &Vec<u8>) -> Result<bool, Fail> {
+fn take_both(work: &mut Work, plain: &mut Plain, key: &Vec<u8>) -> Result<bool, AllocError> {
     let old = work.take(key)?;
-    match plain.remove(key) {
-        None => Ok(old.is_none()),
-        Some(number) => Ok(is_row(old.as_ref(), number)),
-    }
+    Ok(is_same_row(old.as_ref(), plain.remove(key)))
 }
 
-fn take_all_both(work: &mut Work, plain: &mut Plain, prefix: &[u8]) -> Result<bool, Fail> {
+fn take_all_both(work: &mut Work, plain: &mut Plain, prefix: &[u8]) -> Result<bool, AllocError> {
     let before = plain.len() as u64;
     plain.retain(|key, _| !key.starts_with(prefix));
     let gone = work.take_all(prefix)?;
@@ -75,13 +80,13 @@ fn write_both(
     plain: &mut Plain,
     alloc: Global,
     number: u64,
-) -> Result<bool, Fail> {
+) -> Result<bool, AllocError> {
     let kind = random.below(20);
     let key = random.key(alloc, if kind == 0 { 4 } else { 6 })?;
     match kind {
-        0 => Ok(take_all_both(work, plain, &key)?),
-        1..=6 => Ok(take_both(work, plain, &key)?),
-        _ => Ok(put_both(work, plain, key, number)?),
+        0 => take_all_both(work, plain, &key),
+        1..=6 => take_both(work, plain, &key),
+        _ => put_both(work, plain, key, number),
     }
 }
 
@@ -98,15 +103,36 @@ fn is_same(work: &Work, plain: &Plain) -> bool {
     true
 }
 
+/// Whether each of a thousand drawn writes is told alike, and leaves the same.
+fn run_both(
+    alloc: Global,
+    random: &mut Random,
+    work: &mut Work,
+    plain: &mut Plain,
+) -> Result<bool, AllocError> {
+    for number in 0..1_000u64 {
+        if !write_both(random, work, plain, alloc, number)? || !is_same(work, plain) {
+            return Ok(false);
+        }
+    }
+    Ok(true)
+}
+
+/// The same on an empty map.
+fn run_with(alloc: Global, work: &mut Work) -> Result<bool, AllocError> {
+    let mut random = Random(0x9e37_79b9_7f4a_7c15);
+    let mut plain = BTreeMap::new(alloc);
+    run_both(alloc, &mut random, work, &mut plain)
+}
+
+/// The same on an empty tree.
+fn run(alloc: Global) -> Result<bool, AllocError> {
+    let mut work = Work::new(alloc)?;
+    run_with(alloc, &mut work)
+}
+
 #[test]
 fn a_long_run_of_writes_is_as_on_a_sorted_map(rt: HostRuntime) -> Result<(), Fail> {
-    let alloc = rt.alloc();
-    let mut random = Random(0x9e37_79b9_7f4a_7c15);
-    let mut work = Work::new(alloc)?;
-    let mut plain = BTreeMap::new(alloc);
-    for number in 0..1_000u64 {
-        let same = write_both(&mut random, &mut work, &mut plain, alloc, number)?;
-        assert!(rt; same && is_same(&work, &plain), "{number}");
-    }
+    assert!(rt; run(rt.alloc())?);
     Ok(())
 }

@@ -1,43 +1,43 @@
 //! Writes that are in order, and what is read of a tree.
 ghost use Rattle.std.specs.Prelude.{◌≡◌, ◌≤◌, true, false, IfOk, length};
 ghost use Rattle.std.specs.List.{All};
-ghost use Rattle.mdb_datum.specs.Datum as of;
-ghost use Rattle.mdb_datum.specs.Row.{IsCanonicalRow};
 ghost use Rattle.radix_txn.specs.Write.{IsShort};
 
 use super::Line;
 use crate::{Edit, Notice, TreeTxn, Write};
-use mdb_datum::{Datum, Members, Row, read_doc};
+use mdb_datum::{Datum, Row, read_doc};
 use radix_node::{Edges, Ids, Tree};
 use std::alloc::{AllocError, Global};
 use std::marker::Model;
-use std::test::Fail;
 use watch_word::{Front, open_book};
 
+/// The row that a text is. Another text counts as want of memory, which ends a test.
 #[tactic(auto, using(mdb_datum::proofs::Variants::doc_of_members))]
-fn members(alloc: Global, text: &str) -> Result<Members, Fail>
-    ensures { IfOk result (λ m. IsCanonicalRow (of.members_of m)) }
-{
-    match read_doc(alloc, text.as_bytes())? {
-        Datum::Members(members) => Ok(members),
-        _ => Err(Fail::from("no object")),
+pub fn row_of(alloc: Global, text: &str) -> Result<Row, AllocError> {
+    match read_doc(alloc, text.as_bytes()) {
+        Ok(Datum::Members(members)) => Row::of(alloc, members),
+        _ => Err(AllocError),
     }
 }
 
 /// The row of a number.
-pub fn row(alloc: Global, number: u64) -> Result<Row, Fail> {
+pub fn row(alloc: Global, number: u64) -> Result<Row, AllocError> {
     let text = format!(in alloc; "{{\"n\":{number}}}")?;
-    Ok(Row::of(alloc, members(alloc, text.as_str())?)?)
+    row_of(alloc, text.as_str())
 }
 
 /// Whether there is a row, and it is that of the number.
 pub fn is_row(row: Option<&Row>, number: u64) -> bool {
     match row {
-        Some(row) => match row.get("n") {
-            Some(Datum::Whole(n)) => *n == i128::from(number),
-            _ => false,
-        },
+        Some(row) => is_number(row.get("n"), number),
         None => false,
+    }
+}
+
+fn is_number(datum: Option<&Datum>, number: u64) -> bool {
+    match datum {
+        Some(Datum::Whole(n)) => *n == i128::from(number),
+        _ => false,
     }
 }
 
@@ -141,13 +141,41 @@ impl Work {
 }
 
 /// A transaction with these keys put in turn, each with its place for its number.
-pub fn work_of(alloc: Global, keys: &[&[u8]]) -> Result<Work, Fail> {
+pub fn work_of(alloc: Global, keys: &[&[u8]]) -> Result<Work, AllocError> {
     let mut work = Work::new(alloc)?;
-    for (place, key) in keys.iter().enumerate() {
-        let row = row(alloc, place as u64)?;
-        work.put(key, &row)?;
-    }
+    put_each(alloc, &mut work, keys)?;
     Ok(work)
+}
+
+fn put_each(alloc: Global, work: &mut Work, keys: &[&[u8]]) -> Result<(), AllocError> {
+    for (place, key) in keys.iter().enumerate() {
+        put_number(alloc, work, key, place as u64)?;
+    }
+    Ok(())
+}
+
+/// Puts the row of a number.
+pub fn put_number(
+    alloc: Global,
+    work: &mut Work,
+    key: &[u8],
+    number: u64,
+) -> Result<(), AllocError> {
+    let row = row(alloc, number)?;
+    drop(work.put(key, &row)?);
+    Ok(())
+}
+
+/// The tree of a transaction that is ended.
+pub fn frozen(work: Work) -> Result<Tree, AllocError> {
+    let (tree, _) = work.freeze()?;
+    Ok(tree)
+}
+
+/// The tree of these keys.
+pub fn tree_of(alloc: Global, keys: &[&[u8]]) -> Result<Tree, AllocError> {
+    let work = work_of(alloc, keys)?;
+    frozen(work)
 }
 
 // ---- trees

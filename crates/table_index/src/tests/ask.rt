@@ -1,9 +1,10 @@
 //! Questions of a table without rows: what each is answered, and each refusal.
+use super::long::letters;
 use super::work::Base;
 use super::{right, table_of};
 use mdb_datum::{Datum, Items, Text, read_doc};
 use mdb_schema::{Answer, Ask, AskError, Query};
-use std::alloc::Global;
+use std::alloc::{AllocError, Global};
 use std::test::Fail;
 
 const SCHEMA: &str = "{\"memdb\":1,\"tables\":{\"t\":{\"indexes\":{\
@@ -38,23 +39,27 @@ const ANSWERED: [(Ask, &'static str, &str, bool); 9] = [
     (Ask::Longest, "id_prefix", "[\"a\"]", false),
 ];
 
-/// The arguments that a text lists.
-pub fn args_of(alloc: Global, text: &str) -> Result<Items, Fail> {
-    match read_doc(alloc, text.as_bytes())? {
-        Datum::Items(items) => Ok(items),
-        _ => Err(Fail::from("no list")),
+/// The arguments that a text lists. Another text counts as want of memory, which ends a test.
+pub fn args_of(alloc: Global, text: &str) -> Result<Items, AllocError> {
+    match read_doc(alloc, text.as_bytes()) {
+        Ok(Datum::Items(items)) => Ok(items),
+        _ => Err(AllocError),
     }
 }
 
 /// A question of the table.
-pub fn query_of(alloc: Global, ask: Ask, index: &str, args: Items) -> Result<Query, Fail> {
-    let table = Text::of(alloc, "t")?;
-    let index = Text::of(alloc, index)?;
-    Ok(Query::of(alloc, ask, &table, &index, args)?)
+pub fn query_of(alloc: Global, ask: Ask, index: &str, args: Items) -> Result<Query, AllocError> {
+    Query::of(
+        alloc,
+        ask,
+        &Text::of(alloc, "t")?,
+        &Text::of(alloc, index)?,
+        args,
+    )
 }
 
 /// A question of the table, with the arguments that a text lists.
-pub fn asked(alloc: Global, ask: Ask, index: &str, args: &str) -> Result<Query, Fail> {
+pub fn asked(alloc: Global, ask: Ask, index: &str, args: &str) -> Result<Query, AllocError> {
     query_of(alloc, ask, index, args_of(alloc, args)?)
 }
 
@@ -75,46 +80,97 @@ fn is_empty(table: &Base, query: &Query, by_list: bool) -> bool {
     }
 }
 
-/// So many letters as the only argument.
-fn letters(alloc: Global, count: usize) -> Result<Items, Fail> {
-    let mut text = String::new(alloc);
-    for _ in 0..count {
-        text.push('a')?;
-    }
+/// A list of this text.
+fn only(alloc: Global, text: Text) -> Result<Items, AllocError> {
     let mut args = Items::new(alloc);
-    args.push(Datum::Str(Text::of(alloc, &text)?))?;
+    args.push(Datum::Str(text))?;
     Ok(args)
 }
 
+/// The question for a text.
+fn exact(alloc: Global, text: &str) -> Result<Query, AllocError> {
+    let args = only(alloc, Text::of(alloc, text)?)?;
+    query_of(alloc, Ask::Get, "id", args)
+}
+
+/// The question for so many letters.
+fn exact_letters(alloc: Global, count: usize) -> Result<Query, AllocError> {
+    let text = letters(alloc, count)?;
+    exact(alloc, &text)
+}
+
 /// Whether a question for so many letters is refused as too long.
-fn is_too_long(alloc: Global, table: &Base, count: usize) -> Result<bool, Fail> {
-    let query = query_of(alloc, Ask::Get, "id", letters(alloc, count)?)?;
+fn is_too_long(alloc: Global, table: &Base, count: usize) -> Result<bool, AllocError> {
+    let query = exact_letters(alloc, count)?;
     Ok(matches!(table.ask(&query), Err(AskError::TooLong)))
+}
+
+/// Whether a question is refused as it says.
+fn is_case_refused(
+    alloc: Global,
+    table: &Base,
+    case: &(Ask, &str, &str, AskError),
+) -> Result<bool, AllocError> {
+    let query = asked(alloc, case.0, case.1, case.2)?;
+    Ok(is_refused(table, &query, case.3))
+}
+
+/// Fails with the first question that isn't refused as it says.
+fn each_is_refused(alloc: Global, table: &Base) -> Result<(), Fail> {
+    for case in &REFUSED {
+        right(is_case_refused(alloc, table, case)?, case.2)?;
+    }
+    Ok(())
 }
 
 #[test]
 fn a_question_that_breaks_a_rule_is_refused(rt: HostRuntime) -> Result<(), Fail> {
     let table = table_of(rt.alloc(), SCHEMA)?;
-    for case in &REFUSED {
-        let query = asked(rt.alloc(), case.0, case.1, case.2)?;
-        right(is_refused(&table, &query, case.3), case.2)?;
-    }
-    Ok(())
+    each_is_refused(rt.alloc(), &table)
+}
+
+/// Whether 1,024 letters, with the end byte behind them, are too long, and one fewer aren't.
+fn is_bound_kept(alloc: Global, table: &Base) -> Result<bool, AllocError> {
+    Ok(!is_too_long(alloc, table, 1023)? && is_too_long(alloc, table, 1024)?)
+}
+
+/// The same on a new table.
+fn is_bound_kept_anew(alloc: Global) -> Result<bool, AllocError> {
+    let table = table_of(alloc, SCHEMA)?;
+    is_bound_kept(alloc, &table)
 }
 
 #[test]
 fn a_key_of_1025_bytes_is_too_long(rt: HostRuntime) -> Result<(), Fail> {
-    let table = table_of(rt.alloc(), SCHEMA)?;
-    right(!is_too_long(rt.alloc(), &table, 1023)?, "1024 bytes")?;
-    right(is_too_long(rt.alloc(), &table, 1024)?, "1025 bytes")
+    right(is_bound_kept_anew(rt.alloc())?, "another bound")
+}
+
+/// Whether a question is answered by no row, and by a list where it says so.
+fn is_case_empty(
+    alloc: Global,
+    table: &Base,
+    case: &(Ask, &str, &str, bool),
+) -> Result<bool, AllocError> {
+    let query = asked(alloc, case.0, case.1, case.2)?;
+    Ok(is_empty(table, &query, case.3))
+}
+
+/// Fails with the first question that has a row.
+fn each_is_empty(alloc: Global, table: &Base) -> Result<(), Fail> {
+    for case in &ANSWERED {
+        right(is_case_empty(alloc, table, case)?, case.1)?;
+    }
+    Ok(())
+}
+
+/// A second owner of a new table.
+fn shared_table(alloc: Global) -> Result<Base, AllocError> {
+    let table = table_of(alloc, SCHEMA)?;
+    table.share()
 }
 
 #[test]
 fn a_table_without_rows_answers_with_none(rt: HostRuntime) -> Result<(), Fail> {
-    let table = table_of(rt.alloc(), SCHEMA)?.share()?;
-    for case in &ANSWERED {
-        let query = asked(rt.alloc(), case.0, case.1, case.2)?;
-        right(is_empty(&table, &query, case.3), case.1)?;
-    }
-    Ok(())
+    let table = shared_table(rt.alloc())?;
+    each_is_empty(rt.alloc(), &table)
 }

@@ -1,12 +1,11 @@
 //! A change is asked of its own rows, and the table that it began with of the old ones.
 use super::ask::asked;
-use super::mixed::stand;
-use super::played::{play, table_named, tell_answer};
+use super::played::{RULES, filled, tell_answer, write};
 use super::right;
 use super::words::ask_of;
 use super::work::{Base, Work};
-use mdb_schema::{Answer, Ask, AskError, Query};
-use std::alloc::Global;
+use mdb_schema::{Answer, AskError};
+use std::alloc::{AllocError, Global};
 use std::test::Fail;
 
 /// The rows of the table.
@@ -74,52 +73,41 @@ const CASES: [Case; 6] = [
     ),
 ];
 
-/// Plays a script that answers as it says.
-fn write(alloc: Global, txn: &mut Work, script: &str) -> Result<(), Fail> {
-    let answers = play(alloc, txn, script)?;
-    if answers.as_str() == script {
-        Ok(())
-    } else {
-        Err(Fail::from("another answer"))
-    }
-}
-
-/// A table with the rows.
-fn filled(alloc: Global) -> Result<Base, Fail> {
-    let mut txn = table_named(alloc, "rules")?.txn()?;
-    write(alloc, &mut txn, ROWS)?;
-    stand(&mut txn)
-}
-
 /// Whether an answer reads so.
-fn is_told(alloc: Global, answer: Result<Answer, AskError>, want: &str) -> Result<bool, Fail> {
+fn is_told(
+    alloc: Global,
+    answer: Result<Answer, AskError>,
+    want: &str,
+) -> Result<bool, AllocError> {
     let mut out = String::new(alloc);
     tell_answer(answer, &mut out)?;
     Ok(out.as_str() == want)
 }
 
-/// Whether a change answers a question so.
-fn is_told_by(alloc: Global, txn: &mut Work, query: &Query, want: &str) -> Result<bool, Fail> {
-    if txn.spoiled() {
-        return Err(Fail::from("no memory"));
-    }
-    is_told(alloc, txn.ask(query), want)
+/// Whether a table and a change of it answer a question as it says.
+fn are_told(alloc: Global, table: &Base, txn: &mut Work, case: &Case) -> Result<bool, AllocError> {
+    let query = asked(alloc, ask_of(case.0), case.1, case.2)?;
+    let by_table = is_told(alloc, table.ask(&query), case.3)?;
+    Ok(by_table && is_told(alloc, txn.ask(&query), case.4)?)
 }
 
-/// Asks a table and a change of it.
-fn ask_both(alloc: Global, table: &Base, txn: &mut Work, case: &Case) -> Result<(), Fail> {
-    let query = asked(alloc, ask_of(case.0).unwrap_or(Ask::Lower), case.1, case.2)?;
-    right(is_told(alloc, table.ask(&query), case.3)?, case.3)?;
-    right(is_told_by(alloc, txn, &query, case.4)?, case.4)
+/// Makes the writes in a change of a table, and fails with the first answer that is another one.
+fn each_is_told(alloc: Global, table: &Base, txn: &mut Work) -> Result<(), Fail> {
+    write(alloc, txn, WRITES)?;
+    for case in &CASES {
+        right(are_told(alloc, table, txn, case)?, case.3)?;
+    }
+    Ok(())
+}
+
+/// The same in a new change.
+fn change(alloc: Global, table: &Base) -> Result<(), Fail> {
+    let mut txn = table.txn()?;
+    each_is_told(alloc, table, &mut txn)
 }
 
 #[test]
 fn a_change_answers_of_its_own_rows(rt: HostRuntime) -> Result<(), Fail> {
-    let table = filled(rt.alloc())?;
-    let mut txn = table.txn()?;
-    write(rt.alloc(), &mut txn, WRITES)?;
-    for case in &CASES {
-        ask_both(rt.alloc(), &table, &mut txn, case)?;
-    }
-    Ok(())
+    let table = filled(rt.alloc(), RULES, ROWS)?;
+    change(rt.alloc(), &table)
 }

@@ -3,11 +3,11 @@
 //! often refused.
 ghost use Rattle.std.specs.Prelude.{◌<◌};
 
+use super::ask::asked;
 use super::row_of;
-use mdb_datum::{Datum, Items, Row, Text, read_doc};
+use mdb_datum::Row;
 use mdb_schema::{Ask, Query};
-use std::alloc::Global;
-use std::test::Fail;
+use std::alloc::{AllocError, Global};
 
 pub const SCHEMA: &str = r#"{"memdb":1,"tables":{"t":{"indexes":{
     "age":{"indexer":{"kind":"uint","field":"age","width":1}},
@@ -148,22 +148,25 @@ const MEMBERS: [(&str, Texts); 9] = [
     ),
 ];
 
-/// The indexes, and a name of none, each with arguments.
-const INDEXES: [(&str, Texts); 11] = [
+/// The indexes, and a name of none, each with its prefix form's name and with arguments.
+const INDEXES: [(&str, &str, Texts); 11] = [
     (
         "age",
+        "age_prefix",
         &[
             "[]", "[0]", "[1]", "[2]", "[97]", "[255]", "[256]", "[true]",
         ],
     ),
     (
         "debt",
+        "debt_prefix",
         &[
             "[]", "[-1]", "[0]", "[2]", "[300]", "[-32768]", "[32767]", "[32768]", "[null]",
         ],
     ),
     (
         "id",
+        "id_prefix",
         &[
             "[]",
             r#"["a"]"#,
@@ -179,9 +182,10 @@ const INDEXES: [(&str, Texts); 11] = [
             r#"["a","b"]"#,
         ],
     ),
-    ("local", &["[]", "[true]", "[false]", "[0]"]),
+    ("local", "local_prefix", &["[]", "[true]", "[false]", "[0]"]),
     (
         "meta",
+        "meta_prefix",
         &[
             "[]",
             r#"["a"]"#,
@@ -193,9 +197,10 @@ const INDEXES: [(&str, Texts); 11] = [
             r#"["a",1]"#,
         ],
     ),
-    ("none", &["[]", "[1]"]),
+    ("none", "none_prefix", &["[]", "[1]"]),
     (
         "place",
+        "place_prefix",
         &[
             "[]",
             r#"["a",1]"#,
@@ -210,9 +215,14 @@ const INDEXES: [(&str, Texts); 11] = [
             r#"["a",1,1]"#,
         ],
     ),
-    ("tagged", &["[]", "[true]", "[false]", "[null]"]),
+    (
+        "tagged",
+        "tagged_prefix",
+        &["[]", "[true]", "[false]", "[null]"],
+    ),
     (
         "tags",
+        "tags_prefix",
         &[
             "[]",
             r#"["a"]"#,
@@ -224,9 +234,10 @@ const INDEXES: [(&str, Texts); 11] = [
             "[false]",
         ],
     ),
-    ("up", &["[]", "[true]", "[false]", "[1]"]),
+    ("up", "up_prefix", &["[]", "[true]", "[false]", "[1]"]),
     (
         "uuid",
+        "uuid_prefix",
         &[
             "[]",
             r#"["12345678-9abc-def0-1234-56789abcdef0"]"#,
@@ -298,43 +309,58 @@ impl Random {
     }
 
     fn ask(&mut self) -> Ask {
-        match ASKS.get(self.below(7) as usize) {
-            Some(ask) => *ask,
-            None => Ask::Get,
+        ASKS[self.below(7) as usize]
+    }
+
+    /// The text of a row.
+    fn row_text(&mut self, alloc: Global) -> Result<String, AllocError> {
+        let mut text = String::from_str(alloc, r#"{"kept":1"#)?;
+        for (name, values) in &MEMBERS {
+            add_member(&mut text, name, self.text(values))?;
         }
+        text.push('}')?;
+        Ok(text)
     }
 
     /// A row. Not each of them is one that the table takes.
-    fn row(&mut self, alloc: Global) -> Result<Row, Fail> {
-        let mut text = String::from_str(alloc, r#"{"kept":1"#)?;
-        for (name, values) in &MEMBERS {
-            let value = self.text(values);
-            add_member(&mut text, name, value)?;
-        }
-        text.push('}')?;
-        row_of(alloc, &text)
+    fn row(&mut self, alloc: Global) -> Result<Row, AllocError> {
+        row_of(alloc, &self.row_text(alloc)?)
     }
 
     /// A question of this kind. Not each of them keeps the rules.
-    fn question_of(&mut self, alloc: Global, ask: Ask) -> Result<Question, Fail> {
-        let (index, args) = match INDEXES.get(self.below(11) as usize) {
-            Some((index, args)) => (*index, self.text(args)),
-            None => ("none", "[]"),
-        };
-        made_question(alloc, ask, index, self.below(3) == 0, args)
+    fn question_of(&mut self, alloc: Global, ask: Ask) -> Result<Question, AllocError> {
+        let (index, prefix, args) = &INDEXES[self.below(11) as usize];
+        let args = self.text(args);
+        let by_prefix = self.below(3) == 0;
+        let name = if by_prefix { prefix } else { index };
+        Ok(Question {
+            index,
+            by_prefix,
+            query: asked(alloc, ask, name, args)?,
+        })
     }
 
     /// A question of any kind.
-    pub fn question(&mut self, alloc: Global) -> Result<Question, Fail> {
+    pub fn question(&mut self, alloc: Global) -> Result<Question, AllocError> {
         let ask = self.ask();
         self.question_of(alloc, ask)
     }
 
+    /// A wipe, by prefix or not.
+    fn wipe(&mut self, alloc: Global, by_prefix: bool) -> Result<Write, AllocError> {
+        let question = self.question_of(alloc, Ask::Get)?;
+        if by_prefix {
+            Ok(Write::WipePrefix(question))
+        } else {
+            Ok(Write::Wipe(question))
+        }
+    }
+
     /// A write, most often a put.
-    pub fn write(&mut self, alloc: Global) -> Result<Write, Fail> {
+    pub fn write(&mut self, alloc: Global) -> Result<Write, AllocError> {
         match self.below(24) {
-            0 => Ok(Write::Wipe(self.question_of(alloc, Ask::Get)?)),
-            1 => Ok(Write::WipePrefix(self.question_of(alloc, Ask::Get)?)),
+            0 => self.wipe(alloc, false),
+            1 => self.wipe(alloc, true),
             2..=4 => Ok(Write::Remove(self.row(alloc)?)),
             _ => Ok(Write::Put(self.row(alloc)?)),
         }
@@ -342,49 +368,21 @@ impl Random {
 }
 
 /// Adds a member to the text of a row, but for an empty value.
-fn add_member(text: &mut String, name: &str, value: &str) -> Result<(), Fail> {
-    if !value.is_empty() {
-        text.push_str(",\"")?;
-        text.push_str(name)?;
-        text.push_str("\":")?;
-        text.push_str(value)?;
+fn add_member(text: &mut String, name: &str, value: &str) -> Result<(), AllocError> {
+    if value.is_empty() {
+        Ok(())
+    } else {
+        Ok(write!(text, ",\"{name}\":{value}")?)
     }
-    Ok(())
 }
 
-/// The name of an index, or the one of its prefix form.
-fn name_of(alloc: Global, index: &str, by_prefix: bool) -> Result<Text, Fail> {
-    let mut name = String::from_str(alloc, index)?;
-    if by_prefix {
-        name.push_str("_prefix")?;
-    }
-    Ok(Text::of(alloc, &name)?)
-}
-
-/// A question with the arguments that a text lists.
-pub fn made_question(
-    alloc: Global,
-    ask: Ask,
-    index: &'static str,
-    by_prefix: bool,
-    args: &str,
-) -> Result<Question, Fail> {
-    let args = match read_doc(alloc, args.as_bytes())? {
-        Datum::Items(args) => args,
-        _ => Items::new(alloc),
-    };
-    let name = name_of(alloc, index, by_prefix)?;
-    let query = Query::from_parts(alloc, ask, Text::of(alloc, "t")?, name, args)?;
+/// A question for a whole index.
+pub fn whole(alloc: Global, index: &'static str) -> Result<Question, AllocError> {
     Ok(Question {
         index,
-        by_prefix,
-        query,
+        by_prefix: false,
+        query: asked(alloc, Ask::Get, index, "[]")?,
     })
-}
-
-/// A question of this kind for a whole index.
-pub fn whole(alloc: Global, index: &'static str) -> Result<Question, Fail> {
-    made_question(alloc, Ask::Get, index, false, "[]")
 }
 
 /// The names of the indexes.

@@ -1,5 +1,5 @@
 //! Rows that share keys, list a key twice, or meet in a joined key.
-use super::played::show;
+use super::played::{USERS, show};
 use std::test::Fail;
 
 /// The new row has the mail and the tag `b` of the old one, and neither its age nor its tag `a`.
@@ -19,7 +19,7 @@ get id [] => rows 1 {"age":2,"name":"ann"}
 
 #[test]
 fn a_replaced_row_leaves_no_key_of_its_own(rt: HostRuntime) -> Result<(), Fail> {
-    show(rt.alloc(), "users", REPLACED)
+    show(rt.alloc(), USERS, REPLACED)
 }
 
 /// A tag is stored with the name behind it: that of both rows is `a 00 b 00 c 00`.
@@ -34,7 +34,7 @@ first tags ["a\u0000b"] => row {"age":2,"name":"c","tags":["d","a\u0000b"]}
 
 #[test]
 fn two_rows_of_one_joined_key_are_refused(rt: HostRuntime) -> Result<(), Fail> {
-    show(rt.alloc(), "users", JOINED)
+    show(rt.alloc(), USERS, JOINED)
 }
 
 /// The row stands once under each tag, and is counted once by a wipe.
@@ -55,7 +55,7 @@ get id [] => rows 0
 
 #[test]
 fn a_repeated_key_counts_once(rt: HostRuntime) -> Result<(), Fail> {
-    show(rt.alloc(), "users", REPEATED)
+    show(rt.alloc(), USERS, REPEATED)
 }
 
 /// The rows of a wipe come in the order of their first listing, each once.
@@ -77,5 +77,5 @@ get id [] => rows 0
 
 #[test]
 fn a_wipe_gives_its_rows_as_first_listed(rt: HostRuntime) -> Result<(), Fail> {
-    show(rt.alloc(), "users", TAKEN)
+    show(rt.alloc(), USERS, TAKEN)
 }

@@ -1,42 +1,49 @@
 //! Writes near the end of the ids, and the notices of a change.
-ghost use Rattle.std.specs.Prelude.{◌≡◌, ◌≤◌, ◌^◌, false, IfOk, OnOk};
+ghost use Rattle.std.specs.Prelude.{◌≤◌, ◌^◌};
 
 use super::ask::asked;
 use super::work::{Base, Work};
 use super::{SCHEMA, def_of, right, row_of};
 use crate::{Notices, WipeError};
 use mdb_schema::{Ask, WriteError};
-use std::alloc::Global;
+use std::alloc::{AllocError, Global};
 use std::test::Fail;
 
 /// The ids that a row may draw.
 const A_ROW: u64 = 1 << 26;
 
-/// A change of a table without rows that has so many ids, of which two go to its trees.
-fn with_ids(alloc: Global, count: u64) -> Result<Work, Fail>
-    requires least { 32 ≤ count }
-    requires most { count ≤ 2 ^ 63 }
-    ensures { IfOk result (λ w. w.spoiled ≡ false) }
-{
-    let base = Base::from_id(alloc, &def_of(alloc, SCHEMA)?, (1 << 63) - count)?;
-    Ok(base.txn()?)
+/// A table without rows that has so many ids, of which two go to its trees.
+fn table_with(alloc: Global, count: u64) -> Result<Base, AllocError> {
+    if count < 32 || count > 1 << 63 {
+        return Err(AllocError);
+    }
+    let def = def_of(alloc, SCHEMA)?;
+    Base::from_id(alloc, &def, (1 << 63) - count)
 }
 
-/// How a put of a row is answered, where so many ids are left.
-fn put(alloc: Global, count: u64, text: &str) -> Result<Result<bool, WriteError>, Fail>
-    requires least { 32 ≤ count }
-    requires most { count ≤ 2 ^ 63 }
-{
-    let mut work = with_ids(alloc, count)?;
-    let told = work.put(&row_of(alloc, text)?);
-    if work.spoiled() {
-        return Err(Fail::from("spoiled"));
-    }
-    Ok(told)
+/// A change of that table.
+fn with_ids(alloc: Global, count: u64) -> Result<Work, AllocError> {
+    let table = table_with(alloc, count)?;
+    table.txn()
+}
+
+/// How a put is answered.
+type Told = Result<bool, WriteError>;
+
+/// Whether the put of a row is answered so. Then the change isn't spoiled.
+fn is_put_in(alloc: Global, work: &mut Work, case: &Case) -> Result<bool, AllocError> {
+    let row = row_of(alloc, case.1)?;
+    Ok(work.put(&row) == case.2 && !work.spoiled())
+}
+
+/// The same, where so many ids are left.
+fn is_put(alloc: Global, case: &Case) -> Result<bool, AllocError> {
+    let mut work = with_ids(alloc, case.0)?;
+    is_put_in(alloc, &mut work, case)
 }
 
 /// How many ids there are at the opening, a row, and how its put is answered.
-type Case = (u64, &'static str, Result<bool, WriteError>);
+type Case = (u64, &'static str, Told);
 
 const PUTS: [Case; 4] = [
     (A_ROW + 2, r#"{"name":"ann"}"#, Ok(false)),
@@ -47,11 +54,8 @@ const PUTS: [Case; 4] = [
 
 #[test]
 fn a_put_without_ids_is_refused_last(rt: HostRuntime) -> Result<(), Fail> {
-    for (count, text, want) in &PUTS {
-        if *count < 32 || *count > 1 << 63 {
-            return Err(Fail::from("no ids for the trees"));
-        }
-        right(put(rt.alloc(), *count, text)? == *want, text)?;
+    for case in &PUTS {
+        right(is_put(rt.alloc(), case)?, case.1)?;
     }
     Ok(())
 }
@@ -62,39 +66,33 @@ const ROWS: [&str; 2] = [
     r#"{"name":"bob","tags":["ab"]}"#,
 ];
 
-/// A change with these rows, which draw fewer than 100 ids.
-fn filled(alloc: Global, count: u64) -> Result<Work, Fail>
-    requires least { 32 ≤ count }
-    requires most { count ≤ 2 ^ 63 }
-    ensures { IfOk result (λ w. w.spoiled ≡ false) }
-{
-    let mut work = with_ids(alloc, count)?;
-    for text in &ROWS {
-        put_one(alloc, &mut work, text)?;
+/// Puts a new row into a change.
+fn put_one(alloc: Global, work: &mut Work, text: &str) -> Result<(), AllocError> {
+    match work.put(&row_of(alloc, text)?) {
+        Ok(false) => Ok(()),
+        _ => Err(AllocError),
     }
-    Ok(work)
 }
 
-/// Puts a row into a change.
-fn put_one(alloc: Global, work: &mut Work, text: &str) -> Result<(), Fail>
-    requires sound { work.old.spoiled ≡ false }
-    ensures sound { OnOk result (work.new.spoiled ≡ false) }
-{
-    let done = work.put(&row_of(alloc, text)?) == Ok(false);
-    if work.spoiled() || !done {
-        return Err(Fail::from("no put"));
+/// Puts these rows into a change, for fewer than 100 ids.
+fn fill(alloc: Global, work: &mut Work) -> Result<(), AllocError> {
+    for text in &ROWS {
+        put_one(alloc, work, text)?;
     }
     Ok(())
 }
 
-/// How a wipe of the tags that begin so is answered.
-fn wiped(alloc: Global, count: u64, tag: &str) -> Result<Result<u64, WipeError>, Fail>
-    requires least { 32 ≤ count }
-    requires most { count ≤ 2 ^ 63 }
-{
-    let query = asked(alloc, Ask::Get, "tags_prefix", tag)?;
-    let mut work = filled(alloc, count)?;
-    Ok(work.remove_all(&query))
+/// Whether a wipe of the tags that begin so is answered so, with these rows.
+fn is_wiped_in(alloc: Global, work: &mut Work, case: &Wipe) -> Result<bool, AllocError> {
+    fill(alloc, work)?;
+    let query = asked(alloc, Ask::Get, "tags_prefix", case.1)?;
+    Ok(work.remove_all(&query) == case.2)
+}
+
+/// The same, where so many ids are left at the opening.
+fn is_wiped(alloc: Global, case: &Wipe) -> Result<bool, AllocError> {
+    let mut work = with_ids(alloc, case.0)?;
+    is_wiped_in(alloc, &mut work, case)
 }
 
 /// How many ids there are at the opening, a tag, and how a wipe of the tags that begin so is
@@ -111,11 +109,8 @@ const WIPES: [Wipe; 4] = [
 
 #[test]
 fn a_wipe_wants_ids_for_each_row_once(rt: HostRuntime) -> Result<(), Fail> {
-    for (count, tag, want) in &WIPES {
-        if *count < 32 || *count > 1 << 63 {
-            return Err(Fail::from("no ids for the trees"));
-        }
-        right(wiped(rt.alloc(), *count, tag)? == *want, tag)?;
+    for case in &WIPES {
+        right(is_wiped(rt.alloc(), case)?, case.1)?;
     }
     Ok(())
 }
@@ -128,37 +123,63 @@ fn have(notices: &Notices, by_name: usize, by_tag: usize) -> bool {
     notices.len() == 2 && notices.get(2).is_none() && name.len() == by_name && tag.len() == by_tag
 }
 
-/// Whether a change that puts a row, or none, has notices of so many cells.
-fn is_noticed(
-    alloc: Global,
-    text: Option<&str>,
-    by_name: usize,
-    by_tag: usize,
-) -> Result<bool, Fail> {
-    let mut work = filled(alloc, 1 << 63)?.stand()?.txn()?;
-    if let Some(text) = text {
-        put_one(alloc, &mut work, text)?;
-    }
-    let (_table, notices) = work.freeze()?;
-    Ok(have(&notices, by_name, by_tag))
-}
+/// The text of a row, how many cells the notice of the names has after its put, and how many that
+/// of the tags.
+type Noticed = (&'static str, usize, usize);
 
 // In the tree of names the root goes, whose edges are `ann` and `bob`; a tag `d` is a new edge of
 // the root of the other, and a name with the first letters of another splits its node, which keeps
 // its leaf.
+const NOTICED: [Noticed; 4] = [
+    ("no row", 0, 0),
+    (r#"{"name":"cy"}"#, 1, 0),
+    (r#"{"name":"cy","tags":["d"]}"#, 1, 1),
+    (r#"{"name":"anna"}"#, 2, 0),
+];
+
+/// The table after the puts of these rows.
+fn stood(alloc: Global, work: &mut Work) -> Result<Base, AllocError> {
+    fill(alloc, work)?;
+    work.stand()
+}
+
+/// A table of these rows.
+fn filled(alloc: Global) -> Result<Base, AllocError> {
+    let mut work = with_ids(alloc, 1 << 63)?;
+    stood(alloc, &mut work)
+}
+
+/// The notices of a change.
+fn notices_of(work: Work) -> Result<Notices, AllocError> {
+    let (_table, notices) = work.freeze()?;
+    Ok(notices)
+}
+
+/// The notices of a change that puts a row, or none.
+fn noticed(alloc: Global, table: &Base, text: &str) -> Result<Notices, AllocError> {
+    let mut work = table.txn()?;
+    if text != "no row" {
+        put_one(alloc, &mut work, text)?;
+    }
+    notices_of(work)
+}
+
+/// Whether a change that puts a row has notices of so many cells.
+fn is_noticed(alloc: Global, table: &Base, case: &Noticed) -> Result<bool, AllocError> {
+    let notices = noticed(alloc, table, case.0)?;
+    Ok(have(&notices, case.1, case.2))
+}
+
+/// Fails with the first row that has other notices.
+fn each_is_noticed(alloc: Global, table: &Base) -> Result<(), Fail> {
+    for case in &NOTICED {
+        right(is_noticed(alloc, table, case)?, case.0)?;
+    }
+    Ok(())
+}
+
 #[test]
 fn each_index_has_a_notice(rt: HostRuntime) -> Result<(), Fail> {
-    right(is_noticed(rt.alloc(), None, 0, 0)?, "no row")?;
-    right(
-        is_noticed(rt.alloc(), Some(r#"{"name":"cy"}"#), 1, 0)?,
-        "a name alone",
-    )?;
-    right(
-        is_noticed(rt.alloc(), Some(r#"{"name":"cy","tags":["d"]}"#), 1, 1)?,
-        "a name and a tag",
-    )?;
-    right(
-        is_noticed(rt.alloc(), Some(r#"{"name":"anna"}"#), 2, 0)?,
-        "a longer name",
-    )
+    let table = filled(rt.alloc())?;
+    each_is_noticed(rt.alloc(), &table)
 }

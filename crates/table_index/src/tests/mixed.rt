@@ -1,105 +1,119 @@
 //! A run of writes and questions on a table of ten indexes and on a plain list of rows. Both answer
 //! the same, and a refusal is the same one.
-ghost use Rattle.std.specs.Prelude.{◌≡◌, false};
-
 use super::drawn::{NAMES, Question, Random, SCHEMA, Write, whole};
 use super::plain::PlainTable;
 use super::work::{Base, Work};
-use super::{def_of, right, table_of};
+use super::{begun, def_of, right};
 use crate::WipeError;
 use mdb_datum::Row;
 use mdb_schema::{Answer, AskError, Rows, WriteError};
 use std::alloc::{AllocError, Global};
 use std::test::Fail;
 
+/// Adds a line with a row's text.
+pub fn push_line(row: &Row, text: &mut Vec<u8>) -> Result<(), AllocError> {
+    row.append_doc(text)?;
+    text.push(b'\n')?;
+    Ok(())
+}
+
 /// The texts of rows, one a line.
 fn text_of(alloc: Global, rows: &Rows) -> Result<Vec<u8>, AllocError> {
     let mut text = Vec::new(alloc);
     for row in rows.iter() {
-        row.append_doc(&mut text)?;
-        text.push(b'\n')?;
+        push_line(row, &mut text)?;
+    }
+    Ok(text)
+}
+
+/// The text of a row, or none.
+fn line_of(alloc: Global, row: Option<&Row>) -> Result<Vec<u8>, AllocError> {
+    let mut text = Vec::new(alloc);
+    if let Some(row) = row {
+        push_line(row, &mut text)?;
     }
     Ok(text)
 }
 
 /// The texts of the rows of an answer.
 pub fn told(alloc: Global, table: &Base, question: &Question) -> Result<Vec<u8>, AskError> {
-    let mut rows = Rows::new(alloc);
     match table.ask(&question.query)? {
-        Answer::One(Some(row)) => rows.push(row)?,
-        Answer::One(None) => {}
-        Answer::Many(many) => rows = many,
+        Answer::One(row) => Ok(line_of(alloc, row.as_ref())?),
+        Answer::Many(rows) => Ok(text_of(alloc, &rows)?),
     }
-    Ok(text_of(alloc, &rows)?)
 }
 
-/// Whether both answer a question the same.
+/// Whether both answer a question the same. Want of memory is no answer.
 pub fn is_answered_alike(
     alloc: Global,
     table: &Base,
     plain: &PlainTable,
     question: &Question,
-) -> Result<bool, Fail> {
+) -> Result<bool, AllocError> {
     let told = told(alloc, table, question);
-    let expected = plain.ask(alloc, question);
-    if told == Err(AskError::Memory) || expected == Err(AskError::Memory) {
-        return Err(Fail::from("no memory"));
+    if told == Err(AskError::Memory) {
+        return Err(AllocError);
     }
-    Ok(told == expected)
+    Ok(told == plain.ask(alloc, question))
+}
+
+/// Whether both list the same rows of an index in the same order.
+fn is_listed_alike(
+    alloc: Global,
+    table: &Base,
+    plain: &PlainTable,
+    name: &'static str,
+) -> Result<bool, AllocError> {
+    is_answered_alike(alloc, table, plain, &whole(alloc, name)?)
 }
 
 /// Whether each index lists the same rows in the same order.
-fn are_listed_alike(alloc: Global, table: &Base, plain: &PlainTable) -> Result<bool, Fail> {
+fn are_listed_alike(alloc: Global, table: &Base, plain: &PlainTable) -> Result<bool, AllocError> {
     for name in &NAMES {
-        if !is_answered_alike(alloc, table, plain, &whole(alloc, name)?)? {
+        if !is_listed_alike(alloc, table, plain, name)? {
             return Ok(false);
         }
     }
     Ok(true)
 }
 
-fn put_both(txn: &mut Work, plain: &mut PlainTable, alloc: Global, row: &Row) -> Result<bool, Fail>
-    requires sound { txn.old.spoiled ≡ false }
-{
-    let told = txn.put(row);
-    let expected = plain.put(alloc, row);
-    if told == Err(WriteError::Memory) || expected == Err(WriteError::Memory) {
-        return Err(Fail::from("no memory"));
+/// Whether both answer a put the same. Want of memory is no answer.
+fn is_put_alike(
+    told: Result<bool, WriteError>,
+    expected: Result<bool, WriteError>,
+) -> Result<bool, AllocError> {
+    if told == Err(WriteError::Memory) {
+        return Err(AllocError);
     }
     Ok(told == expected)
 }
 
-fn remove_both(
-    txn: &mut Work,
-    plain: &mut PlainTable,
-    alloc: Global,
-    row: &Row,
-) -> Result<bool, Fail>
-    requires sound { txn.old.spoiled ≡ false }
-{
-    let told = match txn.remove(row) {
-        Ok(row) => Ok(row.doc()?),
-        Err(error) => Err(error),
-    };
-    let expected = plain.remove(alloc, row);
-    if told == Err(WriteError::Memory) || expected == Err(WriteError::Memory) {
-        return Err(Fail::from("no memory"));
+/// The text of the row that a remove takes out.
+fn removed(txn: &mut Work, row: &Row) -> Result<Vec<u8>, WriteError> {
+    Ok(txn.remove(row)?.doc()?)
+}
+
+/// Whether both answer a remove the same. Want of memory is no answer.
+fn is_removed_alike(
+    told: Result<Vec<u8>, WriteError>,
+    expected: Result<Vec<u8>, WriteError>,
+) -> Result<bool, AllocError> {
+    if told == Err(WriteError::Memory) {
+        return Err(AllocError);
     }
     Ok(told == expected)
 }
 
-/// Compares the answers of a wipe.
+/// Whether both answer a wipe the same. Want of memory is no answer.
 fn is_wiped_alike(
     told: Result<u64, WipeError>,
     expected: Result<u64, AskError>,
-) -> Result<bool, Fail> {
-    match (told, expected) {
-        (Ok(told), Ok(expected)) => Ok(told == expected),
-        (Err(WipeError::Refused(told)), Err(expected)) if expected != AskError::Memory => {
-            Ok(told == expected)
-        }
-        (Err(WipeError::Memory), _) | (_, Err(AskError::Memory)) => Err(Fail::from("no memory")),
-        _ => Ok(false),
+) -> Result<bool, AllocError> {
+    match told {
+        Ok(count) => Ok(expected == Ok(count)),
+        Err(WipeError::Refused(error)) => Ok(expected == Err(error)),
+        Err(WipeError::Memory) => Err(AllocError),
+        Err(_) => Ok(false),
     }
 }
 
@@ -108,37 +122,31 @@ fn write_both(
     plain: &mut PlainTable,
     alloc: Global,
     write: &Write,
-) -> Result<bool, Fail> {
-    if txn.spoiled() {
-        return Err(Fail::from("no memory"));
-    }
+) -> Result<bool, AllocError> {
     match write {
-        Write::Put(row) => put_both(txn, plain, alloc, row),
-        Write::Remove(row) => remove_both(txn, plain, alloc, row),
+        Write::Put(row) => is_put_alike(txn.put(row), plain.put(alloc, row)),
+        Write::Remove(row) => is_removed_alike(removed(txn, row), plain.remove(alloc, row)),
         Write::Wipe(question) => {
             is_wiped_alike(txn.remove_all(&question.query), plain.wipe(alloc, question))
-        }
-        Write::WipePrefix(question) if question.by_prefix => {
-            is_wiped_alike(
-                txn.remove_prefix(&question.query),
-                plain.wipe(alloc, question),
-            )
         }
         Write::WipePrefix(question) => {
             is_wiped_alike(
                 txn.remove_prefix(&question.query),
-                Err(AskError::NoPrefixName),
+                plain.wipe_prefix(alloc, question),
             )
         }
     }
 }
 
-/// The present table.
-pub fn stand(txn: &mut Work) -> Result<Base, Fail> {
-    if txn.spoiled() {
-        return Err(Fail::from("no memory"));
-    }
-    Ok(txn.stand()?)
+/// Whether a drawn question is answered alike.
+fn is_drawn_alike(
+    alloc: Global,
+    random: &mut Random,
+    table: &Base,
+    plain: &PlainTable,
+) -> Result<bool, AllocError> {
+    let question = random.question(alloc)?;
+    is_answered_alike(alloc, table, plain, &question)
 }
 
 /// Whether drawn questions are answered alike.
@@ -147,10 +155,9 @@ fn are_drawn_alike(
     random: &mut Random,
     table: &Base,
     plain: &PlainTable,
-) -> Result<bool, Fail> {
+) -> Result<bool, AllocError> {
     for _ in 0..4 {
-        let question = random.question(alloc)?;
-        if !is_answered_alike(alloc, table, plain, &question)? {
+        if !is_drawn_alike(alloc, random, table, plain)? {
             return Ok(false);
         }
     }
@@ -163,20 +170,30 @@ fn write_drawn(
     random: &mut Random,
     txn: &mut Work,
     plain: &mut PlainTable,
-) -> Result<bool, Fail> {
+) -> Result<bool, AllocError> {
     let write = random.write(alloc)?;
     write_both(txn, plain, alloc, &write)
 }
 
 /// Whether both hold the same rows, and answer drawn questions alike.
+fn is_same(
+    alloc: Global,
+    random: &mut Random,
+    table: &Base,
+    plain: &PlainTable,
+) -> Result<bool, AllocError> {
+    Ok(are_listed_alike(alloc, table, plain)? && are_drawn_alike(alloc, random, table, plain)?)
+}
+
+/// The same of a change.
 fn are_alike(
     alloc: Global,
     random: &mut Random,
     txn: &mut Work,
     plain: &PlainTable,
-) -> Result<bool, Fail> {
-    let table = stand(txn)?;
-    Ok(are_listed_alike(alloc, &table, plain)? && are_drawn_alike(alloc, random, &table, plain)?)
+) -> Result<bool, AllocError> {
+    let table = txn.stand()?;
+    is_same(alloc, random, &table, plain)
 }
 
 /// Whether a drawn write is answered alike, and leaves the same rows.
@@ -185,7 +202,7 @@ fn step_both(
     random: &mut Random,
     txn: &mut Work,
     plain: &mut PlainTable,
-) -> Result<bool, Fail> {
+) -> Result<bool, AllocError> {
     Ok(write_drawn(alloc, random, txn, plain)? && are_alike(alloc, random, txn, plain)?)
 }
 
@@ -195,7 +212,7 @@ fn run_both(
     txn: &mut Work,
     plain: &mut PlainTable,
     steps: u64,
-) -> Result<bool, Fail> {
+) -> Result<bool, AllocError> {
     let mut random = Random(0x9e37_79b9_7f4a_7c15);
     for _ in 0..steps {
         if !step_both(alloc, &mut random, txn, plain)? {
@@ -205,12 +222,24 @@ fn run_both(
     Ok(true)
 }
 
+/// A plain list without rows.
+fn plain_of(alloc: Global) -> Result<PlainTable, AllocError> {
+    Ok(PlainTable::empty(alloc, def_of(alloc, SCHEMA)?))
+}
+
+/// Whether a long run in a change is as on a plain list.
+fn is_run_by(alloc: Global, txn: &mut Work) -> Result<bool, AllocError> {
+    let mut plain = plain_of(alloc)?;
+    run_both(alloc, txn, &mut plain, 2_000)
+}
+
+/// The same on a new table.
+fn is_run_alike(alloc: Global) -> Result<bool, AllocError> {
+    let mut txn = begun(alloc, SCHEMA)?;
+    is_run_by(alloc, &mut txn)
+}
+
 #[test]
 fn a_long_run_is_as_on_a_plain_list(rt: HostRuntime) -> Result<(), Fail> {
-    let mut txn = table_of(rt.alloc(), SCHEMA)?.txn()?;
-    let mut plain = PlainTable::empty(rt.alloc(), def_of(rt.alloc(), SCHEMA)?);
-    right(
-        run_both(rt.alloc(), &mut txn, &mut plain, 2_000)?,
-        "another answer",
-    )
+    right(is_run_alike(rt.alloc())?, "another answer")
 }

@@ -1,18 +1,22 @@
-//! A table as a plain list of rows. Keys are made anew each time that they are needed, and a
-//! question looks at each entry of its index.
+//! A table as a plain list of rows, each with its keys. A question looks at each entry of its
+//! index.
 
 use super::drawn::Question;
+use super::mixed::push_line;
 use mdb_datum::Row;
 use mdb_encode::{ArgError, Key, KeyError, Keys, arg_key, keys_of, prefix_key};
-use mdb_schema::{Ask, AskError, IndexDef, TableDef, WriteError};
+use mdb_schema::{Ask, AskError, IndexDef, Query, TableDef, WriteError};
 use std::alloc::{AllocError, Global};
 use std::collections::BTreeMap;
-use std::mem;
 
-/// A row and its `id` key.
+/// The full keys of a row in each index.
+type KeyLists = Vec<Vec<Vec<u8>>>;
+
+/// A row, its `id` key and its full keys.
 #[derive(Drop)]
 struct PlainRow {
     id: Vec<u8>,
+    keys: KeyLists,
     row: Row,
 }
 
@@ -23,11 +27,47 @@ pub struct PlainTable {
     rows: Vec<PlainRow>,
 }
 
-/// The keys of a row in each index.
-type KeyLists = Vec<Vec<Vec<u8>>>;
+/// What a question means: the entries of an index that are compared so with a key.
+#[derive(Drop)]
+struct Sought {
+    place: usize,
+    ask: Ask,
+    exact: bool,
+    key: Vec<u8>,
+}
 
 /// The rows of an index by their full keys.
 type Entries = BTreeMap<Vec<u8>, Row>;
+
+impl PlainRow {
+    /// The full keys in the index at a place.
+    fn at(&self, place: usize) -> &[Vec<u8>] {
+        match self.keys.get(place) {
+            Some(keys) => keys,
+            None => &[],
+        }
+    }
+
+    /// Whether both rows have a full key in the index at a place.
+    fn meets(&self, place: usize, other: &PlainRow) -> bool {
+        for key in self.at(place) {
+            if other.at(place).contains(key) {
+                return true;
+            }
+        }
+        false
+    }
+
+    /// Whether the index at a place lists the row under a key.
+    fn is_listed(&self, place: usize, key: &[u8]) -> bool {
+        for full in self.at(place) {
+            if full.starts_with(key) {
+                return true;
+            }
+        }
+        false
+    }
+}
 
 impl PlainTable {
     /// A table without rows.
@@ -40,68 +80,89 @@ impl PlainTable {
 
     /// Puts a row in; true where it replaces one.
     pub fn put(&mut self, alloc: Global, row: &Row) -> Result<bool, WriteError> {
+        let new = self.accepted(alloc, row)?;
+        let replaces = self.take_out(&new.id) > 0;
+        self.rows.push(new)?;
+        Ok(replaces)
+    }
+
+    /// A row with its keys, or the first refusal.
+    fn accepted(&self, alloc: Global, row: &Row) -> Result<PlainRow, WriteError> {
+        let new = self.made(alloc, row)?;
+        match self.taken(&new) {
+            None => Ok(new),
+            Some(index) => Err(WriteError::KeyTaken { index }),
+        }
+    }
+
+    /// A row with its keys, or why it has none.
+    fn made(&self, alloc: Global, row: &Row) -> Result<PlainRow, WriteError> {
         let id = self.id_key(alloc, row)?;
         let keys = self.keys(alloc, &id, row)?;
-        if let Some(index) = self.taken(alloc, &id, &keys)? {
-            return Err(WriteError::KeyTaken { index });
-        }
-        let before = self.rows.len();
-        self.rows.retain(|held| held.id != id);
-        let replaces = self.rows.len() < before;
         let row = row.share()?;
-        self.rows.push(PlainRow { id, row })?;
-        Ok(replaces)
+        Ok(PlainRow { id, keys, row })
+    }
+
+    /// Takes out the row of an `id` key, and gives the number of rows that went.
+    fn take_out(&mut self, id: &[u8]) -> usize {
+        let before = self.rows.len();
+        self.rows.retain(|held| held.id.as_slice() != id);
+        before.saturating_sub(self.rows.len())
     }
 
     /// Takes out the row of another's `id` key, and gives its text.
     pub fn remove(&mut self, alloc: Global, row: &Row) -> Result<Vec<u8>, WriteError> {
         let id = self.id_key(alloc, row)?;
-        let Some(at) = self.rows.iter().position(|held| held.id == id) else {
-            return Err(WriteError::NotFound);
-        };
-        Ok(self.rows.remove(at).row.doc()?)
+        let text = self.text_of(&id)?;
+        self.take_out(&id);
+        Ok(text)
+    }
+
+    /// The text of the row of an `id` key.
+    fn text_of(&self, id: &[u8]) -> Result<Vec<u8>, WriteError> {
+        for held in &self.rows {
+            if held.id.as_slice() == id {
+                return Ok(held.row.doc()?);
+            }
+        }
+        Err(WriteError::NotFound)
     }
 
     /// Takes out each row that a question lists, and gives their number.
     pub fn wipe(&mut self, alloc: Global, question: &Question) -> Result<u64, AskError> {
-        let def = self.def.share()?;
-        let index = index_asked(&def, question)?;
-        let key = key_asked(alloc, index, question)?;
-        let mut count = 0u64;
-        for held in mem::replace(&mut self.rows, Vec::new(alloc)) {
-            if is_listed(alloc, index, &held, &key)? {
-                count = count.saturating_add(1);
-            } else {
-                self.rows.push(held)?;
-            }
+        let sought = self.sought(alloc, question)?;
+        Ok(self.take_listed(sought.place, &sought.key) as u64)
+    }
+
+    /// The same, where the question names a prefix form.
+    pub fn wipe_prefix(&mut self, alloc: Global, question: &Question) -> Result<u64, AskError> {
+        if question.by_prefix {
+            self.wipe(alloc, question)
+        } else {
+            Err(AskError::NoPrefixName)
         }
-        Ok(count)
+    }
+
+    /// Takes out each row that an index lists under a key, and gives their number.
+    fn take_listed(&mut self, place: usize, key: &[u8]) -> usize {
+        let before = self.rows.len();
+        self.rows.retain(|held| !held.is_listed(place, key));
+        before.saturating_sub(self.rows.len())
     }
 
     /// The texts of the rows that a question is answered.
     pub fn ask(&self, alloc: Global, question: &Question) -> Result<Vec<u8>, AskError> {
-        let index = index_asked(&self.def, question)?;
-        let key = key_asked(alloc, index, question)?;
-        let ask = question.query.ask();
-        let exact = index.unique() && !question.by_prefix && question.query.args().len() > 0;
-        let entries = self.entries(alloc, index)?;
-        let rows = meant(alloc, &entries, ask, exact, &key)?;
-        Ok(text_of(alloc, ordered(ask, rows))?)
+        let sought = self.sought(alloc, question)?;
+        let entries = self.entries(alloc, sought.place)?;
+        Ok(text_of(alloc, &sought.rows(alloc, &entries)?)?)
     }
 
     fn id_key(&self, alloc: Global, row: &Row) -> Result<Vec<u8>, WriteError> {
         let Some(place) = self.def.find("id") else {
             return Err(WriteError::NoId);
         };
-        let Some(index) = self.def.index(place) else {
-            return Err(WriteError::NoId);
-        };
-        let keys = match keys_of(alloc, index.kind(), row) {
-            Ok(keys) => keys,
-            Err(error) => return Err(told(told_place(place), error)),
-        };
-        match keys.get(0) {
-            Some(key) => Ok(key.bytes().to_vec(alloc)?),
+        match self.def.index(place) {
+            Some(index) => first_key(alloc, told_place(place), index, row),
             None => Err(WriteError::NoId),
         }
     }
@@ -110,48 +171,53 @@ impl PlainTable {
     fn keys(&self, alloc: Global, id: &[u8], row: &Row) -> Result<KeyLists, WriteError> {
         let mut lists = Vec::new(alloc);
         for place in 0..self.def.len() {
-            let Some(index) = self.def.index(place) else {
-                return Err(WriteError::NoId);
-            };
-            lists.push(keys_at(alloc, told_place(place), index, id, row)?)?;
+            if let Some(index) = self.def.index(place) {
+                lists.push(keys_at(alloc, told_place(place), index, id, row)?)?;
+            }
         }
         Ok(lists)
     }
 
-    /// The first index where another row has one of these full keys.
-    fn taken(&self, alloc: Global, id: &[u8], lists: &KeyLists) -> Result<Option<u32>, AllocError> {
-        for (place, keys) in lists.iter().enumerate() {
-            if let Some(index) = self.def.index(place) {
-                if self.is_taken(alloc, index, id, keys)? {
-                    return Ok(Some(told_place(place)));
-                }
+    /// The first index where another row has one of a row's full keys.
+    fn taken(&self, new: &PlainRow) -> Option<u32> {
+        for place in 0..self.def.len() {
+            if self.is_taken(place, new) {
+                return Some(told_place(place));
             }
         }
-        Ok(None)
+        None
     }
 
-    fn is_taken(
-        &self,
-        alloc: Global,
-        index: &IndexDef,
-        id: &[u8],
-        keys: &[Vec<u8>],
-    ) -> Result<bool, AllocError> {
+    fn is_taken(&self, place: usize, new: &PlainRow) -> bool {
         for held in &self.rows {
-            if held.id.as_slice() != id && has_one_of(alloc, index, held, keys)? {
-                return Ok(true);
+            if held.id != new.id && held.meets(place, new) {
+                return true;
             }
         }
-        Ok(false)
+        false
     }
 
-    /// The entries of an index.
-    fn entries(&self, alloc: Global, index: &IndexDef) -> Result<Entries, AllocError> {
+    /// The entries of the index at a place.
+    fn entries(&self, alloc: Global, place: usize) -> Result<Entries, AllocError> {
         let mut entries = BTreeMap::new(alloc);
         for held in &self.rows {
-            add_entries(alloc, &mut entries, index, held)?;
+            add_entries(alloc, &mut entries, held.at(place), &held.row)?;
         }
         Ok(entries)
+    }
+
+    /// What a question means, or the first rule that it breaks.
+    fn sought(&self, alloc: Global, question: &Question) -> Result<Sought, AskError> {
+        if question.query.ask() == Ask::Longest && !question.by_prefix {
+            return Err(AskError::NoPrefixName);
+        }
+        let Some(place) = self.def.find(question.index) else {
+            return Err(AskError::UnknownIndex);
+        };
+        match self.def.index(place) {
+            Some(index) => sought_in(alloc, place, index, question),
+            None => Err(AskError::UnknownIndex),
+        }
     }
 }
 
@@ -172,6 +238,26 @@ fn told(index: u32, error: KeyError) -> WriteError {
     }
 }
 
+/// The first key of a row in an index, or why it has none.
+fn first_key(
+    alloc: Global,
+    place: u32,
+    index: &IndexDef,
+    row: &Row,
+) -> Result<Vec<u8>, WriteError> {
+    match keys_of(alloc, index.kind(), row) {
+        Ok(keys) => first_of(alloc, &keys),
+        Err(error) => Err(told(place, error)),
+    }
+}
+
+fn first_of(alloc: Global, keys: &Keys) -> Result<Vec<u8>, WriteError> {
+    match keys.get(0) {
+        Some(key) => Ok(key.bytes().to_vec(alloc)?),
+        None => Err(WriteError::NoId),
+    }
+}
+
 /// The full keys of a row in an index, or why it doesn't take the row.
 fn keys_at(
     alloc: Global,
@@ -181,115 +267,112 @@ fn keys_at(
     row: &Row,
 ) -> Result<Vec<Vec<u8>>, WriteError> {
     match keys_of(alloc, index.kind(), row) {
-        Ok(keys) if keys.len() == 0 && !index.allow_missing() => {
-            Err(WriteError::Missing { index: place })
-        }
-        Ok(keys) => Ok(full_keys(alloc, index, id, &keys)?),
+        Ok(keys) => full_keys_at(alloc, place, index, id, &keys),
         Err(error) => Err(told(place, error)),
     }
 }
 
-/// The key of an entry: in an index that isn't unique the `id` key stands behind the key.
-fn full_key(alloc: Global, index: &IndexDef, id: &[u8], key: &Key) -> Result<Vec<u8>, AllocError> {
-    let mut full = key.bytes().to_vec(alloc)?;
-    if !index.unique() {
-        full.extend_from_slice(id)?;
-    }
-    Ok(full)
-}
-
-fn full_keys(
+fn full_keys_at(
     alloc: Global,
+    place: u32,
     index: &IndexDef,
     id: &[u8],
     keys: &Keys,
-) -> Result<Vec<Vec<u8>>, AllocError> {
+) -> Result<Vec<Vec<u8>>, WriteError> {
+    if keys.len() == 0 && !index.allow_missing() {
+        return Err(WriteError::Missing { index: place });
+    }
+    // In an index that isn't unique the `id` key stands behind the key.
+    let rest: &[u8] = if index.unique() { &[] } else { id };
+    Ok(full_keys(alloc, keys, rest)?)
+}
+
+/// Keys with these bytes behind each.
+fn full_keys(alloc: Global, keys: &Keys, rest: &[u8]) -> Result<Vec<Vec<u8>>, AllocError> {
     let mut full = Vec::new(alloc);
     for key in keys.iter() {
-        full.push(full_key(alloc, index, id, key)?)?;
+        push_full(alloc, &mut full, key, rest)?;
     }
     Ok(full)
 }
 
-/// The full keys of a row that the table holds, which are refused for want of memory alone.
-fn held_keys(alloc: Global, index: &IndexDef, held: &PlainRow) -> Result<Vec<Vec<u8>>, AllocError> {
-    match keys_of(alloc, index.kind(), &held.row) {
-        Ok(keys) => full_keys(alloc, index, &held.id, &keys),
-        Err(_) => Err(AllocError),
-    }
-}
-
-fn has_one_of(
+fn push_full(
     alloc: Global,
-    index: &IndexDef,
-    held: &PlainRow,
-    keys: &[Vec<u8>],
-) -> Result<bool, AllocError> {
-    for key in &held_keys(alloc, index, held)? {
-        if keys.contains(key) {
-            return Ok(true);
-        }
-    }
-    Ok(false)
+    full: &mut Vec<Vec<u8>>,
+    key: &Key,
+    rest: &[u8],
+) -> Result<(), AllocError> {
+    full.push(joined(alloc, key.bytes(), rest)?)?;
+    Ok(())
 }
 
-/// Whether an index lists a row under a key.
-fn is_listed(
-    alloc: Global,
-    index: &IndexDef,
-    held: &PlainRow,
-    key: &[u8],
-) -> Result<bool, AllocError> {
-    for full in &held_keys(alloc, index, held)? {
-        if full.starts_with(key) {
-            return Ok(true);
-        }
-    }
-    Ok(false)
+fn joined(alloc: Global, key: &[u8], rest: &[u8]) -> Result<Vec<u8>, AllocError> {
+    let mut full = key.to_vec(alloc)?;
+    full.extend_from_slice(rest)?;
+    Ok(full)
 }
 
+/// Adds a row under each of its keys in an index.
 fn add_entries(
     alloc: Global,
     entries: &mut Entries,
-    index: &IndexDef,
-    held: &PlainRow,
+    keys: &[Vec<u8>],
+    row: &Row,
 ) -> Result<(), AllocError> {
-    for key in held_keys(alloc, index, held)? {
-        entries.insert(key, held.row.share()?)?;
+    for key in keys {
+        add_entry(entries, key.to_vec(alloc)?, row)?;
     }
     Ok(())
 }
 
-/// The index of a question, or the first rule that it breaks.
-fn index_asked<'a>(def: &'a TableDef, question: &Question) -> Result<&'a IndexDef, AskError> {
-    let longest = question.query.ask() == Ask::Longest;
-    if longest && !question.by_prefix {
-        return Err(AskError::NoPrefixName);
-    }
-    let Some(index) = def.find(question.index).and_then(|place| def.index(place)) else {
-        return Err(AskError::UnknownIndex);
-    };
-    if longest && !index.unique() {
+fn add_entry(entries: &mut Entries, key: Vec<u8>, row: &Row) -> Result<(), AllocError> {
+    entries.insert(key, row.share()?)?;
+    Ok(())
+}
+
+/// What a question of an index means, or the first rule of the index that it breaks.
+fn sought_in(
+    alloc: Global,
+    place: usize,
+    index: &IndexDef,
+    question: &Question,
+) -> Result<Sought, AskError> {
+    let ask = question.query.ask();
+    keeps_rules(ask, index, &question.query)?;
+    let exact = index.unique() && !question.by_prefix && question.query.args().len() > 0;
+    let key = key_asked(alloc, index, question)?;
+    Ok(Sought {
+        place,
+        ask,
+        exact,
+        key,
+    })
+}
+
+fn keeps_rules(ask: Ask, index: &IndexDef, query: &Query) -> Result<(), AskError> {
+    if ask == Ask::Longest && !index.unique() {
         return Err(AskError::NotUnique);
     }
-    let wants_key = longest || question.query.ask() == Ask::ReverseLower;
-    if wants_key && question.query.args().len() == 0 {
+    let wants_key = matches!(ask, Ask::Longest | Ask::ReverseLower);
+    if wants_key && query.args().len() == 0 {
         return Err(AskError::ArgCount);
     }
-    Ok(index)
+    Ok(())
 }
 
 /// The key of a question's arguments, empty where there is none.
 fn key_asked(alloc: Global, index: &IndexDef, question: &Question) -> Result<Vec<u8>, AskError> {
     let args = question.query.args();
     if args.len() == 0 {
-        return Ok(Vec::new(alloc));
-    }
-    let key = if question.by_prefix {
-        prefix_key(alloc, index.kind(), args)
+        Ok(Vec::new(alloc))
+    } else if question.by_prefix {
+        bytes_of(alloc, prefix_key(alloc, index.kind(), args))
     } else {
-        arg_key(alloc, index.kind(), args)
-    };
+        bytes_of(alloc, arg_key(alloc, index.kind(), args))
+    }
+}
+
+fn bytes_of(alloc: Global, key: Result<Key, ArgError>) -> Result<Vec<u8>, AskError> {
     match key {
         Ok(key) => Ok(key.bytes().to_vec(alloc)?),
         Err(error) => Err(refused(error)),
@@ -309,35 +392,37 @@ fn refused(error: ArgError) -> AskError {
     }
 }
 
-/// Whether a question means the entry of a full key.
-fn is_meant(ask: Ask, exact: bool, key: &[u8], full: &[u8]) -> bool {
-    match ask {
-        Ask::First | Ask::Last if exact => full == key,
-        Ask::First | Ask::Last | Ask::Get | Ask::GetReverse => full.starts_with(key),
-        Ask::Lower => full >= key,
-        Ask::ReverseLower => full <= key,
-        Ask::Longest => key.starts_with(full),
-    }
-}
-
-/// The rows that a question means, by rising key.
-fn meant(
-    alloc: Global,
-    entries: &Entries,
-    ask: Ask,
-    exact: bool,
-    key: &[u8],
-) -> Result<Vec<Row>, AllocError> {
-    let mut rows = Vec::new(alloc);
-    for (full, row) in entries {
-        if is_meant(ask, exact, key, full) {
-            rows.push(row.share()?)?;
+impl Sought {
+    /// Whether the entry of a full key is meant.
+    fn is_meant(&self, full: &[u8]) -> bool {
+        let key = self.key.as_slice();
+        match self.ask {
+            Ask::First | Ask::Last if self.exact => full == key,
+            Ask::Lower => full >= key,
+            Ask::ReverseLower => full <= key,
+            Ask::Longest => key.starts_with(full),
+            _ => full.starts_with(key),
         }
     }
-    Ok(rows)
+
+    /// The rows that are meant, as a question gives them.
+    fn rows(&self, alloc: Global, entries: &Entries) -> Result<Vec<Row>, AllocError> {
+        let mut rows = Vec::new(alloc);
+        for (full, row) in entries {
+            if self.is_meant(full) {
+                push_shared(&mut rows, row)?;
+            }
+        }
+        Ok(ordered(self.ask, rows))
+    }
 }
 
-/// The rows as a question gives them, of those that it means.
+fn push_shared(rows: &mut Vec<Row>, row: &Row) -> Result<(), AllocError> {
+    rows.push(row.share()?)?;
+    Ok(())
+}
+
+/// The rows as a question gives them, of those that it means by rising key.
 fn ordered(ask: Ask, mut rows: Vec<Row>) -> Vec<Row> {
     if matches!(
         ask,
@@ -352,11 +437,10 @@ fn ordered(ask: Ask, mut rows: Vec<Row>) -> Vec<Row> {
 }
 
 /// The texts of rows, one a line.
-fn text_of(alloc: Global, rows: Vec<Row>) -> Result<Vec<u8>, AllocError> {
+fn text_of(alloc: Global, rows: &[Row]) -> Result<Vec<u8>, AllocError> {
     let mut text = Vec::new(alloc);
-    for row in &rows {
-        row.append_doc(&mut text)?;
-        text.push(b'\n')?;
+    for row in rows {
+        push_line(row, &mut text)?;
     }
     Ok(text)
 }

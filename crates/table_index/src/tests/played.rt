@@ -4,47 +4,59 @@
 //! without the table's name; `docs/FORMATS.md` has the words. The rows of an answer follow its
 //! number on the same line. Beside those words `take-all` and `take-prefix` are the wipes that give
 //! their rows.
-ghost use Rattle.std.specs.Prelude.{◌≡◌, false};
-
 use super::ask::asked;
-use super::row_of;
-use super::words::{ask_of, ask_word, told_index, write_word};
+use super::words::{MEMORY, ask_of, ask_word, told_index, wipe_word, write_word};
 use super::work::{Base, Work};
+use super::{begun, row_of};
 use crate::WipeError;
 use mdb_datum::Row;
-use mdb_schema::{Answer, Ask, AskError, Query, Rows, WriteError, read_schema};
+use mdb_schema::{Answer, AskError, Query, Rows, WriteError};
 use std::alloc::{AllocError, Global};
 use std::str;
 use std::test::Fail;
 
-/// Tables of a UUID key, of a text key, of a compound index, and of four indexes.
-const SCHEMA: &str = r#"{"memdb":1,"tables":{
-    "keys":{"indexes":{"id":{"unique":true,"indexer":{"kind":"uuid","field":"key"}}}},
-    "notes":{"indexes":{"id":{"unique":true,"indexer":{"kind":"text","field":"name"}}}},
+/// A table of a UUID key.
+pub const KEYS: &str = r#"{"memdb":1,"tables":{
+    "keys":{"indexes":{"id":{"unique":true,"indexer":{"kind":"uuid","field":"key"}}}}}}"#;
+
+/// A table of a compound index.
+pub const RULES: &str = r#"{"memdb":1,"tables":{
     "rules":{"indexes":{"id":{"unique":true,"indexer":{"kind":"text","field":"name"}},
     "path":{"unique":true,"indexer":{"kind":"compound","allow_missing":true,"parts":[
-        {"kind":"text","field":"dc"},{"kind":"text","field":"svc"}]}}}},
+        {"kind":"text","field":"dc"},{"kind":"text","field":"svc"}]}}}}}}"#;
+
+/// A table of four indexes.
+pub const USERS: &str = r#"{"memdb":1,"tables":{
     "users":{"indexes":{"age":{"indexer":{"kind":"uint","field":"age","width":2}},
     "id":{"unique":true,"indexer":{"kind":"text","field":"name"}},
     "mail":{"unique":true,"allow_missing":true,"indexer":{"kind":"text","field":"mail"}},
     "tags":{"allow_missing":true,"indexer":{"kind":"text_list","field":"tags"}}}}}}"#;
 
-/// The table of a name, without rows. It takes one of the names above.
-pub fn table_named(alloc: Global, name: &str) -> Result<Base, AllocError> {
-    let Ok(schema) = read_schema(alloc, SCHEMA.as_bytes()) else {
-        return Err(AllocError);
-    };
-    match schema.find(name).and_then(|at| schema.table(at)) {
-        Some(def) => Base::empty(alloc, def),
-        None => Err(AllocError),
-    }
+/// Plays a script on a table without rows.
+pub fn show(alloc: Global, schema: &str, script: &str) -> Result<(), Fail> {
+    let mut txn = begun(alloc, schema)?;
+    write(alloc, &mut txn, script)
 }
 
-/// Plays a script on a table without rows. It fails with the lines and the answers that came where
-/// they are others.
-pub fn show(alloc: Global, table: &str, script: &str) -> Result<(), Fail> {
-    let mut txn = table_named(alloc, table)?.txn()?;
-    let answers = play(alloc, &mut txn, script)?;
+/// Plays a script. It fails with the lines and the answers that came where they are others.
+pub fn write(alloc: Global, txn: &mut Work, script: &str) -> Result<(), Fail> {
+    same(play(alloc, txn, script)?, script)
+}
+
+/// The table after a script that is played on one without rows.
+pub fn filled(alloc: Global, schema: &str, script: &str) -> Result<Base, Fail> {
+    let mut txn = begun(alloc, schema)?;
+    stood(alloc, &mut txn, script)
+}
+
+/// The table after a script.
+fn stood(alloc: Global, txn: &mut Work, script: &str) -> Result<Base, Fail> {
+    write(alloc, txn, script)?;
+    Ok(txn.stand()?)
+}
+
+/// Fails with the lines and the answers that came where they aren't those of a script.
+fn same(answers: String, script: &str) -> Result<(), Fail> {
     if answers.as_str() == script {
         Ok(())
     } else {
@@ -53,7 +65,7 @@ pub fn show(alloc: Global, table: &str, script: &str) -> Result<(), Fail> {
 }
 
 /// The lines of a script with the answers that come. A line without an answer gets one.
-pub fn play(alloc: Global, txn: &mut Work, script: &str) -> Result<String, Fail> {
+pub fn play(alloc: Global, txn: &mut Work, script: &str) -> Result<String, AllocError> {
     let mut out = String::new(alloc);
     for line in script.lines() {
         tell_line(alloc, txn, line, &mut out)?;
@@ -62,61 +74,74 @@ pub fn play(alloc: Global, txn: &mut Work, script: &str) -> Result<String, Fail>
 }
 
 /// Adds a line's command, with the answer that comes.
-fn tell_line(alloc: Global, txn: &mut Work, line: &str, out: &mut String) -> Result<(), Fail> {
-    let command = match line.split_once(" => ") {
-        Some((command, _)) => command,
-        None => line,
-    };
+fn tell_line(
+    alloc: Global,
+    txn: &mut Work,
+    line: &str,
+    out: &mut String,
+) -> Result<(), AllocError> {
+    let command = command_of(line);
     out.push_str(command)?;
     out.push_str(" => ")?;
     tell(alloc, txn, command, out)?;
-    Ok(out.push('\n')?)
+    out.push('\n')
+}
+
+/// A line without its answer.
+fn command_of(line: &str) -> &str {
+    match line.split_once(" => ") {
+        Some((command, _)) => command,
+        None => line,
+    }
 }
 
 /// Adds what a command answers.
-fn tell(alloc: Global, txn: &mut Work, command: &str, out: &mut String) -> Result<(), Fail> {
-    if txn.spoiled() {
-        return Err(Fail::from("no memory"));
-    }
+fn tell(alloc: Global, txn: &mut Work, command: &str, out: &mut String) -> Result<(), AllocError> {
     match command.split_once(' ') {
         Some(("insert", row)) => tell_insert(txn, &row_of(alloc, row)?, out),
         Some(("delete", row)) => tell_delete(txn, &row_of(alloc, row)?, out),
         Some((word, rest)) => tell_listed(alloc, txn, word, rest, out),
-        None => Err(Fail::from("no command")),
+        None => out.push_str("no command"),
     }
 }
 
-fn tell_insert(txn: &mut Work, row: &Row, out: &mut String) -> Result<(), Fail>
-    requires sound { txn.old.spoiled ≡ false }
-{
+fn tell_insert(txn: &mut Work, row: &Row, out: &mut String) -> Result<(), AllocError> {
     match txn.put(row) {
-        Ok(true) => Ok(out.push_str("replaced")?),
-        Ok(false) => Ok(out.push_str("inserted")?),
+        Ok(true) => out.push_str("replaced"),
+        Ok(false) => out.push_str("inserted"),
         Err(error) => tell_refused_write(txn, error, out),
     }
 }
 
-fn tell_delete(txn: &mut Work, row: &Row, out: &mut String) -> Result<(), Fail>
-    requires sound { txn.old.spoiled ≡ false }
-{
+fn tell_delete(txn: &mut Work, row: &Row, out: &mut String) -> Result<(), AllocError> {
     match txn.remove(row) {
-        Ok(_) => Ok(out.push_str("deleted")?),
+        Ok(_) => out.push_str("deleted"),
         Err(error) => tell_refused_write(txn, error, out),
     }
 }
 
 /// Adds a refusal of a write, with the name of its index.
-fn tell_refused_write(txn: &Work, error: WriteError, out: &mut String) -> Result<(), Fail> {
-    let Some(word) = write_word(error) else {
-        return Err(Fail::from("no memory"));
-    };
-    out.push_str("refused ")?;
-    out.push_str(word)?;
-    if let Some(place) = told_index(error) {
-        out.push(' ')?;
-        out.push_str(index_name(txn, place))?;
+fn tell_refused_write(txn: &Work, error: WriteError, out: &mut String) -> Result<(), AllocError> {
+    tell_refused(write_word(error), out)?;
+    match told_index(error) {
+        Some(place) => tell_word(index_name(txn, place), out),
+        None => Ok(()),
     }
-    Ok(())
+}
+
+/// Adds a refusal. Want of memory is no answer, and ends a script.
+fn tell_refused(word: &str, out: &mut String) -> Result<(), AllocError> {
+    if word == MEMORY {
+        return Err(AllocError);
+    }
+    out.push_str("refused")?;
+    tell_word(word, out)
+}
+
+/// Adds a word behind a blank.
+fn tell_word(word: &str, out: &mut String) -> Result<(), AllocError> {
+    out.push(' ')?;
+    out.push_str(word)
 }
 
 fn index_name(txn: &Work, place: u32) -> &str {
@@ -133,21 +158,23 @@ fn tell_listed(
     word: &str,
     rest: &str,
     out: &mut String,
-) -> Result<(), Fail>
-    requires sound { txn.old.spoiled ≡ false }
-{
-    let Some((index, args)) = rest.split_once(' ') else {
-        return Err(Fail::from("no arguments"));
-    };
-    let ask = ask_of(word).unwrap_or(Ask::Get);
-    let query = asked(alloc, ask, index, args)?;
-    tell_query(txn, word, &query, out)
+) -> Result<(), AllocError> {
+    match rest.split_once(' ') {
+        Some((index, args)) => {
+            let query = asked(alloc, ask_of(word), index, args)?;
+            tell_query(txn, word, &query, out)
+        }
+        None => out.push_str("no arguments"),
+    }
 }
 
 /// Adds what a wipe or a question answers.
-fn tell_query(txn: &mut Work, word: &str, query: &Query, out: &mut String) -> Result<(), Fail>
-    requires sound { txn.old.spoiled ≡ false }
-{
+fn tell_query(
+    txn: &mut Work,
+    word: &str,
+    query: &Query,
+    out: &mut String,
+) -> Result<(), AllocError> {
     match word {
         "delete-all" => tell_wipe(txn.remove_all(query), out),
         "delete-prefix" => tell_wipe(txn.remove_prefix(query), out),
@@ -157,48 +184,47 @@ fn tell_query(txn: &mut Work, word: &str, query: &Query, out: &mut String) -> Re
     }
 }
 
-fn tell_wipe(answer: Result<u64, WipeError>, out: &mut String) -> Result<(), Fail> {
+fn tell_wipe(answer: Result<u64, WipeError>, out: &mut String) -> Result<(), AllocError> {
     match answer {
-        Ok(count) => Ok(write!(out, "deleted {count}")?),
-        Err(WipeError::Refused(error)) => tell_refused_question(error, out),
-        Err(_) => Err(Fail::from("no memory")),
+        Ok(count) => tell_count("deleted", count, out),
+        Err(error) => tell_refused(wipe_word(error), out),
     }
 }
 
-fn tell_taken(answer: Result<Rows, WipeError>, out: &mut String) -> Result<(), Fail> {
+fn tell_taken(answer: Result<Rows, WipeError>, out: &mut String) -> Result<(), AllocError> {
     match answer {
         Ok(rows) => tell_rows(&rows, out),
-        Err(WipeError::Refused(error)) => tell_refused_question(error, out),
-        Err(_) => Err(Fail::from("no memory")),
+        Err(error) => tell_refused(wipe_word(error), out),
     }
 }
 
 /// Adds the answer to a question.
-pub fn tell_answer(answer: Result<Answer, AskError>, out: &mut String) -> Result<(), Fail> {
+pub fn tell_answer(answer: Result<Answer, AskError>, out: &mut String) -> Result<(), AllocError> {
     match answer {
-        Ok(Answer::One(Some(row))) => {
-            out.push_str("row")?;
-            tell_row(&row, out)
-        }
-        Ok(Answer::One(None)) => Ok(out.push_str("none")?),
+        Ok(Answer::One(row)) => tell_one(row.as_ref(), out),
         Ok(Answer::Many(rows)) => tell_rows(&rows, out),
-        Err(error) => tell_refused_question(error, out),
+        Err(error) => tell_refused(ask_word(error), out),
     }
 }
 
-fn tell_refused_question(error: AskError, out: &mut String) -> Result<(), Fail> {
-    let Some(word) = ask_word(error) else {
-        return Err(Fail::from("no memory"));
-    };
-    out.push_str("refused ")?;
-    out.push_str(word)?;
-    Ok(())
+/// Adds a row, or that there is none.
+fn tell_one(row: Option<&Row>, out: &mut String) -> Result<(), AllocError> {
+    match row {
+        Some(row) => {
+            out.push_str("row")?;
+            tell_row(row, out)
+        }
+        None => out.push_str("none"),
+    }
+}
+
+fn tell_count(word: &str, count: u64, out: &mut String) -> Result<(), AllocError> {
+    Ok(write!(out, "{word} {count}")?)
 }
 
 /// Adds the number of rows, and each row.
-fn tell_rows(rows: &Rows, out: &mut String) -> Result<(), Fail> {
-    let count = rows.len();
-    write!(out, "rows {count}")?;
+fn tell_rows(rows: &Rows, out: &mut String) -> Result<(), AllocError> {
+    tell_count("rows", rows.len() as u64, out)?;
     for row in rows.iter() {
         tell_row(row, out)?;
     }
@@ -206,12 +232,7 @@ fn tell_rows(rows: &Rows, out: &mut String) -> Result<(), Fail> {
 }
 
 /// Adds a row's text, behind a blank.
-fn tell_row(row: &Row, out: &mut String) -> Result<(), Fail> {
+fn tell_row(row: &Row, out: &mut String) -> Result<(), AllocError> {
     let doc = row.doc()?;
-    let Ok(text) = str::from_utf8(&doc) else {
-        return Err(Fail::from("no text"));
-    };
-    out.push(' ')?;
-    out.push_str(text)?;
-    Ok(())
+    tell_word(str::from_utf8(&doc).unwrap_or("no text"), out)
 }

@@ -1,10 +1,6 @@
 //! Rows put, replaced and refused, told by the writes that come after them.
-ghost use Rattle.std.specs.Prelude.{◌≡◌, false, IfOk, OnOk};
-
-use super::work::Work;
-use super::{right, row_of, table_of};
-use mdb_datum::Row;
-use mdb_schema::WriteError;
+use super::begun;
+use super::played::write;
 use std::alloc::Global;
 use std::test::Fail;
 
@@ -15,150 +11,58 @@ const SCHEMA: &str = r#"{"memdb":1,"tables":{"t":{"indexes":{
     "id":{"unique":true,"indexer":{"kind":"text","field":"name"}},
     "tags":{"allow_missing":true,"indexer":{"kind":"text_list","field":"tags"}}}}}}"#;
 
-/// A write, the row that it is of, and what it answers.
-type Step = (&'static str, &'static str, &'static str);
-
-/// A refusal as a word.
-fn refusal(error: &WriteError) -> &'static str {
-    match error {
-        WriteError::NoId => "no id",
-        WriteError::KeyTaken { index: 0 } => "code taken",
-        WriteError::KeyTaken { index: 1 } => "group taken",
-        WriteError::WrongKind { index: 3 } => "tags of another kind",
-        WriteError::NotFound => "absent",
-        _ => "refused",
-    }
-}
-
-/// What a write of this word answers, as a word.
-fn answer(txn: &mut Work, write: &str, row: &Row) -> &'static str
-    requires sound { txn.old.spoiled ≡ false }
-{
-    if write == "remove" {
-        return match txn.remove(row) {
-            Ok(_) => "removed",
-            Err(error) => refusal(&error),
-        };
-    }
-    match txn.put(row) {
-        Ok(true) => "replaced",
-        Ok(false) => "new",
-        Err(error) => refusal(&error),
-    }
-}
-
-/// Whether a write answers as it should. Another one may come after it.
-fn is_answered(alloc: Global, txn: &mut Work, step: &Step) -> Result<bool, Fail>
-    requires sound { txn.old.spoiled ≡ false }
-    ensures sound { OnOk result (txn.new.spoiled ≡ false) }
-{
-    let row = row_of(alloc, step.1)?;
-    let told = answer(txn, step.0, &row);
-    if txn.spoiled() {
-        return Err(Fail::from("no memory"));
-    }
-    Ok(told == step.2)
-}
-
-/// A change of an empty table.
-fn begun(alloc: Global) -> Result<Work, Fail>
-    ensures { IfOk result (λ txn. txn.spoiled ≡ false) }
-{
-    Ok(table_of(alloc, SCHEMA)?.txn()?)
-}
-
-/// Whether each write answers as it should, one after another.
-fn are_answered_by(alloc: Global, txn: &mut Work, steps: &[Step]) -> Result<bool, Fail>
-    requires sound { txn.old.spoiled ≡ false }
-    ensures sound { OnOk result (txn.new.spoiled ≡ false) }
-{
-    for step in steps {
-        if !is_answered(alloc, txn, step)? {
-            return Ok(false);
-        }
-    }
-    Ok(true)
-}
-
-/// Whether each write answers as it should, on an empty table, and the table after them stands.
-fn are_answered(alloc: Global, steps: &[Step]) -> Result<bool, Fail> {
-    let mut txn = begun(alloc)?;
-    let all = are_answered_by(alloc, &mut txn, steps)?;
+/// Plays a script on an empty table, and freezes the table after it.
+fn show_frozen(alloc: Global, script: &str) -> Result<(), Fail> {
+    let mut txn = begun(alloc, SCHEMA)?;
+    write(alloc, &mut txn, script)?;
     drop(txn.freeze()?);
-    Ok(all)
+    Ok(())
 }
 
-/// A row in the place of another that has some of its keys.
-const REPLACED: [Step; 8] = [
-    (
-        "put",
-        r#"{"name":"ann","code":"x","group":"g","tags":["a","b","a"]}"#,
-        "new",
-    ),
-    (
-        "put",
-        r#"{"name":"ann","code":"y","group":"g","tags":["b","c"]}"#,
-        "replaced",
-    ),
-    // The old code is free, and the new one isn't.
-    ("put", r#"{"name":"bob","code":"y"}"#, "code taken"),
-    ("put", r#"{"name":"bob","code":"x"}"#, "new"),
-    // A code that both have is still there.
-    (
-        "put",
-        r#"{"name":"bob","code":"x","group":"g"}"#,
-        "replaced",
-    ),
-    ("put", r#"{"name":"ann","code":"x"}"#, "code taken"),
-    ("remove", r#"{"name":"ann"}"#, "removed"),
-    ("put", r#"{"name":"bob","code":"y"}"#, "replaced"),
-];
+/// A row in the place of another that has some of its keys. The old code is free then, and the new
+/// one isn't. A code that both have is still there.
+const REPLACED: &str =
+    r#"insert {"name":"ann","code":"x","group":"g","tags":["a","b","a"]} => inserted
+insert {"name":"ann","code":"y","group":"g","tags":["b","c"]} => replaced
+insert {"name":"bob","code":"y"} => refused key-taken code
+insert {"name":"bob","code":"x"} => inserted
+insert {"name":"bob","code":"x","group":"g"} => replaced
+insert {"name":"ann","code":"x"} => refused key-taken code
+delete {"name":"ann"} => deleted
+insert {"name":"bob","code":"y"} => replaced
+"#;
 
 #[test]
 fn a_row_replaces_that_of_its_id(rt: HostRuntime) -> Result<(), Fail> {
-    right(are_answered(rt.alloc(), &REPLACED)?, "another answer")
+    show_frozen(rt.alloc(), REPLACED)
 }
 
 /// Keys that another row has. A group is stored with the `id` key behind it, and so is told apart
-/// from that of another row, but where the two together are the same bytes.
-const TAKEN: [Step; 7] = [
-    (
-        "put",
-        r#"{"name":"b\u0000c","code":"x","group":"a"}"#,
-        "new",
-    ),
-    ("put", r#"{"name":"ann","group":"a"}"#, "new"),
-    (
-        "put",
-        r#"{"name":"c","code":"y","group":"a\u0000b"}"#,
-        "group taken",
-    ),
-    // Nothing of the refused row is in.
-    ("remove", r#"{"name":"c"}"#, "absent"),
-    ("put", r#"{"name":"ann","code":"y"}"#, "replaced"),
-    ("remove", r#"{"name":"b\u0000c"}"#, "removed"),
-    ("put", r#"{"name":"c","group":"a\u0000b"}"#, "new"),
-];
+/// from that of another row, but where the two together are the same bytes. Nothing of a refused row
+/// is in.
+const TAKEN: &str = r#"insert {"name":"b\u0000c","code":"x","group":"a"} => inserted
+insert {"name":"ann","group":"a"} => inserted
+insert {"name":"c","code":"y","group":"a\u0000b"} => refused key-taken group
+delete {"name":"c"} => refused not-found
+insert {"name":"ann","code":"y"} => replaced
+delete {"name":"b\u0000c"} => deleted
+insert {"name":"c","group":"a\u0000b"} => inserted
+"#;
 
 #[test]
 fn a_key_of_another_row_is_taken(rt: HostRuntime) -> Result<(), Fail> {
-    right(are_answered(rt.alloc(), &TAKEN)?, "another answer")
+    show_frozen(rt.alloc(), TAKEN)
 }
 
 /// Rows that break two rules.
-const ORDER: [Step; 5] = [
-    ("put", r#"{"name":"ann","code":"x","group":"g"}"#, "new"),
-    ("put", r#"{"code":"x","tags":1}"#, "no id"),
-    (
-        "put",
-        r#"{"name":"bob","code":"x","tags":1}"#,
-        "tags of another kind",
-    ),
-    ("put", r#"{"name":"bob","code":"x"}"#, "code taken"),
-    ("remove", r#"{"name":"bob"}"#, "absent"),
-];
+const ORDER: &str = r#"insert {"name":"ann","code":"x","group":"g"} => inserted
+insert {"code":"x","tags":1} => refused no-id
+insert {"name":"bob","code":"x","tags":1} => refused wrong-kind tags
+insert {"name":"bob","code":"x"} => refused key-taken code
+delete {"name":"bob"} => refused not-found
+"#;
 
 #[test]
 fn the_first_rule_that_is_broken_is_told(rt: HostRuntime) -> Result<(), Fail> {
-    right(are_answered(rt.alloc(), &ORDER)?, "another answer")
+    show_frozen(rt.alloc(), ORDER)
 }

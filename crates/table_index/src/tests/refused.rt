@@ -1,8 +1,8 @@
 //! A refused write leaves what each index lists.
-use super::played::{play, table_named};
-use super::right;
+use super::played::{USERS, play, write};
 use super::work::Work;
-use std::alloc::Global;
+use super::{begun, right};
+use std::alloc::{AllocError, Global};
 use std::test::Fail;
 
 /// What the table holds.
@@ -35,36 +35,35 @@ delete-all age [65536] => refused out-of-range
 delete-prefix id ["a"] => refused no-prefix-name
 delete-prefix age_prefix [1] => refused no-prefix-form"#;
 
-/// A change of a table with rows.
-fn filled(alloc: Global) -> Result<Work, Fail> {
-    let mut txn = table_named(alloc, "users")?.txn()?;
-    let answers = play(alloc, &mut txn, ROWS)?;
-    if answers.as_str() == ROWS {
-        Ok(txn)
-    } else {
-        Err(Fail::from("other rows"))
-    }
-}
-
-/// Whether a line is answered as it says, and each index lists the same after it.
-fn leaves_all(alloc: Global, txn: &mut Work, line: &str) -> Result<bool, Fail> {
-    let before = play(alloc, txn, EACH_INDEX)?;
-    let same = is_answered(alloc, txn, line)?;
-    let after = play(alloc, txn, EACH_INDEX)?;
-    Ok(same && before == after)
-}
-
 /// Whether a line is answered as it says.
-fn is_answered(alloc: Global, txn: &mut Work, line: &str) -> Result<bool, Fail> {
+fn is_answered(alloc: Global, txn: &mut Work, line: &str) -> Result<bool, AllocError> {
     let answer = play(alloc, txn, line)?;
     Ok(answer.as_str().strip_suffix('\n') == Some(line))
 }
 
-#[test]
-fn a_refused_write_leaves_each_index(rt: HostRuntime) -> Result<(), Fail> {
-    let mut txn = filled(rt.alloc())?;
+/// Whether a line is answered as it says, and each index lists the same after it.
+fn leaves_all(alloc: Global, txn: &mut Work, line: &str) -> Result<bool, AllocError> {
+    let before = play(alloc, txn, EACH_INDEX)?;
+    Ok(is_answered(alloc, txn, line)? && lists(alloc, txn, &before)?)
+}
+
+/// Whether each index lists these rows.
+fn lists(alloc: Global, txn: &mut Work, rows: &str) -> Result<bool, AllocError> {
+    let listed = play(alloc, txn, EACH_INDEX)?;
+    Ok(listed.as_str() == rows)
+}
+
+/// Fails with the first line that changes what an index lists.
+fn each_leaves_all(alloc: Global, txn: &mut Work) -> Result<(), Fail> {
+    write(alloc, txn, ROWS)?;
     for line in REFUSED.lines() {
-        right(leaves_all(rt.alloc(), &mut txn, line)?, line)?;
+        right(leaves_all(alloc, txn, line)?, line)?;
     }
     Ok(())
+}
+
+#[test]
+fn a_refused_write_leaves_each_index(rt: HostRuntime) -> Result<(), Fail> {
+    let mut txn = begun(rt.alloc(), USERS)?;
+    each_leaves_all(rt.alloc(), &mut txn)
 }

@@ -2,13 +2,13 @@
 ghost use Rattle.std.specs.Prelude.{◌≡◌};
 
 use super::ask::asked;
-use super::played::{play, table_named};
+use super::played::{USERS, filled, write};
 use super::right;
 use super::words::ask_of;
-use super::work::Base;
-use crate::{Notices, Spot, Table};
-use mdb_schema::{Ask, AskError, Query, TableDef};
-use std::alloc::Global;
+use super::work::{Base, Work};
+use crate::{Notices, Spot, Table, Watched};
+use mdb_schema::{AskError, TableDef};
+use std::alloc::{AllocError, Global};
 use std::test::Fail;
 
 /// The rows of the table, which stand at the paths `foo` and `football`, each with its end byte.
@@ -45,20 +45,6 @@ const CASES: [Case; 11] = [
     ("get-reverse", "id", "[]", FOOP, true),
 ];
 
-/// A table of these rows.
-fn filled(alloc: Global) -> Result<Base, Fail> {
-    let mut work = table_named(alloc, "users")?.txn()?;
-    let answers = play(alloc, &mut work, ROWS)?;
-    if work.spoiled() || answers.as_str() != ROWS {
-        return Err(Fail::from("no rows"));
-    }
-    Ok(work.stand()?)
-}
-
-fn question(alloc: Global, case: &Case) -> Result<Query, Fail> {
-    asked(alloc, ask_of(case.0).unwrap_or(Ask::Lower), case.1, case.2)
-}
-
 fn schema_of(table: &Table) -> &TableDef
     ensures { result.now ≡ table.now.schema }
 {
@@ -81,41 +67,57 @@ fn is_noticed(notices: &Notices, spot: &Spot) -> bool {
     false
 }
 
-/// Whether the cell of the same question is another one in a later table, which the notices must
-/// tell too.
-fn moves(table: &Table, notices: &Notices, spot: &Spot) -> Result<bool, Fail> {
+/// Whether the cell of the same question is another one in a later table exactly where that is said,
+/// and the notices tell the same.
+fn is_right(table: &Table, notices: &Notices, spot: &Spot, want: bool) -> bool {
     if spot.index() as usize >= schema_of(table).len() {
-        return Err(Fail::from("no index"));
+        return false;
     }
     let moved = table.cell_at(spot).id() != spot.watch().id();
-    if is_noticed(notices, spot) == moved {
-        Ok(moved)
-    } else {
-        Err(Fail::from("another notice"))
+    moved == want && is_noticed(notices, spot) == want
+}
+
+/// The watch of a question.
+fn watch_of(alloc: Global, base: &Base, case: &Case) -> Result<Watched, AllocError> {
+    let query = asked(alloc, ask_of(case.0), case.1, case.2)?;
+    match base.table().ask_watch(&query) {
+        Ok(watched) => Ok(watched),
+        Err(_) => Err(AllocError),
     }
 }
 
-/// Whether a question's watch moves by a write.
-fn moves_by(alloc: Global, base: &Base, case: &Case) -> Result<bool, Fail> {
-    let Ok(watched) = base.table().ask_watch(&question(alloc, case)?) else {
-        return Err(Fail::from("no watch"));
-    };
+/// Plays a write in a change.
+fn changed(alloc: Global, base: &Base, script: &str) -> Result<Work, Fail> {
     let mut work = base.txn()?;
-    let answers = play(alloc, &mut work, case.3)?;
-    if work.spoiled() || answers.as_str() != case.3 {
-        return Err(Fail::from("no write"));
-    }
+    write(alloc, &mut work, script)?;
+    Ok(work)
+}
+
+/// Whether a watch moves by a change exactly where that is said.
+fn moves_so(work: Work, spot: &Spot, want: bool) -> Result<bool, AllocError> {
     let (table, notices) = work.freeze()?;
-    moves(&table, &notices, &watched.spot)
+    Ok(is_right(&table, &notices, spot, want))
+}
+
+/// Whether a question's watch moves by a write exactly where that is said.
+fn is_case_right(alloc: Global, base: &Base, case: &Case) -> Result<bool, Fail> {
+    let watched = watch_of(alloc, base, case)?;
+    let work = changed(alloc, base, case.3)?;
+    Ok(moves_so(work, &watched.spot, case.4)?)
+}
+
+/// Fails with the first watch that doesn't.
+fn each_is_right(alloc: Global, base: &Base) -> Result<(), Fail> {
+    for case in &CASES {
+        right(is_case_right(alloc, base, case)?, case.2)?;
+    }
+    Ok(())
 }
 
 #[test]
 fn a_watch_moves_with_what_it_guards(rt: HostRuntime) -> Result<(), Fail> {
-    let base = filled(rt.alloc())?;
-    for case in &CASES {
-        right(moves_by(rt.alloc(), &base, case)? == case.4, case.2)?;
-    }
-    Ok(())
+    let base = filled(rt.alloc(), USERS, ROWS)?;
+    each_is_right(rt.alloc(), &base)
 }
 
 /// Questions that aren't watched, whatever other rule they break.
@@ -126,19 +128,21 @@ const UNWATCHED: [(&str, &str, &str); 3] = [
 ];
 
 /// Whether a question is refused since it can't be watched.
-fn is_unwatched(alloc: Global, base: &Base, case: &(&str, &str, &str)) -> Result<bool, Fail> {
-    let query = asked(alloc, ask_of(case.0).unwrap_or(Ask::Get), case.1, case.2)?;
-    match base.table().ask_watch(&query) {
-        Ok(_) => Ok(false),
-        Err(error) => Ok(error == AskError::Unwatchable),
+fn is_unwatched(alloc: Global, base: &Base, case: &(&str, &str, &str)) -> Result<bool, AllocError> {
+    let query = asked(alloc, ask_of(case.0), case.1, case.2)?;
+    Ok(matches!(base.table().ask_watch(&query), Err(AskError::Unwatchable)))
+}
+
+/// Fails with the first question that is watched.
+fn each_is_unwatched(alloc: Global, base: &Base) -> Result<(), Fail> {
+    for case in &UNWATCHED {
+        right(is_unwatched(alloc, base, case)?, case.0)?;
     }
+    Ok(())
 }
 
 #[test]
 fn a_question_for_bounds_is_not_watched(rt: HostRuntime) -> Result<(), Fail> {
-    let base = filled(rt.alloc())?;
-    for case in &UNWATCHED {
-        right(is_unwatched(rt.alloc(), &base, case)?, case.0)?;
-    }
-    Ok(())
+    let base = filled(rt.alloc(), USERS, ROWS)?;
+    each_is_unwatched(rt.alloc(), &base)
 }

@@ -1,101 +1,70 @@
 //! Wipes, told by their counts and by those of the wipes that come after them.
-ghost use Rattle.std.specs.Prelude.{◌≡◌, false, IfOk, OnOk};
-
 use super::ask::asked;
+use super::played::write;
 use super::work::{Base, Work};
-use super::{SCHEMA, right, row_of, table_of};
+use super::{SCHEMA, begun, right, table_of};
 use crate::WipeError;
 use mdb_schema::{Ask, AskError, Query};
-use std::alloc::Global;
+use std::alloc::{AllocError, Global};
 use std::test::Fail;
 
 /// Rows of which one has two tags that begin with `a`, and one has none.
-const ROWS: [&str; 4] = [
-    r#"{"name":"abe","tags":[]}"#,
-    r#"{"name":"ann","tags":["ab","ac","b"]}"#,
-    r#"{"name":"bob","tags":["ab"]}"#,
-    r#"{"name":"cy","tags":["b"]}"#,
+const ROWS: &str = r#"insert {"name":"abe","tags":[]} => inserted
+insert {"name":"ann","tags":["ab","ac","b"]} => inserted
+insert {"name":"bob","tags":["ab"]} => inserted
+insert {"name":"cy","tags":["b"]} => inserted
+"#;
+
+/// A wipe of those rows; then how many rows with tags are left, and how many others.
+const CASES: [&str; 6] = [
+    r#"delete-prefix tags_prefix ["a"] => deleted 2
+delete-all tags [] => deleted 1
+delete-all id [] => deleted 1
+"#,
+    r#"delete-all tags_prefix ["a"] => deleted 2
+delete-all tags [] => deleted 1
+delete-all id [] => deleted 1
+"#,
+    r#"delete-all tags ["b"] => deleted 2
+delete-all tags [] => deleted 1
+delete-all id [] => deleted 1
+"#,
+    r#"delete-prefix id_prefix ["a"] => deleted 2
+delete-all tags [] => deleted 2
+delete-all id [] => deleted 0
+"#,
+    r#"delete-all id [] => deleted 4
+delete-all tags [] => deleted 0
+delete-all id [] => deleted 0
+"#,
+    r#"delete-all tags ["zz"] => deleted 0
+delete-all tags [] => deleted 3
+delete-all id [] => deleted 1
+"#,
 ];
 
-/// Puts a row into a table.
-fn put(alloc: Global, txn: &mut Work, text: &str) -> Result<(), Fail>
-    requires sound { txn.old.spoiled ≡ false }
-    ensures sound { OnOk result (txn.new.spoiled ≡ false) }
-{
-    let row = row_of(alloc, text)?;
-    let done = txn.put(&row).is_ok();
-    if txn.spoiled() || !done {
-        return Err(Fail::from("no put"));
-    }
-    Ok(())
+/// Plays a script after the puts of those rows.
+fn write_after_rows(alloc: Global, txn: &mut Work, script: &str) -> Result<(), Fail> {
+    write(alloc, txn, ROWS)?;
+    write(alloc, txn, script)
 }
 
-/// A change of a table of these rows.
-fn filled(alloc: Global, rows: &[&str]) -> Result<Work, Fail>
-    ensures { IfOk result (λ txn. txn.spoiled ≡ false) }
-{
-    let mut txn = table_of(alloc, SCHEMA)?.txn()?;
-    for row in rows {
-        put(alloc, &mut txn, row)?;
-    }
-    Ok(txn)
-}
-
-/// How many rows a wipe takes out.
-fn wiped(
-    alloc: Global,
-    txn: &mut Work,
-    by_prefix: bool,
-    index: &str,
-    args: &str,
-) -> Result<u64, Fail>
-    requires sound { txn.old.spoiled ≡ false }
-    ensures sound { OnOk result (txn.new.spoiled ≡ false) }
-{
-    let query = asked(alloc, Ask::First, index, args)?;
-    let told = if by_prefix {
-        txn.remove_prefix(&query)
-    } else {
-        txn.remove_all(&query)
-    };
-    match told {
-        Ok(count) if !txn.spoiled() => Ok(count),
-        _ => Err(Fail::from("no count")),
-    }
-}
-
-/// A wipe, by prefix or not, of an index and arguments, with the number of its rows; then how many
-/// rows with tags are left, and how many others.
-type Case = (bool, &'static str, &'static str, u64, u64, u64);
-
-const CASES: [Case; 6] = [
-    (true, "tags_prefix", "[\"a\"]", 2, 1, 1),
-    (false, "tags_prefix", "[\"a\"]", 2, 1, 1),
-    (false, "tags", "[\"b\"]", 2, 1, 1),
-    (true, "id_prefix", "[\"a\"]", 2, 2, 0),
-    (false, "id", "[]", 4, 0, 0),
-    (false, "tags", "[\"zz\"]", 0, 3, 1),
-];
-
-/// Whether a wipe takes out so many rows, and leaves so many.
-fn is_right(alloc: Global, case: &Case) -> Result<bool, Fail> {
-    let mut txn = filled(alloc, &ROWS)?;
-    let count = wiped(alloc, &mut txn, case.0, case.1, case.2)?;
-    let tagged = wiped(alloc, &mut txn, false, "tags", "[]")?;
-    let others = wiped(alloc, &mut txn, false, "id", "[]")?;
-    Ok(count == case.3 && tagged == case.4 && others == case.5)
+/// The same on a new table.
+fn show_wiped(alloc: Global, script: &str) -> Result<(), Fail> {
+    let mut txn = begun(alloc, SCHEMA)?;
+    write_after_rows(alloc, &mut txn, script)
 }
 
 #[test]
 fn each_listed_row_goes_once(rt: HostRuntime) -> Result<(), Fail> {
     for case in &CASES {
-        right(is_right(rt.alloc(), case)?, case.1)?;
+        show_wiped(rt.alloc(), case)?;
     }
     Ok(())
 }
 
 /// Wipes that are refused, each by its rule: by prefix or not, of an index, with arguments.
-const REFUSED: [(bool, &'static str, &str, AskError); 5] = [
+const REFUSED: [Refused; 5] = [
     (false, "age", "[]", AskError::UnknownIndex),
     (true, "id", "[1]", AskError::NoPrefixName),
     (true, "age_prefix", "[]", AskError::UnknownIndex),
@@ -113,9 +82,7 @@ fn checked(table: &Base, by_prefix: bool, query: &Query) -> Option<WipeError> {
 }
 
 /// Why a wipe is refused.
-fn taken(txn: &mut Work, by_prefix: bool, query: &Query) -> Option<WipeError>
-    requires sound { txn.old.spoiled ≡ false }
-{
+fn taken(txn: &mut Work, by_prefix: bool, query: &Query) -> Option<WipeError> {
     if by_prefix {
         txn.take_prefix(query).err()
     } else {
@@ -123,40 +90,69 @@ fn taken(txn: &mut Work, by_prefix: bool, query: &Query) -> Option<WipeError>
     }
 }
 
-/// Whether a wipe is refused so, before a change and in one, which isn't spoiled.
-fn is_refused(
-    alloc: Global,
+/// Whether a wipe is refused so in a change, which isn't spoiled.
+fn is_refused_by(txn: &mut Work, by_prefix: bool, query: &Query, want: Option<WipeError>) -> bool {
+    taken(txn, by_prefix, query) == want && !txn.spoiled()
+}
+
+/// Whether a wipe is refused so before a change, and in one.
+fn is_refused_in(
     table: &Base,
-    case: &(bool, &str, &str, AskError),
-) -> Result<bool, Fail> {
-    let query = asked(alloc, Ask::Longest, case.1, case.2)?;
-    let want = Some(WipeError::Refused(case.3));
+    by_prefix: bool,
+    query: &Query,
+    want: Option<WipeError>,
+) -> Result<bool, AllocError> {
+    let before = checked(table, by_prefix, query) == want;
     let mut txn = table.txn()?;
-    let same = checked(table, case.0, &query) == want && taken(&mut txn, case.0, &query) == want;
-    Ok(same && !txn.spoiled())
+    Ok(before && is_refused_by(&mut txn, by_prefix, query, want))
+}
+
+/// A wipe that is refused.
+type Refused = (bool, &'static str, &'static str, AskError);
+
+/// Whether it is refused so.
+fn is_refused(alloc: Global, table: &Base, case: &Refused) -> Result<bool, AllocError> {
+    let query = asked(alloc, Ask::Longest, case.1, case.2)?;
+    is_refused_in(table, case.0, &query, Some(WipeError::Refused(case.3)))
+}
+
+/// Fails with the first wipe that isn't refused so.
+fn each_is_refused(alloc: Global, table: &Base) -> Result<(), Fail> {
+    for case in &REFUSED {
+        right(is_refused(alloc, table, case)?, case.1)?;
+    }
+    Ok(())
 }
 
 #[test]
 fn a_broken_rule_is_told_before_a_change(rt: HostRuntime) -> Result<(), Fail> {
     let table = table_of(rt.alloc(), SCHEMA)?;
-    for case in &REFUSED {
-        right(is_refused(rt.alloc(), &table, case)?, case.1)?;
-    }
-    Ok(())
+    each_is_refused(rt.alloc(), &table)
 }
 
 /// Whether a wipe of a whole index breaks no rule.
-fn is_allowed(alloc: Global, table: &Base, by_prefix: bool, index: &str) -> Result<bool, Fail> {
+fn is_allowed(
+    alloc: Global,
+    table: &Base,
+    by_prefix: bool,
+    index: &str,
+) -> Result<bool, AllocError> {
     let query = asked(alloc, Ask::Longest, index, "[]")?;
     Ok(checked(table, by_prefix, &query).is_none())
 }
 
+/// Whether a wipe is allowed by the name of an index and by that of a prefix form.
+fn are_allowed(alloc: Global, table: &Base) -> Result<bool, AllocError> {
+    Ok(is_allowed(alloc, table, false, "tags")? && is_allowed(alloc, table, true, "tags_prefix")?)
+}
+
+/// The same on a new table.
+fn are_allowed_anew(alloc: Global) -> Result<bool, AllocError> {
+    let table = table_of(alloc, SCHEMA)?;
+    are_allowed(alloc, &table)
+}
+
 #[test]
 fn a_wipe_without_rows_is_allowed(rt: HostRuntime) -> Result<(), Fail> {
-    let table = table_of(rt.alloc(), SCHEMA)?;
-    right(is_allowed(rt.alloc(), &table, false, "tags")?, "by name")?;
-    right(
-        is_allowed(rt.alloc(), &table, true, "tags_prefix")?,
-        "by prefix",
-    )
+    right(are_allowed_anew(rt.alloc())?, "a refusal")
 }

@@ -1,52 +1,65 @@
 //! Refusals and questions in the words of client files.
+use crate::WipeError;
 use mdb_schema::{Ask, AskError, WriteError};
 
-/// The question of a word.
-pub fn ask_of(word: &str) -> Option<Ask> {
+/// The question of a word. Another word is a wipe, which lists the rows that its question does,
+/// whatever is asked.
+pub fn ask_of(word: &str) -> Ask {
     match word {
-        "first" => Some(Ask::First),
-        "last" => Some(Ask::Last),
-        "get" => Some(Ask::Get),
-        "get-reverse" => Some(Ask::GetReverse),
-        "lower" => Some(Ask::Lower),
-        "reverse-lower" => Some(Ask::ReverseLower),
-        "longest" => Some(Ask::Longest),
-        _ => None,
+        "first" => Ask::First,
+        "last" => Ask::Last,
+        "get" => Ask::Get,
+        "get-reverse" => Ask::GetReverse,
+        "lower" => Ask::Lower,
+        "reverse-lower" => Ask::ReverseLower,
+        "longest" => Ask::Longest,
+        _ => Ask::First,
     }
 }
 
-/// The word of a refused question; none for want of memory.
-pub fn ask_word(error: AskError) -> Option<&'static str> {
+/// Want of memory, which is no answer.
+pub const MEMORY: &str = "memory";
+
+/// The word of a refused question.
+pub fn ask_word(error: AskError) -> &'static str {
     match error {
-        AskError::Memory => None,
-        AskError::UnknownTable => Some("unknown-table"),
-        AskError::Unwatchable => Some("unwatchable"),
-        AskError::NoPrefixName => Some("no-prefix-name"),
-        AskError::UnknownIndex => Some("unknown-index"),
-        AskError::NotUnique => Some("not-unique"),
-        AskError::NoPrefixForm => Some("no-prefix-form"),
-        AskError::ArgCount => Some("arg-count"),
-        AskError::ArgKind => Some("arg-kind"),
-        AskError::OutOfRange => Some("out-of-range"),
-        AskError::BadUuid => Some("bad-uuid"),
-        AskError::TooLong => Some("too-long"),
+        AskError::Memory => MEMORY,
+        AskError::UnknownTable => "unknown-table",
+        AskError::Unwatchable => "unwatchable",
+        AskError::NoPrefixName => "no-prefix-name",
+        AskError::UnknownIndex => "unknown-index",
+        AskError::NotUnique => "not-unique",
+        AskError::NoPrefixForm => "no-prefix-form",
+        AskError::ArgCount => "arg-count",
+        AskError::ArgKind => "arg-kind",
+        AskError::OutOfRange => "out-of-range",
+        AskError::BadUuid => "bad-uuid",
+        AskError::TooLong => "too-long",
     }
 }
 
-/// The word of a refused write; none for want of memory.
-pub fn write_word(error: WriteError) -> Option<&'static str> {
+/// The word of a refused wipe.
+pub fn wipe_word(error: WipeError) -> &'static str {
     match error {
-        WriteError::Memory => None,
-        WriteError::NoId => Some("no-id"),
-        WriteError::WrongKind { .. } => Some("wrong-kind"),
-        WriteError::OutOfRange { .. } => Some("out-of-range"),
-        WriteError::BadUuid { .. } => Some("bad-uuid"),
-        WriteError::TooMany { .. } => Some("too-many"),
-        WriteError::TooLong { .. } => Some("too-long"),
-        WriteError::Missing { .. } => Some("missing"),
-        WriteError::KeyTaken { .. } => Some("key-taken"),
-        WriteError::NotFound => Some("not-found"),
-        WriteError::IdsSpent => Some("ids-spent"),
+        WipeError::Refused(error) => ask_word(error),
+        _ => MEMORY,
+    }
+}
+
+/// The word of a refused write.
+pub fn write_word(error: WriteError) -> &'static str {
+    match error {
+        WriteError::Memory => MEMORY,
+        WriteError::NoId => "no-id",
+        WriteError::WrongKind { .. } => "wrong-kind",
+        WriteError::OutOfRange { .. } => "out-of-range",
+        WriteError::BadUuid { .. } => "bad-uuid",
+        WriteError::TooMany { .. } => "too-many",
+        WriteError::TooLong { .. } => "too-long",
+        WriteError::Missing { .. } => "missing",
+        WriteError::KeyTaken { .. } => "key-taken",
+        WriteError::NotFound => "not-found",
+        WriteError::IdsSpent => "ids-spent",
     }
 }
 

@@ -1,7 +1,5 @@
 //! Tables and changes with what their writes draw cells from.
-ghost use Rattle.std.specs.Prelude.{◌≡◌, ◌+◌, ◌≤◌, ◌^◌, false, IfOk, MatchResult};
-ghost use Rattle.mdb_schema.specs.Answer.{ask_rows};
-ghost use Rattle.mdb_schema.specs.Refusals.{AnswersAsk};
+ghost use Rattle.std.specs.Prelude.{◌≡◌, ◌+◌, ◌≤◌, ◌^◌};
 
 use crate::{Notices, Table, TableTxn, WipeError};
 use mdb_datum::Row;
@@ -68,9 +66,7 @@ impl Base {
         self.table.ask(query)
     }
 
-    pub fn txn(&self) -> Result<Work, AllocError>
-        ensures { IfOk result (λ w. w.spoiled ≡ false) }
-    {
+    pub fn txn(&self) -> Result<Work, AllocError> {
         Ok(Work {
             txn: self.table.txn()?,
             front: self.front.share(),
@@ -79,7 +75,7 @@ impl Base {
     }
 }
 
-/// A change.
+/// A change. A call on one that is spoiled finds no memory.
 #[derive(Drop)]
 pub struct Work {
     txn: TableTxn,
@@ -104,9 +100,7 @@ impl Model for Work {
 }
 
 impl Work {
-    pub fn spoiled(&self) -> bool
-        ensures { result ≡ self.now.spoiled }
-    {
+    pub fn spoiled(&self) -> bool {
         self.txn.spoiled()
     }
 
@@ -114,54 +108,60 @@ impl Work {
         &self.txn.def
     }
 
-    pub fn put(&mut self, row: &Row) -> Result<bool, WriteError>
-        requires sound { self.old.spoiled ≡ false }
-    {
+    pub fn put(&mut self, row: &Row) -> Result<bool, WriteError> {
+        if self.txn.spoiled() {
+            return Err(WriteError::Memory);
+        }
         self.txn.put(&self.front, &mut self.ids, row)
     }
 
-    pub fn remove(&mut self, row: &Row) -> Result<Row, WriteError>
-        requires sound { self.old.spoiled ≡ false }
-    {
+    pub fn remove(&mut self, row: &Row) -> Result<Row, WriteError> {
+        if self.txn.spoiled() {
+            return Err(WriteError::Memory);
+        }
         self.txn.remove(&self.front, &mut self.ids, row)
     }
 
-    pub fn take_all(&mut self, query: &Query) -> Result<Rows, WipeError>
-        requires sound { self.old.spoiled ≡ false }
-    {
+    pub fn take_all(&mut self, query: &Query) -> Result<Rows, WipeError> {
+        if self.txn.spoiled() {
+            return Err(WipeError::Memory);
+        }
         self.txn.take_all(&self.front, &mut self.ids, query)
     }
 
-    pub fn take_prefix(&mut self, query: &Query) -> Result<Rows, WipeError>
-        requires sound { self.old.spoiled ≡ false }
-    {
+    pub fn take_prefix(&mut self, query: &Query) -> Result<Rows, WipeError> {
+        if self.txn.spoiled() {
+            return Err(WipeError::Memory);
+        }
         self.txn.take_prefix(&self.front, &mut self.ids, query)
     }
 
-    pub fn remove_all(&mut self, query: &Query) -> Result<u64, WipeError>
-        requires sound { self.old.spoiled ≡ false }
-    {
+    pub fn remove_all(&mut self, query: &Query) -> Result<u64, WipeError> {
+        if self.txn.spoiled() {
+            return Err(WipeError::Memory);
+        }
         self.txn.remove_all(&self.front, &mut self.ids, query)
     }
 
-    pub fn remove_prefix(&mut self, query: &Query) -> Result<u64, WipeError>
-        requires sound { self.old.spoiled ≡ false }
-    {
+    pub fn remove_prefix(&mut self, query: &Query) -> Result<u64, WipeError> {
+        if self.txn.spoiled() {
+            return Err(WipeError::Memory);
+        }
         self.txn.remove_prefix(&self.front, &mut self.ids, query)
     }
 
-    pub fn ask(&mut self, query: &Query) -> Result<Answer, AskError>
-        requires sound { self.old.spoiled ≡ false }
-        ensures { self.new ≡ self.old }
-    {
+    pub fn ask(&mut self, query: &Query) -> Result<Answer, AskError> {
+        if self.txn.spoiled() {
+            return Err(AskError::Memory);
+        }
         self.txn.ask(query)
     }
 
     /// The present table, by the same ids.
-    pub fn stand(&mut self) -> Result<Base, AllocError>
-        requires sound { self.old.spoiled ≡ false }
-        ensures { self.new ≡ self.old }
-    {
+    pub fn stand(&mut self) -> Result<Base, AllocError> {
+        if self.txn.spoiled() {
+            return Err(AllocError);
+        }
         Ok(Base {
             table: self.txn.stand()?,
             front: self.front.share(),
@@ -169,10 +169,11 @@ impl Work {
         })
     }
 
-    pub fn freeze(self) -> Result<(Table, Notices), AllocError>
-        requires sound { self.spoiled ≡ false }
-    {
+    pub fn freeze(self) -> Result<(Table, Notices), AllocError> {
         let Work { txn, .. } = self;
+        if txn.spoiled() {
+            return Err(AllocError);
+        }
         txn.freeze()
     }
 }

@@ -1,5 +1,5 @@
 //! Worked examples of what a table answers.
-use super::played::show;
+use super::played::{KEYS, RULES, USERS, show};
 use std::test::Fail;
 
 const ORDER: &str = r#"get id [] => rows 0
@@ -12,7 +12,7 @@ last id [] => row {"age":1,"name":"cy"}
 
 #[test]
 fn rows_come_in_the_order_of_their_keys(rt: HostRuntime) -> Result<(), Fail> {
-    show(rt.alloc(), "users", ORDER)
+    show(rt.alloc(), USERS, ORDER)
 }
 
 /// A text key has an end byte, and its prefix form has none.
@@ -26,7 +26,7 @@ get-reverse id_prefix ["an"] => rows 2 {"age":2,"name":"anna"} {"age":1,"name":"
 
 #[test]
 fn a_name_is_found_whole_or_by_its_start(rt: HostRuntime) -> Result<(), Fail> {
-    show(rt.alloc(), "users", END_BYTE)
+    show(rt.alloc(), USERS, END_BYTE)
 }
 
 /// The full keys are `00 ff 78 00` and `01 00 79 00`; a bound is compared with the whole of them.
@@ -41,7 +41,7 @@ reverse-lower age [] => refused arg-count
 
 #[test]
 fn bounds_are_compared_with_full_keys(rt: HostRuntime) -> Result<(), Fail> {
-    show(rt.alloc(), "users", BOUNDS)
+    show(rt.alloc(), USERS, BOUNDS)
 }
 
 const TAKEN: &str = r#"insert {"name":"ann","age":1,"mail":"m"} => inserted
@@ -52,7 +52,7 @@ get mail [] => rows 1 {"age":1,"mail":"m","name":"ann"}
 
 #[test]
 fn a_unique_key_has_one_row(rt: HostRuntime) -> Result<(), Fail> {
-    show(rt.alloc(), "users", TAKEN)
+    show(rt.alloc(), USERS, TAKEN)
 }
 
 const UUID: &str = r#"insert {"key":"12345678-9abc-def0-1234-56789abcdef0"} => inserted
@@ -63,7 +63,7 @@ first id ["12345678-9abc-def0-1234-56789abcdef"] => refused bad-uuid
 
 #[test]
 fn a_uuid_is_found_by_whole_bytes(rt: HostRuntime) -> Result<(), Fail> {
-    show(rt.alloc(), "keys", UUID)
+    show(rt.alloc(), KEYS, UUID)
 }
 
 /// One line for each refusal of a question and of a write.
@@ -84,7 +84,7 @@ get id [] => rows 0
 
 #[test]
 fn each_broken_rule_is_refused(rt: HostRuntime) -> Result<(), Fail> {
-    show(rt.alloc(), "users", REFUSALS)
+    show(rt.alloc(), USERS, REFUSALS)
 }
 
 /// The keys of `path` are `east 00 00` and `east 00 web 00`. The last argument has no end byte, so
@@ -98,7 +98,7 @@ longest path_prefix ["west"] => none
 
 #[test]
 fn the_longest_key_that_is_a_prefix_is_found(rt: HostRuntime) -> Result<(), Fail> {
-    show(rt.alloc(), "rules", LONGEST)
+    show(rt.alloc(), RULES, LONGEST)
 }
 
 const TWICE: &str = r#"insert {"name":"bob","age":2} => inserted
@@ -108,5 +108,5 @@ delete {"name":"bob"} => refused not-found
 
 #[test]
 fn a_row_is_deleted_once(rt: HostRuntime) -> Result<(), Fail> {
-    show(rt.alloc(), "users", TWICE)
+    show(rt.alloc(), USERS, TWICE)
 }
