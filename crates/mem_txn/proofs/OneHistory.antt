@@ -3,7 +3,7 @@
 use Rattle.std.proofs.Common.{◌≡◌, ◌∙◌, ◌+◌, ◌^◌, ◌<◌, ◌≤◌, ◌++◌, ℕ, zero, suc, [], ◌∷◌, List, Bool, true, false, inl, inr, ⊎_elim, map, length, sym, ap, refl, subst, arith, ne_eqb}
 use Rattle.std.specs.Prelude.{if◌then◌else◌, ◌==◌}
 use mathlib.Core.List.{IsPrefix}
-use Rattle.std.proofs.lemmas.List.{map-append, length-map, append-nil}
+use Rattle.std.proofs.lemmas.List.{map-append, length-append, length-map, append-nil}
 use Rattle.db_front.specs.Commits as front
 use Rattle.db_front.specs.Passes.{FrontId, Known, AreIdle, IsNumber, fresh, all_fresh}
 use Rattle.db_front.specs.Passes as front_passes
@@ -53,6 +53,13 @@ history_length [] begun = absurd begun
 history_length (e ∷ es) begun = let n = length-map es entry_of in omega (arith, n)
 
 -- ---- one more commit
+
+-- the number of the commit that a list ends with
+pub number_shown : (h more : Versions) (e : ℕ × Version) (n : ℕ) → IsBegun h → more ≡ h ++ e ∷ [] → n ≡ length (history_in h) → n + 1 + 1 ≡ length more
+number_shown h more e n begun made is =
+    let all = history_length h begun in
+    let longer : length more ≡ length h + 1 = ap length made ∙ length-append h (e ∷ []) in
+    omega (arith, all, longer, is)
 
 pub next_in : (h : Versions) (n : ℕ) (v : Version) → IsBegun h → history_in (h ++ (n, v) ∷ []) ≡ history_in h ++ record { caller = n; writes = v.writes } ∷ []
 next_in [] n v begun = absurd begun

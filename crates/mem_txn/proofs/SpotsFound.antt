@@ -1,5 +1,5 @@
 -- What a watched question of a table is answered, and its cell, by the table's name.
-use Rattle.std.proofs.Common.{◌≡◌, ◌∙◌, ℕ, Bool, true, false, List, Some, None, option_map, slice_get, Result, Ok, Err, IfOk, refl, sym, ap, subst}
+use Rattle.std.proofs.Common.{◌≡◌, ◌∙◌, ℕ, Bool, true, false, List, Option, Some, None, option_map, slice_get, Result, Ok, Err, IfOk, refl, sym, ap, subst}
 use Rattle.std.specs.Prelude.{if◌then◌else◌}
 use Rattle.std.proofs.lemmas.Option.{slice_get-map}
 use Rattle.mdb_schema.specs.Answer.{Asked, ask, ask_rows}
@@ -14,7 +14,7 @@ use Rattle.table_index.specs.Table.{TableRows}
 use Rattle.table_index.specs.Watched.{AnswersWatch, IsSpot, cell_of, is_watchable}
 use Rattle.table_index.specs.declared.watched.Watched.{Watched}
 use Rattle.mem_txn.specs.CellHistory.{asked_in, looked_up, planted, question_cell, table_in, with_trees}
-use Rattle.mem_txn.specs.Held.{AnswersHeld, HeldWatch}
+use Rattle.mem_txn.specs.Held.{AnswersHeld, HeldWatch, IsLookedUp}
 use Rattle.mem_txn.specs.inner.VersionTables.{schemas_of, state_of, trees_of}
 use Rattle.mem_txn.proofs.TablesFound.{ask-found, table_at-found}
 
@@ -47,6 +47,11 @@ module _ (tables : List TableRows) (schema : DbSchema) (s : State) (schemas : sc
       of : (b : Bool) → is_watchable q.ask ≡ b → AnswersWatch b told (Ok w) → (let spot : SpotOf = w.spot in question_cell schema s (trees_of tables) q ≡ Some spot.watch)
       of true watched a = spot_cell w.spot watched is
       of false watched a = cc
+
+  -- and the spot is where the question is looked up in the table of its name
+  pub looked_there : (r : Result Watched AskError) → IfOk r (λ w. IsSpot t q w.spot) → IfOk r (λ w. IsLookedUp (table_in schema s (trees_of tables) q.table) q w.spot)
+  looked_there (Err e) is = tt
+  looked_there (Ok w) is = subst (λ (found : Option TableRows). IsLookedUp found q w.spot) (sym found_in) is
 
 -- behind an answer only want of memory keeps a watch from being held
 pub held_memory : (b : Bool) (told : Asked Answer) (w : Watched) (r : Result (Answer × HeldWatch) AskError) → AnswersWatch b told (Ok w) → r ≡ Err Memory → AnswersHeld b told r

@@ -1,5 +1,5 @@
 -- Held watches, as contracts see them.
-use Rattle.std.specs.Prelude.{◌≡◌, ℕ, Bool, true, false, Some, Result, Ok, Err, MatchResult}
+use Rattle.std.specs.Prelude.{◌≡◌, ℕ, Bool, true, false, Option, Some, None, Result, Ok, Err, MatchResult}
 use Rattle.mdb_schema.specs.Answer.{Asked}
 use Rattle.mdb_schema.specs.Query.{Query}
 use Rattle.mdb_schema.specs.Refusals.{ask_error}
@@ -7,7 +7,9 @@ use Rattle.mdb_schema.specs.declared.answer.Answer.{Answer}
 use Rattle.mdb_schema.specs.declared.ask_error.AskError.{AskError}
 use Rattle.mdb_schema.specs.declared.ask_error.AskError.TheVariants.{Memory, Unwatchable}
 use Rattle.table_index.specs.Spot.{SpotOf}
-use Rattle.mem_txn.specs.CellHistory.{question_cell}
+use Rattle.table_index.specs.Table.{TableRows}
+use Rattle.table_index.specs.Watched.{IsSpot}
+use Rattle.mem_txn.specs.CellHistory.{question_cell, table_in}
 use Rattle.mem_txn.specs.Database.{Reading}
 
 -- a watch with its question, where that was looked up, and after how many commits it was asked
@@ -16,11 +18,17 @@ pub record HeldWatch : Type 0 where
   pub spot : SpotOf
   pub number : ℕ
 
--- it watches this question in a state that is read, by the cell of the question there, which is of
--- the state's book
+-- a spot is where a question is looked up in this table, which is there
+abbrev pub IsLookedUp : Option TableRows → Query → SpotOf → Type 0
+IsLookedUp None q s = ⊥
+IsLookedUp (Some t) q s = IsSpot t q s
+
+-- it watches this question in a state that is read, from the spot where that is looked up, by the
+-- cell of the question there, which is of the state's book
 pub record IsHeldOf (r : Reading) (q : Query) (h : HeldWatch) : Type 0 where
   pub query : h.query ≡ q
   pub number : h.number ≡ r.view.number
+  pub looked : IsLookedUp (table_in r.view.schema r.view.state r.trees q.table) q h.spot
   pub cell : let spot = h.spot in
       question_cell r.view.schema r.view.state r.trees q ≡ Some spot.watch
   pub book : let spot = h.spot in

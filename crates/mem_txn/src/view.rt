@@ -10,7 +10,8 @@ ghost use Rattle.mem_txn.specs.inner.VersionTables.{AreWithin, schemas_of, state
 ghost use Rattle.table_index.specs.Table.{TableRows};
 ghost use Rattle.table_index.specs.Watched.{AnswersWatch, HoldsRows, is_watchable};
 ghost use Rattle.mdb_schema.specs.declared.ask_error.AskError.TheVariants.{UnknownTable, Unwatchable};
-ghost use Rattle.mem_txn.specs.CellHistory.{question_cell};
+ghost use Rattle.mem_txn.specs.CellHistory.{question_cell, table_in};
+ghost use Rattle.mem_txn.specs.Held.{IsLookedUp};
 
 use mdb_schema::{Answer, Ask, AskError, Query, Schema, TableDef};
 use radix_node::Ids;
@@ -139,6 +140,9 @@ impl View {
         ensures cell { IfOk result (λ w. let spot = w.spot in
             question_cell self.now.view.schema self.now.view.state self.now.trees query.now
             ≡ Some spot.watch) }
+        ensures looked { IfOk result (λ w. IsLookedUp
+            (table_in self.now.view.schema self.now.view.state self.now.trees query.now.table)
+            query.now w.spot) }
     {
         match self.schema.find(query.table().as_str()) {
             Some(place) => {

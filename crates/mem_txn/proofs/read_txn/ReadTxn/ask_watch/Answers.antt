@@ -39,6 +39,7 @@ returns-clause-held c =
     record {
       query = search rules;
       number = search rules;
+      looked = search rules;
       cell = search rules;
       book = ap (λ (s : SpotOf). s.watch.book) spot ∙ book ∙ now;
     }

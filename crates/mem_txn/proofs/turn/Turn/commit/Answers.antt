@@ -11,7 +11,7 @@ use Rattle.mem_txn.specs.inner.Firing.{AreGone, cells_told}
 use Rattle.mem_txn.specs.inner.Steps.{AreSteps, HasFired}
 use Rattle.mem_txn.specs.inner.Versions.{IsBegun, Turned, Version, caller_of}
 use Rattle.mem_txn.proofs.AlongHistory.{tells_changes, watches_hold}
-use Rattle.mem_txn.proofs.OneHistory.{committed_token}
+use Rattle.mem_txn.proofs.OneHistory.{committed_token, number_shown}
 use Rattle.mem_txn.proofs.StepsAlong.{gone_of, log_of, next_stands, same_book, turn_book, turn_fires, turn_fires_seen}
 use Rattle.mem_txn.proofs.turn.Turn.commit.Goals as goal
 
@@ -29,6 +29,13 @@ fire_tables-log-requires-clause-book g c =
     let stands = c.self.invariant.stands in
     let log = log_of v.view.number t.token.seen t.log stands.begun c.self.invariant.log in
     subst (λ (b : Book). AreCellsOf b (cells_told c.args.gone.now)) (same_book t.token.seen v.ids.book t.log.book stands.book log) (gone_of v.ids v.trees c.args.ready.trees (cells_told c.args.gone.now) stands.within gone)
+
+-- they fire by the number of the commit that was published
+pub fire_tables-log-requires-clause-commit : goal.fire_tables-log-requires-clause-commit
+fire_tables-log-requires-clause-commit g c =
+    let t = c.self.inside in
+    let made : c.publish.new.pass.seen ≡ t.token.seen ++ (t.token.number, c.args.ready) ∷ [] = ap (λ (k : Known Version). k.seen) c.publish.ensures.pass in
+    number_shown t.token.seen c.publish.new.pass.seen (t.token.number, c.args.ready) _ c.self.invariant.stands.begun made (c.count-number.ensures.number ∙ ap (λ (p : Turned). length p.caller.seen) (sym c.self.view_is))
 
 pub finish-requires-clause-log : goal.finish-requires-clause-log
 finish-requires-clause-log g c =

@@ -5,10 +5,11 @@ use Rattle.std.proofs.lemmas.Option.{slice_get-map, slice_get_read}
 use Rattle.mdb_schema.specs.Answer.{ask, ask_rows}
 use Rattle.mdb_schema.specs.Schema.{table_place}
 use Rattle.table_index.specs.Watched.{AnswersWatch, is_watchable}
-use Rattle.mem_txn.specs.CellHistory.{question_cell}
+use Rattle.mem_txn.specs.CellHistory.{question_cell, table_in}
+use Rattle.mem_txn.specs.Held.{IsLookedUp}
 use Rattle.mem_txn.specs.inner.VersionTables.{state_of}
 use Rattle.mem_txn.specs.inner.Versions.{ViewWithTrees}
-use Rattle.mem_txn.proofs.SpotsFound.{spotted, watch_answers}
+use Rattle.mem_txn.proofs.SpotsFound.{looked_there, spotted, watch_answers}
 use Rattle.mem_txn.proofs.TablesFound.{found_within}
 use Rattle.mem_txn.proofs.view.View.ask_watch.Goals as goal
 
@@ -54,3 +55,20 @@ returns-in-Some-clause-cell c =
     let shown : slice_get shared place ≡ Some table = slice_get-map arc_value items place ∙ ap (option_map arc_value) there ∙ ap Some (sym c.deref-in-Some.ensures) in
     subst (λ (v : ViewWithTrees). IfOk c.ask_watch.result (λ w. let spot = w.spot in question_cell v.view.schema v.view.state v.trees q ≡ Some spot.watch)) c.self.view_is
     (spotted shared schema (state_of shared) c.self.invariant.schemas refl q place found table shown (ask_rows table.schema table.rows q) c.ask_watch.result c.ask_watch.ensures.answers c.ask_watch.ensures.spot)
+
+pub returns-in-Some-clause-looked : goal.returns-in-Some-clause-looked
+returns-in-Some-clause-looked c =
+    let items = c.self.inside.tables.items in
+    let shared = map arc_value items in
+    let schema = arc_value c.self.inside.schema in
+    let q = c.args.query.now in
+    let place = c.in-Some.place in
+    let found : table_place q.table schema ≡ Some place = cc in
+    let less = found_within shared schema (state_of shared) c.self.invariant.schemas refl q.table place found in
+    let count = length-map items arc_value in
+    let within : place < length items = omega (arith, less, count) in
+    let there : slice_get items place ≡ Some c.index-table.result.now = slice_get_read items (length items) place c.index-table.result.now refl within c.index-table.ensures in
+    let table = c.deref-in-Some.result.now in
+    let shown : slice_get shared place ≡ Some table = slice_get-map arc_value items place ∙ ap (option_map arc_value) there ∙ ap Some (sym c.deref-in-Some.ensures) in
+    subst (λ (v : ViewWithTrees). IfOk c.ask_watch.result (λ w. IsLookedUp (table_in v.view.schema v.view.state v.trees q.table) q w.spot)) c.self.view_is
+    (looked_there shared schema (state_of shared) c.self.invariant.schemas refl q place found table shown c.ask_watch.result c.ask_watch.ensures.spot)
