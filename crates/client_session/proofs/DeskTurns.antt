@@ -29,6 +29,7 @@ use Rattle.mdb_schema.specs.Query.{Query}
 use Rattle.mdb_schema.specs.Refusals.{AnswersAsk, ask_error}
 use Rattle.mdb_schema.specs.declared.answer.Answer.{Answer}
 use Rattle.mdb_schema.specs.declared.ask_error.AskError.{AskError}
+use Rattle.client_session.specs.Steps.{HasNotLost}
 use Rattle.client_session.proofs.BegunNumbers.{StartsNone, starts_none}
 use Rattle.client_session.proofs.OpenTurns.{looks_self}
 use Rattle.client_session.proofs.RequestTurns.{rule_of_question, name_of_question, none_numbered}
@@ -42,9 +43,9 @@ use Rattle.client_session.specs.declared.«open».Open.TheVariants as opens
 use Rattle.client_session.specs.declared.reply.Reply.TheVariants as replied_by
 use Rattle.client_session.specs.inner.ReplyOf.{reply_of}
 use Rattle.std.specs.declared.alloc.AllocError.{AllocError}
-use Rattle.client_session.specs.inner.DeskView.{Follows, LooksAndReplies, Presents, Replied, RepliesTo, view_of}
+use Rattle.client_session.specs.inner.DeskView.{Follows, LooksAndReplies, Presents, Replied, RepliesTo, StepsTo, view_of}
 use Rattle.client_session.specs.inner.KeptView.{seen_in}
-use Rattle.client_session.specs.inner.OpenView.{IsNumbered, Looks, LooksAndTurns, TurnsTo, caller_of, transaction_of, Stands, made}
+use Rattle.client_session.specs.inner.OpenView.{IsNumbered, Looks, LooksAndTurns, TriesWrite, TurnsTo, caller_of, transaction_of, Stands, made}
 
 -- ---- the entry of a commit
 
@@ -211,6 +212,15 @@ looked_told c c' d o s s' (Err e) is same known to = tt
 pub once_told : (c : Command) (d d' : Desk) (s : DbSchema) (told : Result replied_by.the_data AllocError) → StartsNone c → Stands d.«open» → IfOk told (λ r. RepliesTo c d d' (reply_of s r)) → IfOk told (λ r. LooksAndReplies c d d' (reply_of s r))
 once_told c d d' s (Ok r) starts stands to = replies_at_once c d d' (reply_of s r) starts stands to
 once_told c d d' s (Err e) starts stands to = tt
+
+-- a `write` that makes one try
+pub tried_told : (n : ℕ) (c : Command) (d : Desk) (o : Open) (s s' : DbSchema) (told : Result (Option replied_by.the_data) AllocError) → c ≡ command.Write → s ≡ s' → IfOk told (λ r. TriesWrite n d.«open» o (option_map (reply_of s) r)) → IfOk told (λ r. StepsTo n c d (record { «open» = o; snapshots = d.snapshots }) (option_map (reply_of s') r))
+tried_told n c d o s s' (Ok (Some r)) is same tries = (
+  looked_told command.Write c d o s s' (Ok r) is same refl tries.0,
+  subst (λ (x : Command). HasNotLost x (caller_of d.«open») (caller_of o)) (sym is) tries.1,
+)
+tried_told n c d o s s' (Ok None) is same tries = record { write = is; lost = tries.1; looks = tries.0; snapshots = refl }
+tried_told n c d o s s' (Err e) is same tries = tt
 
 -- ---- snapshots
 

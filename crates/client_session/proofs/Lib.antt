@@ -7,4 +7,7 @@ mod OpenTurns
 mod ReplyLines
 mod RequestTurns
 mod RowRules
+mod SessionSteps
+mod UntoldCommits
+pub mod FromTheStart
 pub mod Threads

@@ -3,7 +3,7 @@ use mathlib.Core.List.{IsPrefix}
 use Rattle.std.proofs.Common.{arith, ◌≡◌, ◌-◌, ◌≤◌, Option, refl, ap, subst, sym, ◌∙◌, ℕ, zero, suc, ◌+◌, List, [], ◌∷◌, ◌++◌, length, map, take, Some, None, Result, Ok, Err, OnErr, OnOk, false, true, slice_get, le_refl}
 use Rattle.std.specs.Prelude.{is_err}
 use Rattle.std.specs.List.{enumerate_from}
-use Rattle.std.proofs.Math.Seq.{take-suc, take-length}
+use Rattle.std.proofs.Math.Seq.{take-suc}
 use Rattle.std.proofs.lemmas.List.{append-nil, append_assoc, length-append, map-append}
 use Rattle.std.proofs.lemmas.Option.{slice_get_within, get_or_from_slice_get}
 use Rattle.mdb_datum.specs.Bytes.{Bytes}
@@ -23,13 +23,13 @@ use Rattle.std.specs.declared.alloc.AllocError.{AllocError}
 use Rattle.client_session.proofs.BegunNumbers.{among_append, among_more, begun_more}
 use Rattle.client_session.proofs.DeskTurns.{follows_longer}
 use Rattle.client_session.proofs.OpenTurns.{later_self}
-use Rattle.client_session.specs.Answered.{AreRising, HasAnswered, IsLater, Tells, commit_at}
+use Rattle.client_session.specs.Answered.{AreRising, IsLater, IsUntold, commit_at}
 use Rattle.client_session.specs.declared.desk.Desk.{Desk}
 use Rattle.client_session.specs.declared.open.Open.TheVariants as opens
 use Rattle.client_session.specs.declared.snapshots.Snapshots.{Snapshots}
 use Rattle.client_session.specs.inner.KeptView.{seen_in}
-use Rattle.client_session.specs.inner.Carried.{Adds, AddsSome, AnswersLine, Carried, CarriesOut}
-use Rattle.client_session.specs.inner.DeskView.{Replied, RepliesTo}
+use Rattle.client_session.specs.inner.Carried.{Adds, AddsSome, AnswersLine, Carried, CarriedOn, CarriesOut, IsOfCommit, SoFar, Stops, StopsLine}
+use Rattle.client_session.specs.inner.DeskView.{Follows, Replied, RepliesTo}
 use Rattle.client_session.specs.inner.OpenView.{Looks, caller_of, transaction_of, made}
 
 -- the texts of lines, one more
@@ -130,7 +130,7 @@ later_again p q r one two = record {
   tries = prefix_again p.tries q.tries r.tries one.tries two.tries;
 }
 
-module _ (pass : Caller) (done : List Line) (d at : Desk) (before now : Bytes) (carried : Carried pass done d before now) (looks : Looks d.«open» at.«open») (same : at.snapshots ≡ d.snapshots) where
+module _ (pass : Caller) (before : List Reply) (done : List Line) (d at : Desk) (now : Bytes) (carried : Carried pass before done d now) (looks : Looks d.«open» at.«open») (same : at.snapshots ≡ d.snapshots) where
   old : Caller
   old = caller_of d.«open»
 
@@ -144,12 +144,12 @@ module _ (pass : Caller) (done : List Line) (d at : Desk) (before now : Bytes) (
   as_long : length old.seen ≤ length (caller_of at.«open»).seen
   as_long = let n = length-append old.seen more in let e = ap length seen_is in omega (arith, n, e)
 
-  pub seen_more : Carried pass done at before now
+  pub seen_more : Carried pass before done at now
   unfolding old more
   seen_more = record {
     replies = carried.replies;
     client = carried.client;
-    runs = subst (λ (H : History). Runs pass.schema H pass.number at_start done carried.replies carried.client) seen_is (runs_longer pass.schema old.seen more pass.number at_start done carried.replies carried.client (start_within (length old.seen)) carried.runs);
+    runs = subst (λ (H : History). Runs pass.schema H pass.number at_start done (before ++ carried.replies) carried.client) seen_is (runs_longer pass.schema old.seen more pass.number at_start done (before ++ carried.replies) carried.client (start_within (length old.seen)) carried.runs);
     follows = follows_longer d at carried.client looks same carried.follows;
     written = carried.written;
     later = later_again pass old (caller_of at.«open») carried.later looks.later;
@@ -162,7 +162,7 @@ module _ (pass : Caller) (done : List Line) (d at : Desk) (before now : Bytes) (
     loads = among_more (begun_numbers carried.replies) carried.read looks.read carried.loads;
   }
 
-module _ (pass : Caller) (done : List Line) (d d' : Desk) (before now after : Bytes) (l : Line) (r : Reply) (carried : Carried pass done d before now) (replies : RepliesTo l.command d d' r) (written : after ≡ now ++ line_text l.number r) (loads : AreAmong (begun_numbers carried.replies ++ number_begun r) carried.read) where
+module _ (pass : Caller) (before : List Reply) (done : List Line) (d d' : Desk) (now after : Bytes) (l : Line) (r : Reply) (carried : Carried pass before done d now) (replies : RepliesTo l.command d d' r) (written : after ≡ now ++ line_text l.number r) (loads : AreAmong (begun_numbers carried.replies ++ number_begun r) carried.read) where
   p : Caller
   p = caller_of d.«open»
 
@@ -179,12 +179,16 @@ module _ (pass : Caller) (done : List Line) (d d' : Desk) (before now after : By
   unfolding p new trees
   grown = replies.grows.1
 
-  runs_more_line : Runs pass.schema (caller_of d'.«open»).seen pass.number at_start (done ++ l ∷ []) (carried.replies ++ r ∷ []) step.next
+  -- the replies so far, and this one
+  all_replies : (before ++ carried.replies) ++ r ∷ [] ≡ before ++ (carried.replies ++ r ∷ [])
+  all_replies = append_assoc before carried.replies (r ∷ [])
+
+  runs_more_line : Runs pass.schema (caller_of d'.«open»).seen pass.number at_start (done ++ l ∷ []) (before ++ (carried.replies ++ r ∷ [])) step.next
   unfolding p new step
-  runs_more_line = runs_more pass.schema (caller_of d'.«open»).seen pass.number at_start done carried.replies carried.client step.next l r
-      (subst (λ (H : History). Runs pass.schema H pass.number at_start done carried.replies carried.client) (sym (ap (λ (q : Caller). q.seen) grown)) (runs_longer pass.schema p.seen new pass.number at_start done carried.replies carried.client (start_within (length p.seen)) carried.runs))
+  runs_more_line = subst (λ (rs : List Reply). Runs pass.schema (caller_of d'.«open»).seen pass.number at_start (done ++ l ∷ []) rs step.next) all_replies (runs_more pass.schema (caller_of d'.«open»).seen pass.number at_start done (before ++ carried.replies) carried.client step.next l r
+      (subst (λ (H : History). Runs pass.schema H pass.number at_start done (before ++ carried.replies) carried.client) (sym (ap (λ (q : Caller). q.seen) grown)) (runs_longer pass.schema p.seen new pass.number at_start done (before ++ carried.replies) carried.client (start_within (length p.seen)) carried.runs))
       (subst (λ (s : DbSchema). Answers s (caller_of d'.«open»).seen pass.number carried.client l.command r step.next) carried.later.schema
-      (subst (λ (n : ℕ). Answers p.schema (caller_of d'.«open»).seen n carried.client l.command r step.next) carried.later.number step.answers))
+      (subst (λ (n : ℕ). Answers p.schema (caller_of d'.«open»).seen n carried.client l.command r step.next) carried.later.number step.answers)))
 
   later_more : IsLater pass (caller_of d'.«open»)
   unfolding p new
@@ -199,14 +203,18 @@ module _ (pass : Caller) (done : List Line) (d d' : Desk) (before now after : By
     tries = ([], append-nil p.tries ∙ sym (ap (λ (q : Caller). q.tries) grown));
   })
 
-  pub one_more : Carried pass (done ++ l ∷ []) d' before after
+  pub one_more : Carried pass before (done ++ l ∷ []) d' after
   unfolding p new step
   one_more = record {
     replies = carried.replies ++ r ∷ [];
     client = step.next;
     runs = runs_more_line;
     follows = step.follows;
-    written = written ∙ ap (λ (b : Bytes). b ++ line_text l.number r) carried.written ∙ append_assoc before (lines_text done carried.replies) (line_text l.number r) ∙ ap (λ (b : Bytes). before ++ b) (sym (lines_more pass.schema p.seen pass.number at_start done carried.replies carried.client l r carried.runs));
+    written =
+        written
+        ∙ ap (λ (b : Bytes). b ++ line_text l.number r) carried.written
+        ∙ sym (lines_more pass.schema p.seen pass.number at_start done (before ++ carried.replies) carried.client l r carried.runs)
+        ∙ ap (lines_text (done ++ l ∷ [])) all_replies;
     later = later_more;
     made = carried.made ++ new;
     own = ap (λ (q : Caller). q.own) grown ∙ ap (λ (cs : List Commit). cs ++ new) carried.own ∙ append_assoc pass.own carried.made new;
@@ -225,58 +233,68 @@ module _ (pass : Caller) (done : List Line) (d d' : Desk) (before now after : By
 
 -- ---- the loop over the lines
 
-pub first : (pass : Caller) (snaps : Snapshots) (text : Bytes) → ((name : Bytes) → seen_in snaps name ≡ None) → Carried pass [] (record { «open» = opens.Nothing pass; snapshots = snaps }) text text
-first pass snaps text none = record {
-  replies = [];
-  client = at_start;
-  runs = refl;
-  follows = record {
-    transaction = refl;
-    last = search (arith);
-    within = start_within (length pass.seen);
-    snapshots = none;
-    stands = tt;
-  };
-  written = sym (append-nil text);
-  later = later_self pass;
-  made = [];
-  own = sym (append-nil pass.own);
-  told = refl;
-  rising = le_refl (length pass.seen);
-  read = [];
-  counts = sym (append-nil pass.counts);
-  loads = tt;
+-- a desk at the start of a session
+pub first : (pass : Caller) (snaps : Snapshots) → ((name : Bytes) → seen_in snaps name ≡ None) → Follows (record { «open» = opens.Nothing pass; snapshots = snaps }) at_start
+first pass snaps none = record {
+  transaction = refl;
+  last = search (arith);
+  within = start_within (length pass.seen);
+  snapshots = none;
+  stands = tt;
 }
+
+-- nothing is carried out yet of what is left
+pub from_here : (script : List Line) (at : ℕ) (d : Desk) (text : Bytes) → SoFar script at d text → CarriedOn (caller_of d.«open») script at at text d text
+from_here script at d text so_far =
+    let pass = caller_of d.«open» in
+    let none : so_far.replies ≡ so_far.replies ++ [] = sym (append-nil so_far.replies) in
+    record {
+      before = record { replies = so_far.replies; client = so_far.client; runs = so_far.runs; written = so_far.written };
+      carried = record {
+        replies = [];
+        client = so_far.client;
+        runs = subst (λ (rs : List Reply). Runs pass.schema pass.seen pass.number at_start (take at script) rs so_far.client) none so_far.runs;
+        follows = so_far.follows;
+        written = so_far.written ∙ ap (lines_text (take at script)) none;
+        later = later_self pass;
+        made = [];
+        own = sym (append-nil pass.own);
+        told = refl;
+        rising = le_refl (length pass.seen);
+        read = [];
+        counts = sym (append-nil pass.counts);
+        loads = tt;
+      };
+    }
 
 one_more_is : (n : ℕ) → n + 1 ≡ suc n
 one_more_is n = search (arith)
 
-line_more : (pass : Caller) (done : List Line) (d d' : Desk) (before now after : Bytes) (l : Line) → Carried pass done d before now → AnswersLine l d d' now after → Carried pass (done ++ l ∷ []) d' before after
+line_more : (pass : Caller) (before : List Reply) (done : List Line) (d d' : Desk) (now after : Bytes) (l : Line) → Carried pass before done d now → AnswersLine l d d' now after → Carried pass before (done ++ l ∷ []) d' after
 unfolding seen_more
-line_more pass done d d' before now after l carried line =
-    let more = seen_more pass done d line.replies.at before now carried line.replies.looks line.replies.snapshots in
-    one_more pass done line.replies.at d' before now after l line.reply more line.replies.replies line.written
+line_more pass before done d d' now after l carried line =
+    let more = seen_more pass before done d line.replies.at now carried line.replies.looks line.replies.snapshots in
+    one_more pass before done line.replies.at d' now after l line.reply more line.replies.replies line.written
     (among_append (begun_numbers carried.replies) (number_begun line.reply) carried.read line.replies.looks.read carried.loads (line.replies.loads carried.client more.follows))
 
-pub next : (pass : Caller) (lines : List Line) (at : ℕ) (d d' : Desk) (before now after : Bytes) (l : Line) → slice_get lines at ≡ Some l → Carried pass (take at lines) d before now → AnswersLine l d d' now after → Carried pass (take (at + 1) lines) d' before after
-next pass lines at d d' before now after l there carried line = subst (λ (done : List Line). Carried pass done d' before after) (grown there) (line_more pass (take at lines) d d' before now after l carried line)
+pub next : (pass : Caller) (lines : List Line) (from at : ℕ) (d d' : Desk) (text now after : Bytes) (l : Line) → slice_get lines at ≡ Some l → CarriedOn pass lines from at text d now → AnswersLine l d d' now after → CarriedOn pass lines from (at + 1) text d' after
+next pass lines from at d d' text now after l there c line = record {
+  before = c.before;
+  carried = subst (λ (done : List Line). Carried pass c.before.replies done d' after) (grown there) (line_more pass c.before.replies (take at lines) d d' now after l c.carried line);
+}
   where
     grown : slice_get lines at ≡ Some l → take at lines ++ l ∷ [] ≡ take (at + 1) lines
     grown e = sym (ap (λ (n : ℕ). take n lines) (one_more_is at) ∙ take-suc lines at l (slice_get_within lines at l e) ∙ ap (λ (x : Line). take at lines ++ x ∷ []) (get_or_from_slice_get lines at l l e))
 
--- all lines were answered
-pub all_taken : (pass : Caller) (lines : List Line) (n : ℕ) (d : Desk) (before after : Bytes) → n ≡ length lines → Carried pass (take n lines) d before after → Carried pass lines d before after
-all_taken pass lines n d before after whole carried = subst (λ (done : List Line). Carried pass done d before after) (ap (λ (k : ℕ). take k lines) whole ∙ take-length lines) carried
-
 -- what is kept when the caller has seen more
-pub kept_lines : (pass new : Caller) (lines : List Line) (d : Desk) (before now after : Bytes) → IsLater (caller_of d.«open») new → after ≡ now → Carried pass lines d before now → Adds pass new lines before after
-kept_lines pass new lines d before now after later same c =
+kept_lines : (pass new : Caller) (before : List Reply) (lines : List Line) (d : Desk) (now after : Bytes) → IsLater (caller_of d.«open») new → after ≡ now → Carried pass before lines d now → Adds pass new before lines after
+kept_lines pass new before lines d now after later same c =
     let p = caller_of d.«open» in
     let more = later.counts in
     record {
       replies = c.replies;
       client = c.client;
-      runs = subst (λ (H : History). Runs pass.schema H pass.number at_start lines c.replies c.client) later.seen.1 (runs_longer pass.schema p.seen later.seen.0 pass.number at_start lines c.replies c.client (start_within (length p.seen)) c.runs);
+      runs = subst (λ (H : History). Runs pass.schema H pass.number at_start lines (before ++ c.replies) c.client) later.seen.1 (runs_longer pass.schema p.seen later.seen.0 pass.number at_start lines (before ++ c.replies) c.client (start_within (length p.seen)) c.runs);
       written = same ∙ c.written;
       later = later_again pass p new c.later later;
       read = c.read ++ more.0;
@@ -284,53 +302,57 @@ kept_lines pass new lines d before now after later same c =
       loads = among_more (begun_numbers c.replies) c.read more.0 c.loads;
     }
 
-pub kept_some : (pass new : Caller) (script : List Line) (n : ℕ) (d : Desk) (before now after : Bytes) → IsLater (caller_of d.«open») new → after ≡ now → Carried pass (take n script) d before now → AddsSome pass new script before after
-kept_some pass new script n d before now after later same carried = record { count = n; adds = kept_lines pass new (take n script) d before now after later same carried }
+pub kept_some : (pass new : Caller) (script : List Line) (from to : ℕ) (d : Desk) (text now after : Bytes) → IsLater (caller_of d.«open») new → after ≡ now → CarriedOn pass script from to text d now → AddsSome pass new script from to text after
+kept_some pass new script from to d text now after later same c = record { before = c.before; adds = kept_lines pass new c.before.replies (take to script) d now after later same c.carried }
 
--- and the pass is back
-pub all_carried : (pass back : Caller) (lines : List Line) (d : Desk) (before after : Bytes) → back ≡ caller_of d.«open» → Carried pass lines d before after → CarriesOut pass back lines before after
-all_carried pass back lines d before after is carried = subst (λ (p : Caller). CarriesOut pass p lines before after) (sym is) (of carried)
-  where
-    of : Carried pass lines d before after → CarriesOut pass (caller_of d.«open») lines before after
-    of c = record {
-      adds = record { replies = c.replies; client = c.client; runs = c.runs; written = c.written; later = c.later; read = c.read; counts = c.counts; loads = c.loads };
+-- and the next line, which found no memory, may have made a commit that is untold
+untold_here : (script : List Line) (at : ℕ) (l : Line) (cs : List Commit) → slice_get script at ≡ Some l → IsOfCommit l.command cs → IsUntold script at cs
+untold_here script at l [] there one = tt
+untold_here script at l (c ∷ []) there one = (l, there, one)
+untold_here script at l (c ∷ d ∷ cs) there one = absurd one
+
+pub stops_here : (pass new : Caller) (script : List Line) (from at : ℕ) (d : Desk) (text now after : Bytes) (l : Line) → slice_get script at ≡ Some l → IsLater (caller_of d.«open») new → after ≡ now → StopsLine l d new → CarriedOn pass script from at text d now → Stops pass new script from at text after
+unfolding kept_lines kept_some
+stops_here pass new script from at d text now after l there later same stops on =
+    let c = on.carried in
+    let p = caller_of d.«open» in
+    let line = stops c.client c.follows in
+    let long = length-append p.seen later.seen.0 in
+    let whole = ap length later.seen.1 in
+    record {
+      some = kept_some pass new script from at d text now after later same on;
       made = c.made;
-      own = c.own;
-      told = c.told;
-      rising = c.rising;
+      untold = line.made;
+      own = line.own ∙ ap (λ (cs : List Commit). cs ++ line.made) c.own ∙ append_assoc pass.own c.made line.made;
+      told = subst (λ (H : History). map (commit_at H) (printed c.replies) ≡ map Some c.made) later.seen.1 (told_longer p.seen later.seen.0 (printed c.replies) c.made c.told);
+      rising = rising_wider (length pass.seen) (length p.seen) (length new.seen) (printed c.replies) (omega (arith, long, whole)) c.rising;
+      last = untold_here script at l line.made there line.one;
     }
 
-pub carried_ok : (pass back : Caller) (lines : List Line) (d : Desk) (before after : Bytes) (r : Result (Unit {0}) AllocError) → back ≡ caller_of d.«open» → OnOk r (Carried pass lines d before after) → OnOk r (CarriesOut pass back lines before after)
-carried_ok pass back lines d before after (Ok x) is carried = all_carried pass back lines d before after is carried
-carried_ok pass back lines d before after (Err e) is carried = tt
+pub stopped_err : (pass p back : Caller) (script : List Line) (from to : ℕ) (text after : Bytes) (r : Result (Unit {0}) AllocError) → back ≡ p → OnErr r (Stops pass p script from to text after) → OnErr r (Stops pass back script from to text after)
+stopped_err pass p back script from to text after r is stops = subst (λ (q : Caller). OnErr r (Stops pass q script from to text after)) (sym is) stops
 
--- ---- a session's text, which was empty
+-- and the pass is back
+pub all_carried : (pass back : Caller) (script : List Line) (from to : ℕ) (d : Desk) (text after : Bytes) → back ≡ caller_of d.«open» → CarriedOn pass script from to text d after → CarriesOut pass back script from to text after
+all_carried pass back script from to d text after is carried = subst (λ (p : Caller). CarriesOut pass p script from to text after) (sym is) (of carried)
+  where
+    of : CarriedOn pass script from to text d after → CarriesOut pass (caller_of d.«open») script from to text after
+    of on =
+        let c = on.carried in
+        record {
+          some = record {
+            before = on.before;
+            adds = record { replies = c.replies; client = c.client; runs = c.runs; written = c.written; later = c.later; read = c.read; counts = c.counts; loads = c.loads };
+          };
+          made = c.made;
+          own = c.own;
+          told = c.told;
+          rising = c.rising;
+        }
 
-tells_adds : (pass back : Caller) (lines : List Line) (before after : Bytes) → before ≡ [] → Adds pass back lines before after → Tells pass back lines after
-tells_adds pass back lines before after none adds = record {
-  replies = adds.replies;
-  session = (adds.client, adds.runs);
-  written = adds.written ∙ ap (λ (b : Bytes). b ++ lines_text lines adds.replies) none;
-  later = adds.later;
-  read = adds.read;
-  counts = adds.counts;
-  loads = adds.loads;
-}
-
-answered_all : (pass back : Caller) (script : List Line) (before after : Bytes) → before ≡ [] → CarriesOut pass back script before after → HasAnswered pass back script after
-unfolding tells_adds
-answered_all pass back script before after none c = record {
-  tells = tells_adds pass back script before after none c.adds;
-  made = c.made;
-  own = c.own;
-  told = c.told;
-  rising = c.rising;
-}
-
-pub answered_ok : (before after : Bytes) (r : Result (Unit {0}) AllocError) (pass back p q : Caller) (lines script : List Line) → OnOk r (CarriesOut pass back lines before after) → before ≡ [] → p ≡ pass → q ≡ back → script ≡ lines → OnOk r (HasAnswered p q script after)
-answered_ok before after (Ok x) pass back p q lines script c none is is' same =
-    subst (λ (z : Caller). HasAnswered z q script after) (sym is) (subst (λ (z : Caller). HasAnswered pass z script after) (sym is') (subst (λ (z : List Line). HasAnswered pass back z after) (sym same) (answered_all pass back lines before after none c)))
-answered_ok before after (Err e) pass back p q lines script c none is is' same = tt
+pub carried_ok : (pass back : Caller) (script : List Line) (from to : ℕ) (d : Desk) (text after : Bytes) (r : Result (Unit {0}) AllocError) → back ≡ caller_of d.«open» → OnOk r (CarriedOn pass script from to text d after) → OnOk r (CarriesOut pass back script from to text after)
+carried_ok pass back script from to d text after (Ok x) is carried = all_carried pass back script from to d text after is carried
+carried_ok pass back script from to d text after (Err e) is carried = tt
 
 -- a pass that has seen more is of the same database
 pub own_later : (db : Database) (p q : Caller) → IsOf db p → IsLater p q → IsOf db q

@@ -1,14 +1,16 @@
 -- The turns that begin and end transactions.
-use Rattle.std.proofs.Common.{arith, lt-ltb, ◌≡◌, refl, ap, subst, sym, ◌∙◌, ℕ, ◌+◌, ◌<◌, ◌≤◌, ◌^◌, List, [], ◌∷◌, ◌++◌, length, inl, Result, Ok, Err, IfOk}
+use Rattle.std.proofs.Common.{arith, lt-ltb, ◌≡◌, refl, ap, subst, sym, ◌∙◌, ℕ, ◌+◌, ◌<◌, ◌≤◌, ◌^◌, List, [], ◌∷◌, ◌++◌, length, inl, inr, Result, Ok, Err, IfOk, OnErr}
 use Rattle.std.specs.Prelude.{codes, nat_lt}
 use Rattle.std.specs.declared.alloc.AllocError.{AllocError}
 use Rattle.std.proofs.lemmas.List.{append-nil, length-append}
 use Rattle.mdb_datum.specs.Bytes.{Bytes}
 use Rattle.mem_txn.specs.Changes.{Changes, begun}
 use Rattle.mem_txn.specs.Database.{Caller, HasRead, HasSeen, Reading, reading_of}
-use Rattle.mem_txn.specs.Transactions.{IsCommitted, IsRefused, changes_of, items_of, deferred_items}
+use Rattle.mem_txn.specs.Transactions.{AnswersBegin, AnswersTry, HasWon, IsCommitted, IsRefused, changes_of, items_of, deferred_items}
 use Rattle.mem_txn.specs.declared.outcome.BeginRefused.{BeginRefused}
 use Rattle.mem_txn.specs.declared.outcome.Committed.{Committed}
+use Rattle.mem_txn.specs.declared.outcome.Tried.{Tried}
+use Rattle.mem_txn.specs.declared.outcome.Tried.TheVariants as tried
 use Rattle.mem_txn.specs.declared.txn_error.BeginError.TheVariants as begin_errors
 use Rattle.mem_txn.specs.declared.write_txn.WriteTxn.{WriteTxn}
 use Rattle.client_script.specs.Client.{Client, Transaction, closed, reading, writing}
@@ -18,6 +20,7 @@ use Rattle.client_script.specs.Turn.{commit_limit, outcome, turn}
 use Rattle.client_script.specs.declared.command.Command.{Command}
 use Rattle.client_script.specs.declared.command.Command.TheVariants as command
 use Rattle.client_session.specs.Answered.{IsLater}
+use Rattle.client_session.specs.Steps.{HasNotLost}
 use Rattle.client_session.specs.declared.open.Open.{Open}
 use Rattle.client_session.specs.declared.open.Open.TheVariants as opens
 use Rattle.client_session.specs.declared.reply.Reply.TheVariants as replies
@@ -49,6 +52,11 @@ later_self p = record { number = refl; database = refl; schema = refl; book = re
 
 pub later_same : (p q : Caller) → q ≡ p → IsLater p q
 later_same p q same = subst (λ (r : Caller). IsLater p r) (sym same) (later_self p)
+
+-- what holds at all holds after an error
+pub on_err : {A E P : Type 0} → (r : Result A E) → P → OnErr r P
+on_err (Ok x) holds = tt
+on_err (Err e) holds = holds
 
 pub later_seen : (old new : Caller) → HasSeen old new → IsLater old new
 later_seen old new seen = record {
@@ -156,6 +164,13 @@ spent_write self old r is cause seen why =
       turns = spent_turns r.pass spent.1;
       loads = λ v is' le. tt;
     })
+
+pub try_began : (callers : ℕ) (p : Caller) (t : Tried Bytes) (txn : WriteTxn Bytes) → t ≡ tried.Begun txn → AnswersTry callers p (Ok t) → AnswersBegin p (Ok txn) × HasWon p (changes_of txn).caller
+try_began callers p t txn is answers = subst (λ (x : Tried Bytes). AnswersTry callers p (Ok x)) is answers
+
+-- the one try found the turn free
+pub won_from : (self : Open) (old new : Caller) → self ≡ opens.Nothing old → HasWon old new → HasNotLost command.Write (caller_of self) new
+won_from self old new is won = inr (subst (λ (s : Open). HasWon (caller_of s) new) (sym is) won)
 
 abort_turns : (pass : Caller) (txn : WriteTxn Bytes) → pass ≡ (changes_of txn).caller → TurnsTo command.Abort (opens.Writing txn) (opens.Nothing pass) aborted
 abort_turns pass txn same = record {

@@ -1,8 +1,8 @@
 -- A session may be handed to another thread.
 use denote.Param.Send.{IsSend, IsSync, sendable}
 use Rattle.std.proofs.Crossing.{crosses}
+use Rattle.std.proofs.MapsCrossing as maps
 use Rattle.mdb_datum.proofs.datum.Datum.TheLaws.TheKnot as datum
-use Rattle.mdb_datum.specs.contracts.datum.Items
 use Rattle.mdb_datum.specs.contracts.row.Row
 use Rattle.mdb_datum.specs.contracts.text.Text
 use Rattle.mdb_schema.specs.contracts.query.Parts
@@ -10,8 +10,15 @@ use Rattle.mdb_schema.specs.contracts.query.Query
 use Rattle.client_script.specs.contracts.command.Command
 use Rattle.client_script.specs.contracts.line.Line
 use Rattle.client_script.specs.contracts.script.Script
-use Rattle.mem_txn.proofs.Threads.{pass_send}
+use Rattle.mem_txn.proofs.Threads.{changes_send, pass_send, read_send, snapshot_send}
+use Rattle.mem_txn.specs.contracts.pass.Pass
+use Rattle.mem_txn.specs.contracts.read_txn.ReadTxn
+use Rattle.mem_txn.specs.contracts.write_txn.WriteTxn
+use Rattle.client_session.specs.contracts.desk.Desk
+use Rattle.client_session.specs.contracts.kept.Kept
+use Rattle.client_session.specs.contracts.«open».Open
 use Rattle.client_session.specs.contracts.session.Session
+use Rattle.client_session.specs.contracts.snapshots.Snapshots
 
 text-send : IsSend (Text.the_field).row
 text-send = search (sendable, crosses) depth 20
@@ -41,5 +48,28 @@ line-send = search (sendable, crosses, command-send) depth 100 fits 100000
 script-send : IsSend Script.the_row
 script-send = search (sendable, crosses, line-send) depth 100 fits 100000
 
+-- ---- what is open, and the snapshots
+
+write-send : IsSend (WriteTxn.the_field Text.the_row).row
+write-send = search (sendable, crosses, changes_send, text-send) depth 20
+
+pass-field-send : IsSend Pass.the_field.row
+pass-field-send = search (sendable, pass_send) depth 20
+
+read-field-send : IsSend ReadTxn.the_field.row
+read-field-send = search (sendable, read_send) depth 20
+
+open-send : IsSend Open.the_field.row
+open-send = search (sendable, pass-field-send, read-field-send, write-send) depth 100 fits 100000
+
+kept-send : IsSend Kept.the_row
+kept-send = search (sendable, read_send, snapshot_send) depth 20
+
+snapshots-send : IsSend Snapshots.the_field.row
+snapshots-send = search (sendable, maps.crosses, kept-send) depth 20
+
+desk-send : IsSend Desk.the_row
+desk-send = search (sendable, open-send, snapshots-send) depth 20
+
 pub session_send : IsSend Session.the_row
-session_send = search (sendable, crosses, script-send, pass_send) depth 100 fits 100000
+session_send = search (sendable, crosses, script-send, desk-send) depth 100 fits 100000

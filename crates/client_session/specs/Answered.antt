@@ -1,16 +1,17 @@
--- What a session has done: the text of its answers is that of replies that are a session in the
--- history that its pass has seen, the commits that they tell are just those that its pass has made,
--- and the transactions that they begin stand on counts that its pass has read.
-use Rattle.std.specs.Prelude.{◌≡◌, ◌-◌, ◌<◌, ◌≤◌, ◌++◌, ℕ, List, [], ◌∷◌, Option, Some, length, map, take, slice_get}
+-- What a call of a session has done: the text of its answers is that of replies that are a session
+-- in the history that its pass has seen, the commits that this call told are just those that its
+-- pass has made in it, and the transactions that it told stand on counts that its pass has read.
+use Rattle.std.specs.Prelude.{◌≡◌, ◌-◌, ◌<◌, ◌≤◌, ◌++◌, ℕ, List, [], ◌∷◌, Option, Some, length, map, take, slice_get, ⊤}
 use mathlib.Core.List.{IsPrefix}
-use Rattle.mdb_datum.specs.Bytes.{Bytes}
 use Rattle.mdb_schema.specs.History.{Commit, History}
 use Rattle.mem_txn.specs.Database.{Caller}
 use Rattle.client_session.specs.Begun.{AreAmong, begun_numbers}
 use Rattle.client_script.specs.Legal.{printed}
 use Rattle.client_script.specs.Reply.{Reply, lines_text}
 use Rattle.client_script.specs.Session.{Session}
+use Rattle.client_script.specs.declared.command.Command.TheVariants as command
 use Rattle.client_script.specs.declared.line.Line.{Line}
+use Rattle.client_session.specs.Progress.{Progress}
 
 -- the pass of the same caller of the same database, which has seen, read and tried as much or more;
 -- the trees after the commits are part of what is seen
@@ -33,28 +34,48 @@ abbrev pub AreRising : ℕ → List ℕ → ℕ → Type 0
 AreRising low [] high = low ≤ high
 AreRising low (m ∷ ms) high = (low < m) × AreRising m ms high
 
--- The text is that of replies to these lines, which are a session in the history that the pass has
--- seen. The numbers that the replies to `read` and `write` print are, in order, some of the counts
--- that the pass has read since.
-pub record Tells (old new : Caller) (lines : List Line) (text : Bytes) : Type 0 where
+-- the replies to the lines that are answered: they are a session, and the text is theirs
+pub record AreTold (s : Progress) (replies : List Reply) : Type 0 where
+  pub session : let p = s.caller in
+      Session p.schema p.seen p.number (take s.answered s.script) replies
+  pub written : s.text ≡ lines_text (take s.answered s.script) replies
+
+-- A call has told these replies behind those that were told before. The numbers that they print for
+-- transactions that begin are, in order, some of the counts that the pass has read since.
+pub record Tells (old new : Progress) : Type 0 where
+  pub before : List Reply
+  pub told_before : AreTold old before
   pub replies : List Reply
-  pub session : Session old.schema new.seen old.number lines replies
-  pub written : text ≡ lines_text lines replies
-  pub later : IsLater old new
+  pub told : AreTold new (before ++ replies)
+  pub later : IsLater old.caller new.caller
   pub read : List ℕ
-  pub counts : new.counts ≡ old.counts ++ read
+  pub counts : new.caller.counts ≡ old.caller.counts ++ read
   pub loads : AreAmong (begun_numbers replies) read
 
--- so for some first lines of the script
-pub record HasTold (old new : Caller) (script : List Line) (text : Bytes) : Type 0 where
-  pub count : ℕ
-  pub tells : Tells old new (take count script) text
-
--- So for all lines. The commits that the pass has made are told, each once and in order, by their
--- numbers in the list that it has seen, and no others are.
-pub record HasAnswered (old new : Caller) (script : List Line) (text : Bytes) : Type 0 where
-  pub tells : Tells old new script text
+-- The same of a call that found memory. The commits that the pass has made since are told, each
+-- once and in order, by their numbers in the list that it has seen, and no others are.
+pub record HasAnswered (old new : Progress) : Type 0 where
+  pub tells : Tells old new
   pub made : List Commit
-  pub own : new.own ≡ old.own ++ made
-  pub told : map (commit_at new.seen) (printed tells.replies) ≡ map Some made
-  pub rising : AreRising (length old.seen) (printed tells.replies) (length new.seen)
+  pub own : new.caller.own ≡ old.caller.own ++ made
+  pub told : map (commit_at new.caller.seen) (printed tells.replies) ≡ map Some made
+  pub rising : AreRising (length old.caller.seen) (printed tells.replies) (length new.caller.seen)
+
+-- Commits that were made and aren't told: at most one, and one only where the script's line at this
+-- place is `commit`, for whose answer no memory was found.
+abbrev pub IsUntold : List Line → ℕ → List Commit → Type 0
+IsUntold script at [] = ⊤
+IsUntold script at (c ∷ []) =
+    (l : Line) × (slice_get script at ≡ Some l) × (l.command ≡ command.Commit)
+IsUntold script at (c ∷ d ∷ cs) = ⊥
+
+-- The same of a call that found no memory, but the last commit may be untold: the line behind those
+-- that are answered has made it. So nothing else that was open was committed.
+pub record HasStopped (old new : Progress) : Type 0 where
+  pub tells : Tells old new
+  pub made : List Commit
+  pub untold : List Commit
+  pub own : new.caller.own ≡ old.caller.own ++ (made ++ untold)
+  pub told : map (commit_at new.caller.seen) (printed tells.replies) ≡ map Some made
+  pub rising : AreRising (length old.caller.seen) (printed tells.replies) (length new.caller.seen)
+  pub last : IsUntold new.script new.answered untold

@@ -1,4 +1,5 @@
 pub mod Answered
 pub mod Begun
 pub mod Progress
+pub mod Steps
 pub mod inner

@@ -1,15 +1,26 @@
 -- A session, as contracts see it.
-use Rattle.std.specs.Prelude.{ℕ, Bool, List}
+use Rattle.std.specs.Prelude.{ℕ, Bool, false, List, []}
 use Rattle.mdb_datum.specs.Bytes.{Bytes}
 use Rattle.mem_txn.specs.Database.{Caller}
 use Rattle.client_script.specs.declared.line.Line.{Line}
 
--- the client's number, its script, its pass, the text of its answers so far, whether its script was
--- carried out, and whether that found no memory
+-- the client's number, its script, its pass, how many lines of the script are answered, the text of
+-- these answers, and whether a call found no memory
 pub record Progress : Type 0 where
   pub client : ℕ
   pub script : List Line
   pub caller : Caller
+  pub answered : ℕ
   pub text : Bytes
-  pub done : Bool
   pub failed : Bool
+
+-- a session of which nothing is carried out yet
+abbrev pub begun : ℕ → List Line → Caller → Progress
+begun client script caller = record {
+  client = client;
+  script = script;
+  caller = caller;
+  answered = 0;
+  text = [];
+  failed = false;
+}

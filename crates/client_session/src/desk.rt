@@ -1,12 +1,11 @@
 //! What a session has between two lines, and a line's turn.
-ghost use Rattle.std.specs.Prelude.{◌≡◌, [], IfOk, false, is_some};
+ghost use Rattle.std.specs.Prelude.{◌≡◌, IfOk, OnErr, false, is_some, option_map};
 ghost use Rattle.mem_txn.specs.Database.{IsOf};
 ghost use Rattle.client_session.specs.Answered.{IsLater};
 ghost use Rattle.client_script.specs.Turn.{is_of_watches};
 ghost use Rattle.client_script.specs.declared.command.Command.TheVariants as command;
-ghost use Rattle.mdb_datum.specs.Bytes.{Bytes};
-ghost use Rattle.client_session.specs.inner.Carried.{Carried};
-ghost use Rattle.client_session.specs.inner.DeskView.{IsRequest, LooksAndReplies, RepliesTo};
+ghost use Rattle.client_script.specs.Client.{at_start};
+ghost use Rattle.client_session.specs.inner.DeskView.{Follows, IsRequest, LooksAndReplies, RepliesTo, StepsTo};
 ghost use Rattle.client_session.specs.inner.OpenView.{caller_of, IsOpen, Stands};
 ghost use Rattle.client_session.specs.inner.KeptView.{seen_in};
 ghost use Rattle.client_session.specs.inner.ReplyOf.{reply_of};
@@ -33,7 +32,8 @@ impl Desk {
     /// The desk at the start of a session: nothing is open, and no snapshot is kept. It takes no
     /// memory.
     pub(crate) fn new(alloc: Global, pass: Pass) -> Desk
-        ensures { (text : Bytes) → Carried pass [] result text text }
+        ensures start { Follows result at_start }
+        ensures caller { caller_of result.open ≡ pass }
     {
         Desk {
             open: Open::Nothing(pass),
@@ -41,8 +41,8 @@ impl Desk {
         }
     }
 
-    /// Carries out a command, and gives the reply. After `AllocError` a write transaction may still
-    /// be open.
+    /// Carries out a command, and gives the reply. After `AllocError` no commit was made, and a
+    /// write transaction may still be open.
     pub(crate) fn turn<R: Wait>(
         self,
         rt: &R,
@@ -56,6 +56,8 @@ impl Desk {
         ensures turn { IfOk result.1 (λ r. LooksAndReplies command.now self result.0
             (reply_of (caller_of self.open).schema r)) }
         ensures caller { IsLater (caller_of self.open) (caller_of result.0.open) }
+        ensures unmade { OnErr result.1
+            ((caller_of result.0.open).own ≡ (caller_of self.open).own) }
     {
         match command {
             Command::Read | Command::Write | Command::End | Command::Commit | Command::Abort => {
@@ -67,6 +69,37 @@ impl Desk {
                 let mut desk = self;
                 let told = desk.request(alloc, db.schema(), command);
                 (desk, told)
+            }
+        }
+    }
+
+    /// The same, but `write` makes one try for the writer's turn. It gives no reply where that
+    /// found it taken.
+    pub(crate) fn step<R: Wait>(
+        self,
+        rt: &R,
+        alloc: Global,
+        db: &Db,
+        command: &Command,
+    ) -> (Desk, Result<Option<Reply>, AllocError>)
+        requires own { IsOf db.now (caller_of self.open) }
+        requires stands { Stands self.open }
+        requires known { is_of_watches command.now ≡ false }
+        ensures turn { IfOk result.1 (λ r. StepsTo db.now.callers command.now self result.0
+            (option_map (reply_of (caller_of self.open).schema) r)) }
+        ensures caller { IsLater (caller_of self.open) (caller_of result.0.open) }
+        ensures unmade { OnErr result.1
+            ((caller_of result.0.open).own ≡ (caller_of self.open).own) }
+    {
+        match command {
+            Command::Write => {
+                let Desk { open, snapshots } = self;
+                let (open, told) = open.try_write(rt, db);
+                (Desk { open, snapshots }, told)
+            }
+            command => {
+                let (desk, told) = self.turn(rt, alloc, db, command);
+                (desk, told.map(Some))
             }
         }
     }
@@ -144,6 +177,14 @@ impl Desk {
             Ok(answer) => Ok(Reply::Answered(answer)),
             Err(error) => refused(question_rule(error)),
         }
+    }
+
+    /// A desk with the pass alone, after what is open was ended or aborted. It takes no memory.
+    pub(crate) fn closed(self, alloc: Global, db: &Db) -> Desk
+        requires own { IsOf db.now (caller_of self.open) }
+        ensures { caller_of result.open ≡ caller_of self.open }
+    {
+        Desk::new(alloc, self.close(db))
     }
 
     /// The pass, after what is open was ended or aborted.

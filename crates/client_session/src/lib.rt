@@ -1,9 +1,9 @@
 //! One client's session: its script carried out line by line on a database, and the text of its
 //! answers.
 //!
-//! [`Session::run`] carries out every line. The text kept is that of replies that the definitions
-//! of `client_script` allow (`specs/Session.antt` there), in the history that the client's pass has
-//! seen.
+//! [`Session::run`] carries out every line, and [`Session::step`] one. The text kept is that of
+//! replies that the definitions of `client_script` allow (`specs/Session.antt` there), in the
+//! history that the client's pass has seen.
 #![tactic(auto)]
 
 mod desk;
@@ -16,7 +16,9 @@ mod rule;
 mod run;
 mod session;
 mod snapshots;
+mod stepped;
 #[cfg(test)]
 mod tests;
 
 pub use session::Session;
+pub use stepped::Stepped;

@@ -1,5 +1,5 @@
 //! The open transaction of a session.
-ghost use Rattle.std.specs.Prelude.{◌≡◌, IfOk, MatchResult, Ok, Err};
+ghost use Rattle.std.specs.Prelude.{◌≡◌, IfOk, MatchResult, OnErr, Ok, Err, option_map};
 ghost use Rattle.mdb_schema.specs.Answer.{Asked};
 ghost use Rattle.mdb_schema.specs.Refusals.{AnswersAsk};
 ghost use Rattle.mem_txn.specs.Database.{IsOf};
@@ -7,7 +7,7 @@ ghost use Rattle.client_session.specs.Answered.{IsLater};
 ghost use Rattle.client_script.specs.declared.command.Command.TheVariants as command;
 ghost use Rattle.client_session.specs.declared.open.Open.TheVariants as opens;
 ghost use Rattle.client_session.specs.declared.reply.Reply.TheVariants as replies;
-ghost use Rattle.client_session.specs.inner.OpenView.{caller_of, transaction_of, BeginsOrEnds, LooksAndTurns, Stands, TurnsTo};
+ghost use Rattle.client_session.specs.inner.OpenView.{caller_of, transaction_of, BeginsOrEnds, LooksAndTurns, Stands, TriesWrite, TurnsTo};
 ghost use Rattle.client_session.specs.inner.ReplyOf.{reply_of};
 
 use crate::reply::Reply;
@@ -16,7 +16,7 @@ use client_script::Command;
 use mdb_datum::{Row, Text};
 use mdb_schema::{Answer, AskError, Query, Schema, WriteError};
 use mem_txn::{
-    BeginError, BeginRefused, CommitRefused, Committed, Db, Pass, ReadTxn, TxnAskError,
+    BeginError, BeginRefused, CommitRefused, Committed, Db, Pass, ReadTxn, Tried, TxnAskError,
     TxnWipeError, TxnWriteError, WriteTxn,
 };
 use std::alloc::{AllocError, Global};
@@ -44,6 +44,7 @@ impl Open {
         ensures turn { IfOk result.1 (λ r. LooksAndTurns command.now self result.0
             (reply_of (caller_of self).schema r)) }
         ensures caller { IsLater (caller_of self) (caller_of result.0) }
+        ensures unmade { OnErr result.1 ((caller_of result.0).own ≡ (caller_of self).own) }
     {
         match command {
             Command::Read => self.read(rt, db),
@@ -62,6 +63,7 @@ impl Open {
         ensures turn { IfOk result.1 (λ r. LooksAndTurns command.Read self result.0
             (reply_of (caller_of self).schema r)) }
         ensures caller { IsLater (caller_of self) (caller_of result.0) }
+        ensures unmade { OnErr result.1 ((caller_of result.0).own ≡ (caller_of self).own) }
     {
         match self {
             Open::Nothing(mut pass) => match db.read(rt, &mut pass) {
@@ -75,13 +77,14 @@ impl Open {
         }
     }
 
-    /// Begins a write transaction.
+    /// Begins a write transaction. It waits for the writer's turn.
     pub(crate) fn write<R: Wait>(self, rt: &R, db: &Db) -> (Open, Result<Reply, AllocError>)
         requires own { IsOf db.now (caller_of self) }
         requires stands { Stands self }
         ensures turn { IfOk result.1 (λ r. LooksAndTurns command.Write self result.0
             (reply_of (caller_of self).schema r)) }
         ensures caller { IsLater (caller_of self) (caller_of result.0) }
+        ensures unmade { OnErr result.1 ((caller_of result.0).own ≡ (caller_of self).own) }
     {
         match self {
             Open::Nothing(pass) => match db.write(rt, pass) {
@@ -106,6 +109,46 @@ impl Open {
         }
     }
 
+    /// The same, but for one try. It gives no reply where another has the writer's turn.
+    pub(crate) fn try_write<R: Wait>(
+        self,
+        rt: &R,
+        db: &Db,
+    ) -> (Open, Result<Option<Reply>, AllocError>)
+        requires own { IsOf db.now (caller_of self) }
+        requires stands { Stands self }
+        ensures turn { IfOk result.1 (λ r. TriesWrite db.now.callers self result.0
+            (option_map (reply_of (caller_of self).schema) r)) }
+        ensures caller { IsLater (caller_of self) (caller_of result.0) }
+        ensures unmade { OnErr result.1 ((caller_of result.0).own ≡ (caller_of self).own) }
+    {
+        match self {
+            Open::Nothing(pass) => match db.try_write(rt, pass) {
+                Ok(Tried::Begun(txn)) => {
+                    let number = txn.number();
+                    (Open::Writing(txn), Ok(Some(Reply::WriteAt(number))))
+                }
+                Ok(Tried::Taken(pass)) => (Open::Nothing(pass), Ok(None)),
+                Err(
+                    BeginRefused {
+                        pass,
+                        cause: BeginError::CommitsSpent,
+                    },
+                ) => (
+                    Open::Nothing(pass),
+                    Ok(Some(Reply::Refused(Rule::CommitsSpent))),
+                ),
+                Err(
+                    BeginRefused {
+                        pass,
+                        cause: BeginError::Memory,
+                    },
+                ) => (Open::Nothing(pass), Err(AllocError)),
+            },
+            open => (open, Ok(Some(Reply::Refused(Rule::TransactionOpen)))),
+        }
+    }
+
     /// Ends the read transaction.
     pub(crate) fn end(self) -> (Open, Reply)
         requires stands { Stands self }
@@ -127,6 +170,7 @@ impl Open {
         ensures turn { IfOk result.1 (λ r. TurnsTo command.Commit self result.0
             (reply_of (caller_of self).schema r)) }
         ensures caller { IsLater (caller_of self) (caller_of result.0) }
+        ensures unmade { OnErr result.1 ((caller_of result.0).own ≡ (caller_of self).own) }
     {
         match self {
             Open::Writing(txn) => match txn.commit(rt, db) {

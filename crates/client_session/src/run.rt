@@ -1,11 +1,11 @@
 //! A script carried out line by line.
-ghost use Rattle.std.specs.Prelude.{◌≡◌, ◌++◌, MatchResult, OnErr, OnOk, false};
+ghost use Rattle.std.specs.Prelude.{◌≡◌, ◌≤◌, ◌++◌, MatchResult, OnErr, OnOk, false, length, option_map};
 ghost use Rattle.mem_txn.specs.Database.{IsOf};
 ghost use Rattle.client_session.specs.Answered.{IsLater};
 ghost use Rattle.client_script.specs.Reply.{line_text};
 ghost use Rattle.client_script.specs.Session.{AreKnown};
 ghost use Rattle.client_script.specs.Turn.{is_of_watches};
-ghost use Rattle.client_session.specs.inner.Carried.{AddsSome, AnswersLine, Carried, CarriesOut};
+ghost use Rattle.client_session.specs.inner.Carried.{AddsSome, AnswersLine, CarriedOn, CarriesOut, SoFar, StepsLine, Stops, StopsLine};
 ghost use Rattle.client_session.specs.inner.OpenView.{caller_of, Stands};
 ghost use Rattle.client_session.specs.inner.ReplyOf.{reply_of};
 
@@ -14,67 +14,83 @@ use crate::reply::Reply;
 use client_script::{Line, Script};
 use mdb_ports::Gate;
 use mdb_schema::Schema;
-use mem_txn::{Db, Pass};
+use mem_txn::Db;
 use std::alloc::{AllocError, Global};
 use std::sync::Wait;
 
-/// Carries out a script, and adds its answers to a text. What it leaves open is aborted. After
-/// `AllocError` the text has the answers to some first lines.
+/// Carries out a script from a place on, and adds its answers to a text. It gives the desk, with
+/// nothing open, and how many lines are answered then. After `AllocError` these are some first
+/// lines.
 pub(crate) fn carry_out<R: Wait, G: Gate>(
     rt: &R,
-    alloc: Global,
     db: &Db,
     gate: &G,
+    client: u32,
     script: &Script,
-    pass: Pass,
+    from: usize,
+    desk: Desk,
     text: &mut Vec<u8>,
-) -> (Pass, Result<(), AllocError>)
-    requires own { IsOf db.now pass }
+) -> (Desk, usize, Result<(), AllocError>)
+    requires own { IsOf db.now (caller_of desk.open) }
     requires known { AreKnown script.now }
-    ensures told { AddsSome pass result.0 script.now text.old.items text.new.items }
-    ensures answered { OnOk result.1 (CarriesOut pass result.0 script.now text.old.items text.new.items) }
-    ensures caller { IsLater pass result.0 }
+    requires place { from ≤ length script.now }
+    requires so_far { SoFar script.now from desk text.old.items }
+    ensures told { AddsSome (caller_of desk.open) (caller_of result.0.open) script.now from
+        result.1 text.old.items text.new.items }
+    ensures answered { OnOk result.2 (CarriesOut (caller_of desk.open) (caller_of result.0.open)
+        script.now from result.1 text.old.items text.new.items) }
+    ensures stopped { OnErr result.2 (Stops (caller_of desk.open) (caller_of result.0.open)
+        script.now from result.1 text.old.items text.new.items) }
+    ensures all { OnOk result.2 (result.1 ≡ length script.now) }
+    ensures place { result.1 ≤ length script.now }
 {
-    let (desk, told) = answer_lines(rt, alloc, db, gate, script, pass, text);
-    (desk.close(db), told)
+    let alloc = *text.allocator();
+    let (desk, answered, told) = answer_lines(rt, db, gate, client, script, from, desk, text);
+    (desk.closed(alloc, db), answered, told)
 }
 
-/// Carries out each line, and adds its answer, till one finds no memory. It gives what is there
-/// then.
+/// Carries out each line from a place on, and adds its answer, till one finds no memory. It gives
+/// what is there then, and how many lines are answered.
 fn answer_lines<R: Wait, G: Gate>(
     rt: &R,
-    alloc: Global,
     db: &Db,
     gate: &G,
+    client: u32,
     script: &Script,
-    pass: Pass,
+    from: usize,
+    desk: Desk,
     text: &mut Vec<u8>,
-) -> (Desk, Result<(), AllocError>)
-    requires own { IsOf db.now pass }
+) -> (Desk, usize, Result<(), AllocError>)
+    requires own { IsOf db.now (caller_of desk.open) }
     requires known { AreKnown script.now }
-    ensures told { AddsSome pass (caller_of result.0.open) script.now text.old.items text.new.items }
-    ensures answered { OnOk result.1 (Carried pass script.now result.0 text.old.items text.new.items) }
-    ensures caller { IsLater pass (caller_of result.0.open) }
+    requires place { from ≤ length script.now }
+    requires so_far { SoFar script.now from desk text.old.items }
+    ensures told { AddsSome (caller_of desk.open) (caller_of result.0.open) script.now from
+        result.1 text.old.items text.new.items }
+    ensures answered { OnOk result.2 (CarriedOn (caller_of desk.open) script.now from result.1
+        text.old.items result.0 text.new.items) }
+    ensures stopped { OnErr result.2 (Stops (caller_of desk.open) (caller_of result.0.open)
+        script.now from result.1 text.old.items text.new.items) }
+    ensures all { OnOk result.2 (result.1 ≡ length script.now) }
+    ensures place { result.1 ≤ length script.now }
 {
-    let client = pass.number();
-    let mut desk = Desk::new(alloc, pass);
-    for at in 0..script.len() {
+    let mut desk = desk;
+    for at in from..script.len() {
         let Some(line) = script.get(at) else {
             unreachable!();
         };
-        let (next, told) = answer_line(rt, alloc, db, gate, client, line, desk, text);
+        let (next, told) = answer_line(rt, db, gate, client, line, desk, text);
         desk = next;
         if told.is_err() {
-            return (desk, told);
+            return (desk, at, told);
         }
     }
-    (desk, Ok(()))
+    (desk, script.len(), Ok(()))
 }
 
 /// Carries out a line, and adds its answer. After `AllocError` the text is as before.
 fn answer_line<R: Wait, G: Gate>(
     rt: &R,
-    alloc: Global,
     db: &Db,
     gate: &G,
     client: u32,
@@ -87,8 +103,10 @@ fn answer_line<R: Wait, G: Gate>(
     requires known { is_of_watches line.now.command ≡ false }
     ensures answered { OnOk result.1 (AnswersLine line.now desk result.0 text.old.items text.new.items) }
     ensures kept { OnErr result.1 (text.new.items ≡ text.old.items) }
+    ensures stopped { OnErr result.1 (StopsLine line.now desk (caller_of result.0.open)) }
     ensures caller { IsLater (caller_of desk.open) (caller_of result.0.open) }
 {
+    let alloc = *text.allocator();
     gate.before(client, line.number);
     let (desk, told) = desk.turn(rt, alloc, db, &line.command);
     let added = add_reply(alloc, db.schema(), line.number, told, text);
@@ -113,5 +131,38 @@ fn add_reply(
     match told {
         Ok(reply) => reply.add(alloc, line, schema, text),
         Err(error) => Err(error),
+    }
+}
+
+/// Carries out a line, but `write` for one try alone, and adds its answer. It gives whether there
+/// is one. After `AllocError` nothing is open, and the text is as before.
+pub(crate) fn step_line<R: Wait>(
+    rt: &R,
+    db: &Db,
+    line: &Line,
+    desk: Desk,
+    text: &mut Vec<u8>,
+) -> (Desk, Result<bool, AllocError>)
+    requires own { IsOf db.now (caller_of desk.open) }
+    requires stands { Stands desk.open }
+    requires known { is_of_watches line.now.command ≡ false }
+    ensures answered { OnOk result.1 (StepsLine db.now.callers line.now desk result.0
+        text.old.items text.new.items result.1) }
+    ensures kept { OnErr result.1 (text.new.items ≡ text.old.items) }
+    ensures stopped { OnErr result.1 (StopsLine line.now desk (caller_of result.0.open)) }
+    ensures caller { IsLater (caller_of desk.open) (caller_of result.0.open) }
+{
+    let alloc = *text.allocator();
+    let (desk, told) = desk.step(rt, alloc, db, &line.command);
+    let added = match told {
+        Ok(Some(reply)) => reply
+            .add(alloc, line.number, db.schema(), text)
+            .map(|_| true),
+        Ok(None) => Ok(false),
+        Err(error) => Err(error),
+    };
+    match added {
+        Ok(answered) => (desk, Ok(answered)),
+        Err(error) => (desk.closed(alloc, db), Err(error)),
     }
 }

@@ -1,10 +1,16 @@
 //! A client's session.
-ghost use Rattle.std.specs.Prelude.{◌≡◌, OnOk, [], false, true, is_err};
+ghost use Rattle.std.specs.Prelude.{◌≡◌, ◌+◌, IsOk, List, OnErr, OnOk, false, true, is_err, length};
+ghost use Rattle.client_script.specs.Reply.{Reply};
 ghost use Rattle.client_script.specs.Session.{AreKnown};
-ghost use Rattle.client_session.specs.Answered.{HasAnswered, HasTold, IsLater};
+ghost use Rattle.client_session.specs.Answered.{AreTold, HasAnswered, HasStopped, IsLater, Tells};
+ghost use Rattle.client_session.specs.Progress.{begun};
+ghost use Rattle.client_session.specs.Steps.{AnswersStep};
+ghost use Rattle.client_session.specs.inner.StoredSession.{IsUnfinished};
 ghost use Rattle.mem_txn.specs.Database.{IsOf};
 
-use crate::run::carry_out;
+use crate::desk::Desk;
+use crate::run::{carry_out, step_line};
+use crate::stepped::Stepped;
 use client_script::Script;
 use mdb_ports::Gate;
 use mem_txn::{Db, Pass};
@@ -12,22 +18,22 @@ use std::alloc::{AllocError, Global};
 use std::marker::Model;
 use std::sync::Wait;
 
-/// A client's script, its pass, and the text of its answers; seen as a `Progress`. It can't be
-/// dropped: [`Session::end`] gives the pass back.
+/// A client's script, its pass with what is open, and the text of its answers; seen as a
+/// `Progress`. It can't be dropped: [`Session::end`] gives the pass back.
 pub struct Session {
     client: u32,
     script: Script,
-    /// It is taken out only while the script is carried out.
-    pass: Option<Pass>,
+    /// It is taken out only while lines are carried out.
+    desk: Option<Desk>,
+    /// How many of the script's lines are answered.
+    answered: usize,
     text: Vec<u8>,
-    done: bool,
     failed: bool,
 }
 
 impl Model for Session {
-    ghost use Rattle.std.specs.Prelude.{◌≡◌, IsSome, false, []};
     ghost use Rattle.client_session.specs.Progress.{Progress};
-    ghost use Rattle.client_session.specs.inner.StoredSession.{pass_in, progress_code};
+    ghost use Rattle.client_session.specs.inner.StoredSession.{HasDone, caller_in, progress_code};
 
     ghost Value = { Progress };
 
@@ -36,117 +42,206 @@ impl Model for Session {
     ghost view = { λ s. record {
       client = s.client;
       script = s.script;
-      caller = pass_in s.pass;
+      caller = caller_in s.desk;
+      answered = s.answered;
       text = s.text.items;
-      done = s.done;
       failed = s.failed;
     } };
 
-    ghost invariant = { λ s. IsSome s.pass × (s.done ≡ false → s.text.items ≡ []) };
+    ghost invariant = { λ s. HasDone s.script s.desk s.answered s.text.items s.failed };
 }
 
 impl Session {
     /// A session of the client of this number, whose pass it is. It takes no memory.
     pub fn new(alloc: Global, client: u32, script: Script, pass: Pass) -> Session
         requires { client ≡ pass.number }
-        ensures { result ≡ record {
-          client = client;
-          script = script;
-          caller = pass;
-          text = [];
-          done = false;
-          failed = false;
-        } }
+        ensures { result ≡ begun client script pass }
     {
         Session {
             client,
             script,
-            pass: Some(pass),
+            desk: Some(Desk::new(alloc, pass)),
+            answered: 0,
             text: Vec::new(alloc),
-            done: false,
             failed: false,
         }
     }
 
-    /// Carries out every line of the script, and keeps the answers. A transaction that the script
-    /// leaves open is aborted. After `AllocError` an open transaction was aborted, the answers kept
-    /// are those to some first lines, and each later call answers it again. A script that was
-    /// carried out isn't carried out again.
+    /// Carries out every line that is left, and keeps the answers. A transaction that the script
+    /// leaves open is aborted. After `AllocError` an open transaction was aborted, unless its
+    /// `commit` was made and found no memory for the answer; the answers kept are those to some
+    /// first lines, and each later call answers it again.
     pub fn run<R: Wait, G: Gate>(&mut self, rt: &R, db: &Db, gate: &G) -> Result<(), AllocError>
         requires own { IsOf db.now self.old.caller }
         requires known { AreKnown self.old.script }
-        ensures told { self.old.done ≡ false
-            → HasTold self.old.caller self.new.caller self.old.script self.new.text }
-        ensures answered { self.old.done ≡ false → OnOk result
-            (HasAnswered self.old.caller self.new.caller self.old.script self.new.text) }
-        ensures again { self.old.done ≡ true
-            → (is_err result ≡ self.old.failed) × (self.new ≡ self.old) }
+        ensures told { Tells self.old self.new }
+        ensures answered { OnOk result (HasAnswered self.old self.new) }
+        ensures stopped { OnErr result (HasStopped self.old self.new) }
+        ensures all { OnOk result (self.new.answered ≡ length self.old.script) }
         ensures state { self.new ≡ record self.old {
           caller = self.new.caller;
+          answered = self.new.answered;
           text = self.new.text;
-          done = true;
           failed = is_err result;
         } }
         ensures caller { IsLater self.old.caller self.new.caller }
+        ensures failed { self.old.failed ≡ true → self.new ≡ self.old }
+        ensures done { self.old.failed ≡ false → self.old.answered ≡ length self.old.script
+            → IsOk result × (self.new ≡ self.old) }
     {
-        if self.done {
-            return if self.failed { Err(AllocError) } else { Ok(()) };
+        if self.failed {
+            return Err(AllocError);
+        }
+        if self.answered == self.script.len() {
+            self.close(db);
+            return Ok(());
         }
         self.carry_out(rt, db, gate)
     }
 
-    /// Carries out a script that wasn't carried out before.
+    /// Carries out one line, and keeps its answer; at `write` it makes one try for the writer's
+    /// turn. Where no line is left, an open transaction is aborted. After `AllocError` an open
+    /// transaction was aborted, unless the line is its `commit`, which was made and found no memory
+    /// for the answer; the answers are as before, and each later call answers it again.
+    pub fn step<R: Wait>(&mut self, rt: &R, db: &Db) -> Result<Stepped, AllocError>
+        requires own { IsOf db.now self.old.caller }
+        requires known { AreKnown self.old.script }
+        ensures told { Tells self.old self.new }
+        ensures stepped { AnswersStep db.now.callers self.old self.new result }
+        ensures stopped { OnErr result (HasStopped self.old self.new) }
+        ensures state { self.new ≡ record self.old {
+          caller = self.new.caller;
+          answered = self.new.answered;
+          text = self.new.text;
+          failed = is_err result;
+        } }
+        ensures caller { IsLater self.old.caller self.new.caller }
+        ensures failed { self.old.failed ≡ true → self.new ≡ self.old }
+    {
+        if self.failed {
+            return Err(AllocError);
+        }
+        if self.answered == self.script.len() {
+            self.close(db);
+            return Ok(Stepped::Ended);
+        }
+        let next = self.answered + 1;
+        self.step_on(rt, db, next)
+    }
+
+    /// Carries out the lines that are left, of which there are some.
     fn carry_out<R: Wait, G: Gate>(&mut self, rt: &R, db: &Db, gate: &G) -> Result<(), AllocError>
         requires own { IsOf db.now self.old.caller }
         requires known { AreKnown self.old.script }
-        requires new { self.old.done ≡ false }
-        ensures told { HasTold self.old.caller self.new.caller self.old.script self.new.text }
-        ensures answered { OnOk result
-            (HasAnswered self.old.caller self.new.caller self.old.script self.new.text) }
+        requires open { IsUnfinished self.old }
+        ensures told { Tells self.old self.new }
+        ensures answered { OnOk result (HasAnswered self.old self.new) }
+        ensures stopped { OnErr result (HasStopped self.old self.new) }
+        ensures all { OnOk result (self.new.answered ≡ length self.old.script) }
         ensures state { self.new ≡ record self.old {
           caller = self.new.caller;
+          answered = self.new.answered;
           text = self.new.text;
-          done = true;
           failed = is_err result;
         } }
         ensures caller { IsLater self.old.caller self.new.caller }
     {
-        let Some(pass) = self.pass.take() else {
+        let Some(desk) = self.desk.take() else {
             unreachable!();
         };
-        let alloc = *self.text.allocator();
-        let (pass, told) = carry_out(rt, alloc, db, gate, &self.script, pass, &mut self.text);
-        let gone = self.pass.replace(pass);
+        let (client, from) = (self.client, self.answered);
+        let (desk, answered, told) = carry_out(
+            rt,
+            db,
+            gate,
+            client,
+            &self.script,
+            from,
+            desk,
+            &mut self.text,
+        );
+        let gone = self.desk.replace(desk);
         let None = gone else { unreachable!() };
-        self.done = true;
+        self.answered = answered;
         self.failed = told.is_err();
         told
     }
 
+    /// Carries out the next line, which there is. With it so many lines are answered.
+    fn step_on<R: Wait>(&mut self, rt: &R, db: &Db, next: usize) -> Result<Stepped, AllocError>
+        requires own { IsOf db.now self.old.caller }
+        requires known { AreKnown self.old.script }
+        requires open { IsUnfinished self.old }
+        requires next { next ≡ self.old.answered + 1 }
+        ensures told { Tells self.old self.new }
+        ensures stepped { AnswersStep db.now.callers self.old self.new result }
+        ensures stopped { OnErr result (HasStopped self.old self.new) }
+        ensures state { self.new ≡ record self.old {
+          caller = self.new.caller;
+          answered = self.new.answered;
+          text = self.new.text;
+          failed = is_err result;
+        } }
+        ensures caller { IsLater self.old.caller self.new.caller }
+    {
+        let Some(line) = self.script.get(self.answered) else {
+            unreachable!();
+        };
+        let Some(desk) = self.desk.take() else {
+            unreachable!();
+        };
+        let number = line.number;
+        let (desk, told) = step_line(rt, db, line, desk, &mut self.text);
+        let gone = self.desk.replace(desk);
+        let None = gone else { unreachable!() };
+        self.failed = told.is_err();
+        if told? {
+            self.answered = next;
+            Ok(Stepped::Answered { line: number })
+        } else {
+            Ok(Stepped::Blocked { line: number })
+        }
+    }
+
+    /// Aborts what is open, once no line is left.
+    fn close(&mut self, db: &Db)
+        requires own { IsOf db.now self.old.caller }
+        requires done { self.old.answered ≡ length self.old.script }
+        ensures { self.new ≡ self.old }
+    {
+        let Some(desk) = self.desk.take() else {
+            unreachable!();
+        };
+        let alloc = *self.text.allocator();
+        let gone = self.desk.replace(desk.closed(alloc, db));
+        let None = gone else { unreachable!() };
+    }
+
     /// The text of the answers so far.
     pub fn answers(&self) -> &[u8]
-        ensures { result.now ≡ self.now.text }
+        ensures text { result.now ≡ self.now.text }
+        ensures told { (replies : List Reply) × AreTold self.now replies }
     {
         self.text.as_slice()
     }
 
     /// The pass, after what is open was aborted. It takes no memory.
-    pub fn end(self, _db: &Db) -> Pass
-        requires own { IsOf _db.now self.caller }
+    pub fn end(self, db: &Db) -> Pass
+        requires own { IsOf db.now self.caller }
         ensures { result ≡ self.caller }
     {
         let Session {
             client: _,
             script,
-            pass,
+            desk,
+            answered: _,
             text,
-            done: _,
             failed: _,
         } = self;
         drop(script);
         drop(text);
-        match pass {
-            Some(pass) => pass,
+        match desk {
+            Some(desk) => desk.close(db),
             None => unreachable!(),
         }
     }

@@ -1,5 +1,6 @@
 //! The named snapshots of a session.
 ghost use Rattle.std.specs.Prelude.{◌≡◌, None, OnOk, OnErr, Some, cond, is_some, option_map, string_bytes};
+ghost use Rattle.std.specs.BTreeMap.{IsUnchanged};
 ghost use Rattle.std.specs.Str.{bytes_eq};
 ghost use Rattle.client_session.specs.inner.KeptView.{kept_view, seen_in};
 ghost use Rattle.mdb_datum.specs.Bytes.{Bytes};
@@ -43,6 +44,7 @@ impl Snapshots {
     pub(crate) fn keep(&mut self, alloc: Global, name: &Text, kept: Kept) -> Result<(), AllocError>
         ensures kept { OnOk result ((q : Bytes) → seen_in self.new q
             ≡ cond (bytes_eq name.now q) (Some (kept_view kept)) (seen_in self.old q)) }
+        ensures unchanged { OnErr result (IsUnchanged self.old.kept self.new.kept) }
     {
         let name = String::from_str(alloc, name.as_str())?;
         self.put(name, kept)
@@ -50,8 +52,9 @@ impl Snapshots {
 
     /// Keeps a snapshot under a name of its own.
     fn put(&mut self, name: String, kept: Kept) -> Result<(), AllocError>
-        ensures { OnOk result ((q : Bytes) → seen_in self.new q
+        ensures kept { OnOk result ((q : Bytes) → seen_in self.new q
             ≡ cond (bytes_eq (string_bytes name) q) (Some (kept_view kept)) (seen_in self.old q)) }
+        ensures unchanged { OnErr result (IsUnchanged self.old.kept self.new.kept) }
     {
         self.kept.insert(name, kept)?;
         Ok(())

@@ -15,6 +15,7 @@ use std::test::Fail;
 
 mod callers;
 mod catalogue;
+mod steps;
 mod users;
 
 /// A script, and the text of its answers in a new database.

@@ -16,7 +16,8 @@ use Rattle.client_script.specs.Legal.{Legal, all_printed, callers, printed}
 use Rattle.client_script.specs.Reply.{Reply, heading, lines_text, output_text}
 use Rattle.client_script.specs.Session.{Session, Sessions}
 use Rattle.client_script.specs.declared.line.Line.{Line}
-use Rattle.client_session.specs.Answered.{AreRising, HasAnswered, commit_at}
+use Rattle.client_session.specs.Answered.{AreRising, commit_at}
+use Rattle.client_session.proofs.FromTheStart.{HasToldAll, told_from_new}
 use Rattle.client_session.specs.Progress.{Progress}
 use Rattle.memdb.specs.inner.Sessions.{AllKnown, AreLater, AreReady, HaveAnswered, begun, callers_back, headed}
 use Rattle.memdb.proofs.PlacesByCaller.{AreAmong, all_counted, by_callers, places, places_are}
@@ -60,7 +61,7 @@ begun_from db opening k scripts = begun (passes_from db opening k (length script
 
 ready_from : (db : Database) (opening : Opening) (k : ℕ) (scripts : List (List Line)) → AllKnown scripts → AreReady db (begun_from db opening k scripts)
 ready_from db opening k [] known = tt
-ready_from db opening k (s ∷ ss) known = ((refl, refl), known.0, refl, ready_from db opening (k + 1) ss known.1)
+ready_from db opening k (s ∷ ss) known = ((refl, refl), known.0, ready_from db opening (k + 1) ss known.1)
 
 long_from : (db : Database) (opening : Opening) (k : ℕ) (scripts : List (List Line)) → length (begun_from db opening k scripts) ≡ length scripts
 long_from db opening k [] = refl
@@ -88,7 +89,7 @@ back_of db [] [] ready l = tt
 back_of db [] (t ∷ ts) ready l = absurd l
 back_of db (s ∷ ss) [] ready l = absurd l
 back_of db (s ∷ ss) (t ∷ ts) ready l =
-    of_both db (callers_back ts) (t.caller ∷ []) (back_of db ss ts ready.3 l.1) ((l.0.database ∙ ready.0.0, l.0.schema ∙ ready.0.1), tt)
+    of_both db (callers_back ts) (t.caller ∷ []) (back_of db ss ts ready.2 l.1) ((l.0.database ∙ ready.0.0, l.0.schema ∙ ready.0.1), tt)
 
 has_left : (c : ℕ) (ps qs : List Caller) → HasPass c ps → HasPass c (ps ++ qs)
 has_left c [] qs h = absurd h
@@ -150,10 +151,11 @@ abbrev pub caller_of : Commit → ℕ
 caller_of c = c.caller
 
 -- they are the numbers of the client's commits in the whole history
-numbers_are : (db : Database) (opening : Opening) (H : History) (k : ℕ) (p : Caller) (script : List Line) (text : Bytes) → commits_by p.number H ≡ p.own → IsPrefix p.seen H → p.number ≡ k
-    → (h : HasAnswered (new_pass db opening k) p script text) → printed h.tells.replies ≡ places (λ (c : Commit). caller_of c == k) 1 H
-numbers_are db opening H k p script text own seen number h =
-    let ms = printed h.tells.replies in
+numbers_are : (db : Database) (opening : Opening) (H : History) (k : ℕ) (t : Progress) (script : List Line) → commits_by t.caller.number H ≡ t.caller.own → IsPrefix t.caller.seen H → t.caller.number ≡ k
+    → (h : HasToldAll script (new_pass db opening k) t) → printed h.replies ≡ places (λ (c : Commit). caller_of c == k) 1 H
+numbers_are db opening H k t script own seen number h =
+    let p = t.caller in
+    let ms = printed h.replies in
     let long = length-append p.seen seen.0 in
     let all = ap length seen.1 in
     let rising : AreRising 0 ms (length H) = rising_more 0 (length p.seen) (length H) ms (omega (arith, long, all)) h.rising in
@@ -180,13 +182,13 @@ tell db opening H k [] [] answered later made = record { replies = []; sessions 
 tell db opening H k [] (t ∷ ts) answered later made = absurd answered
 tell db opening H k (s ∷ ss) [] answered later made = absurd answered
 tell db opening H k (s ∷ ss) (t ∷ ts) answered later made =
-    let h = answered.0 in
-    let rest = tell db opening H (k + 1) ss ts answered.1 later.1 made.2 in
-    let numbers = numbers_are db opening H k t.caller s t.text made.0 made.1 later.0.number h in
+    let h = told_from_new k s (new_pass db opening k) t answered.1 answered.2 answered.0 in
+    let rest = tell db opening H (k + 1) ss ts answered.3 later.1 made.2 in
+    let numbers = numbers_are db opening H k t s made.0 made.1 later.0.number h in
     record {
-      replies = h.tells.replies ∷ rest.replies;
-      sessions = (subst (λ (G : History). Session db.schema G k s h.tells.replies) made.1.1 (session_longer db.schema t.caller.seen made.1.0 k s h.tells.replies h.tells.session), rest.sessions);
-      written = both h.tells.replies rest.replies h.tells.written rest.written;
+      replies = h.replies ∷ rest.replies;
+      sessions = (subst (λ (G : History). Session db.schema G k s h.replies) made.1.1 (session_longer db.schema t.caller.seen made.1.0 k s h.replies h.session), rest.sessions);
+      written = both h.replies rest.replies h.written rest.written;
       numbers = λ i. let r : List (ℕ × ℕ) = map (λ m. (m, k)) (numbers i) ++ rest.numbers i in r;
     }
   where

@@ -9,14 +9,14 @@ use Rattle.memdb.specs.inner.Sessions.{AreLater, AreReady, HaveAnswered, begun, 
 -- a list of sessions that is ready, in two parts
 pub ready_parts : (db : Database) (ss ts : List Progress) → AreReady db (ss ++ ts) → AreReady db ss × AreReady db ts
 ready_parts db [] ts ready = (tt, ready)
-ready_parts db (s ∷ ss) ts ready = let rest = ready_parts db ss ts ready.3 in ((ready.0, ready.1, ready.2, rest.0), rest.1)
+ready_parts db (s ∷ ss) ts ready = let rest = ready_parts db ss ts ready.2 in ((ready.0, ready.1, rest.0), rest.1)
 
 -- what each part has answered the whole has
 pub answered_both : (ss ts us vs : List Progress) → HaveAnswered ss us → HaveAnswered ts vs → HaveAnswered (ss ++ ts) (us ++ vs)
 answered_both [] ts [] vs a b = b
 answered_both [] ts (u ∷ us) vs a b = absurd a
 answered_both (s ∷ ss) ts [] vs a b = absurd a
-answered_both (s ∷ ss) ts (u ∷ us) vs a b = (a.0, answered_both ss ts us vs a.1 b)
+answered_both (s ∷ ss) ts (u ∷ us) vs a b = (a.0, a.1, a.2, answered_both ss ts us vs a.3 b)
 
 later_both : (ss ts us vs : List Progress) → AreLater ss us → AreLater ts vs → AreLater (ss ++ ts) (us ++ vs)
 later_both [] ts [] vs a b = b

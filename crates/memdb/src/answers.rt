@@ -6,7 +6,7 @@ ghost use Rattle.client_session.specs.Progress.{Progress};
 ghost use Rattle.mem_txn.specs.Database.{Opening, new_callers};
 ghost use Rattle.memdb.specs.inner.Sessions.{AreLater, AreReady, AllKnown, HaveAnswered, headed};
 
-use crate::output::write_number;
+use crate::output::{end_line, write_number};
 use crate::sessions::{begin_all, end_all, run_all};
 use client_script::Scripts;
 use client_session::Session;
@@ -36,8 +36,29 @@ pub fn answers<R: Threads + Wait + Sync, G: Gate + Sync>(
     ensures { IfOk result (λ out. Legal schema names.now scripts out.items) }
 {
     let room = Vec::with_capacity(alloc, scripts.len())?;
+    answers_in(rt, alloc, gate, names, schema, scripts, room)
+}
+
+/// The same, with room for the sessions.
+fn answers_in<R: Threads + Wait + Sync, G: Gate + Sync>(
+    rt: &R,
+    alloc: Global,
+    gate: &G,
+    names: &[Text],
+    schema: Schema,
+    scripts: Scripts,
+    room: Vec<Session>,
+) -> Result<Vec<u8>, AllocError>
+    requires known { AllKnown scripts }
+    requires named { length names.now ≡ length scripts }
+    requires some { 1 ≤ length names.now }
+    requires few { length names.now ≤ 64 }
+    requires empty { room.items ≡ [] }
+    requires room { length scripts ≤ vec_capacity room }
+    ensures { IfOk result (λ out. Legal schema names.now scripts out.items) }
+{
     match Db::create(alloc, schema, scripts.len() as u32) {
-        Ok((db, passes)) => Ok(answers_on(rt, alloc, gate, names, db, passes, scripts, room)?),
+        Ok((db, passes)) => answers_on(rt, alloc, gate, names, db, passes, scripts, room),
         Err(error) => {
             room.destroy_empty();
             Err(error)
@@ -45,7 +66,7 @@ pub fn answers<R: Threads + Wait + Sync, G: Gate + Sync>(
     }
 }
 
-/// The same on a new database, of which these are all passes, with room for the sessions.
+/// The same on a new database, of which these are all passes.
 fn answers_on<R: Threads + Wait + Sync, G: Gate + Sync>(
     rt: &R,
     alloc: Global,
@@ -125,7 +146,5 @@ fn write_heading(number: u64, name: &Text, out: &mut Vec<u8>) -> Result<(), Allo
     out.extend_from_slice(b"client ")?;
     write_number(number, out)?;
     out.push(b' ')?;
-    out.extend_from_slice(name.as_str().as_bytes())?;
-    out.push(b'\n')?;
-    Ok(())
+    end_line(name.as_str(), out)
 }

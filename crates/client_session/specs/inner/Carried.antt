@@ -1,5 +1,6 @@
 -- What was carried out of a script so far.
-use Rattle.std.specs.Prelude.{◌≡◌, ◌++◌, ℕ, List, Some, length, map, take}
+use Rattle.std.specs.Prelude.{◌≡◌, ◌++◌, ℕ, Bool, true, false, List, [], ◌∷◌, Some, Result, Ok, Err, length, map, take, ⊤}
+use Rattle.std.specs.declared.alloc.AllocError.{AllocError}
 use Rattle.mdb_datum.specs.Bytes.{Bytes}
 use Rattle.mdb_schema.specs.History.{Commit}
 use Rattle.mem_txn.specs.Database.{Caller}
@@ -8,10 +9,13 @@ use Rattle.client_script.specs.Client.{Client, at_start}
 use Rattle.client_script.specs.Legal.{printed}
 use Rattle.client_script.specs.Reply.{Reply, line_text, lines_text}
 use Rattle.client_script.specs.Session.{Runs}
+use Rattle.client_script.specs.declared.command.Command.{Command}
+use Rattle.client_script.specs.declared.command.Command.TheVariants as command
 use Rattle.client_script.specs.declared.line.Line.{Line}
-use Rattle.client_session.specs.Answered.{AreRising, IsLater, commit_at}
+use Rattle.client_session.specs.Answered.{AreRising, IsLater, IsUntold, commit_at}
 use Rattle.client_session.specs.declared.desk.Desk.{Desk}
-use Rattle.client_session.specs.inner.DeskView.{Follows, LooksAndReplies}
+use Rattle.client_session.specs.Steps.{HasNotLost}
+use Rattle.client_session.specs.inner.DeskView.{Follows, IsTaken, LooksAndReplies}
 use Rattle.client_session.specs.inner.OpenView.{caller_of}
 
 -- a line was answered, and its answer was added
@@ -20,13 +24,48 @@ pub record AnswersLine (l : Line) (old new : Desk) (before after : Bytes) : Type
   pub replies : LooksAndReplies l.command old new reply
   pub written : after ≡ before ++ line_text l.number reply
 
--- the lines were answered, from a pass on
-pub record Carried (pass : Caller) (done : List Line) (d : Desk) (before after : Bytes) : Type 0 where
+-- the same of a step; where the line wasn't answered, nothing was added
+abbrev pub StepsLine : ℕ → Line → Desk → Desk → Bytes → Bytes → Result Bool AllocError → Type 0
+StepsLine callers l old new before after (Ok true) = AnswersLine l old new before after
+    × HasNotLost l.command (caller_of old.«open») (caller_of new.«open»)
+StepsLine callers l old new before after (Ok false) = IsTaken callers l.command old new
+    × (after ≡ before)
+StepsLine callers l old new before after (Err e) = ⊤
+
+-- the commits that one line makes: at most one, and one only where it is `commit`
+abbrev pub IsOfCommit : Command → List Commit → Type 0
+IsOfCommit c [] = ⊤
+IsOfCommit c (x ∷ []) = c ≡ command.Commit
+IsOfCommit c (x ∷ y ∷ cs) = ⊥
+
+-- a line has made them, whether they are told or not
+pub record Makes (c : Command) (old new : Caller) : Type 0 where
+  pub made : List Commit
+  pub own : new.own ≡ old.own ++ made
+  pub one : IsOfCommit c made
+
+-- no more than that was made at a line that found no memory
+abbrev pub StopsLine : Line → Desk → Caller → Type 0
+StopsLine l old new = (v : Client) → Follows old v → Makes l.command (caller_of old.«open») new
+
+-- replies to lines, whose text is there; the desk has what the client knows then
+pub record SoFar (script : List Line) (at : ℕ) (d : Desk) (text : Bytes) : Type 0 where
   pub replies : List Reply
   pub client : Client
-  pub runs : Runs pass.schema (caller_of d.«open»).seen pass.number at_start done replies client
+  pub runs : let p = caller_of d.«open» in
+      Runs p.schema p.seen p.number at_start (take at script) replies client
   pub follows : Follows d client
-  pub written : after ≡ before ++ lines_text done replies
+  pub written : text ≡ lines_text (take at script) replies
+
+-- from a pass and the replies before it on, the lines were answered
+pub record Carried (pass : Caller) (before : List Reply) (done : List Line) (d : Desk)
+    (text : Bytes) : Type 0 where
+  pub replies : List Reply
+  pub client : Client
+  pub runs : Runs pass.schema (caller_of d.«open»).seen pass.number at_start done
+      (before ++ replies) client
+  pub follows : Follows d client
+  pub written : text ≡ lines_text done (before ++ replies)
   pub later : IsLater pass (caller_of d.«open»)
   pub made : List Commit
   pub own : (caller_of d.«open»).own ≡ pass.own ++ made
@@ -36,26 +75,53 @@ pub record Carried (pass : Caller) (done : List Line) (d : Desk) (before after :
   pub counts : (caller_of d.«open»).counts ≡ pass.counts ++ read
   pub loads : AreAmong (begun_numbers replies) read
 
--- so much is there whatever comes then, when the pass is back
-pub record Adds (pass new : Caller) (lines : List Line) (before after : Bytes) : Type 0 where
+-- the replies before a pass, to some first lines of a script
+pub record Before (pass : Caller) (script : List Line) (from : ℕ) (text : Bytes) : Type 0 where
   pub replies : List Reply
   pub client : Client
-  pub runs : Runs pass.schema new.seen pass.number at_start lines replies client
-  pub written : after ≡ before ++ lines_text lines replies
-  pub later : IsLater pass new
-  pub read : List ℕ
-  pub counts : new.counts ≡ pass.counts ++ read
-  pub loads : AreAmong (begun_numbers replies) read
+  pub runs : Runs pass.schema pass.seen pass.number at_start (take from script) replies client
+  pub written : text ≡ lines_text (take from script) replies
 
--- the same of some first lines of a script
-pub record AddsSome (pass new : Caller) (script : List Line) (before after : Bytes) : Type 0 where
-  pub count : ℕ
-  pub adds : Adds pass new (take count script) before after
+-- from a place of a script on to another
+pub record CarriedOn (pass : Caller) (script : List Line) (from to : ℕ) (old : Bytes) (d : Desk)
+    (text : Bytes) : Type 0 where
+  pub before : Before pass script from old
+  pub carried : Carried pass before.replies (take to script) d text
 
--- the same of a whole script
-pub record CarriesOut (pass new : Caller) (script : List Line) (before after : Bytes) : Type 0 where
-  pub adds : Adds pass new script before after
+-- so much is there whatever comes then, when the pass is back
+pub record Adds (pass new : Caller) (before : List Reply) (done : List Line) (text : Bytes) : Type 0
+  where
+    pub replies : List Reply
+    pub client : Client
+    pub runs : Runs pass.schema new.seen pass.number at_start done (before ++ replies) client
+    pub written : text ≡ lines_text done (before ++ replies)
+    pub later : IsLater pass new
+    pub read : List ℕ
+    pub counts : new.counts ≡ pass.counts ++ read
+    pub loads : AreAmong (begun_numbers replies) read
+
+-- the same from a place of a script on to another
+pub record AddsSome (pass new : Caller) (script : List Line) (from to : ℕ) (old text : Bytes)
+    : Type 0 where
+  pub before : Before pass script from old
+  pub adds : Adds pass new before.replies (take to script) text
+
+-- and the commits that the pass has made are told
+pub record CarriesOut (pass new : Caller) (script : List Line) (from to : ℕ) (old text : Bytes)
+    : Type 0 where
+  pub some : AddsSome pass new script from to old text
   pub made : List Commit
   pub own : new.own ≡ pass.own ++ made
-  pub told : map (commit_at new.seen) (printed adds.replies) ≡ map Some made
-  pub rising : AreRising (length pass.seen) (printed adds.replies) (length new.seen)
+  pub told : map (commit_at new.seen) (printed some.adds.replies) ≡ map Some made
+  pub rising : AreRising (length pass.seen) (printed some.adds.replies) (length new.seen)
+
+-- the same where the next line found no memory: the commit that it has made, if any, isn't told
+pub record Stops (pass new : Caller) (script : List Line) (from to : ℕ) (old text : Bytes) : Type 0
+  where
+    pub some : AddsSome pass new script from to old text
+    pub made : List Commit
+    pub untold : List Commit
+    pub own : new.own ≡ pass.own ++ (made ++ untold)
+    pub told : map (commit_at new.seen) (printed some.adds.replies) ≡ map Some made
+    pub rising : AreRising (length pass.seen) (printed some.adds.replies) (length new.seen)
+    pub last : IsUntold script to untold

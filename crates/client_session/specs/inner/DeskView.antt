@@ -1,7 +1,8 @@
 -- A desk, as the definitions of sessions see it.
-use Rattle.std.specs.Prelude.{◌≡◌, ◌≤◌, false, length, option_map, Ok}
+use Rattle.std.specs.Prelude.{◌≡◌, ◌≤◌, ℕ, false, Option, Some, None, length, option_map, Ok}
 use Rattle.mdb_datum.specs.Bytes.{Bytes}
 use Rattle.mem_txn.specs.Database.{Caller, View}
+use Rattle.mem_txn.specs.Transactions.{HasLost}
 use Rattle.client_script.proofs.LongerHistory.{IsWithin}
 use Rattle.client_session.specs.Begun.{AreAmong, number_begun}
 use Rattle.client_script.specs.Client.{Client, Sight, snapshot_named, some_open, state_seen}
@@ -10,6 +11,7 @@ use Rattle.client_script.specs.Session.{Answers}
 use Rattle.client_script.specs.Turn.{is_of_watches, snapshot_reply}
 use Rattle.client_script.specs.declared.command.Command.{Command}
 use Rattle.client_script.specs.declared.command.Command.TheVariants as command
+use Rattle.client_session.specs.Steps.{HasNotLost}
 use Rattle.client_session.specs.declared.desk.Desk.{Desk}
 use Rattle.client_session.specs.declared.open.Open.{Open}
 use Rattle.client_session.specs.inner.KeptView.{seen_in}
@@ -56,6 +58,19 @@ pub record LooksAndReplies (c : Command) (old new : Desk) (r : Reply) : Type 0 w
   pub snapshots : at.snapshots ≡ old.snapshots
   pub replies : RepliesTo c at new r
   pub loads : (v : Client) → Follows at v → AreAmong (number_begun r) looks.read
+
+-- another has the writer's turn: the one try of a `write` found it, and nothing else was done
+pub record IsTaken (callers : ℕ) (c : Command) (old new : Desk) : Type 0 where
+  pub write : c ≡ command.Write
+  pub lost : HasLost callers (caller_of old.open) (caller_of new.open)
+  pub looks : Looks old.open new.open
+  pub snapshots : new.snapshots ≡ old.snapshots
+
+-- a step's reply; it gives none where another has the writer's turn
+abbrev pub StepsTo : ℕ → Command → Desk → Desk → Option Reply → Type 0
+StepsTo callers c old new (Some r) =
+    LooksAndReplies c old new r × HasNotLost c (caller_of old.open) (caller_of new.open)
+StepsTo callers c old new None = IsTaken callers c old new
 
 -- a command that neither begins nor ends a transaction, and isn't one of the six of watches
 abbrev pub IsRequest : Command → Type 0

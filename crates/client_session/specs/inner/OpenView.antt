@@ -1,12 +1,12 @@
 -- What is open, as the definitions of sessions see it.
-use Rattle.std.specs.Prelude.{◌≡◌, ◌≤◌, ◌+◌, ◌++◌, ℕ, false, List, [], ◌∷◌, length, map, ⊤}
+use Rattle.std.specs.Prelude.{◌≡◌, ◌≤◌, ◌+◌, ◌++◌, ℕ, false, List, [], ◌∷◌, Option, Some, None, length, map, ⊤}
 use Rattle.std.specs.List.{enumerate_from}
 use Rattle.client_session.specs.Begun.{AreAmong, number_begun}
 use Rattle.client_script.specs.Legal.{callers, number_printed}
 use Rattle.mdb_schema.specs.History.{History}
 use Rattle.mem_txn.specs.CellHistory.{Forest}
 use Rattle.mem_txn.specs.Database.{Caller, View}
-use Rattle.mem_txn.specs.Transactions.{changes_of, items_of}
+use Rattle.mem_txn.specs.Transactions.{HasLost, changes_of, items_of}
 use Rattle.mdb_schema.specs.History.{state_at}
 use Rattle.client_script.specs.Client.{Transaction, closed, reading, writing, Client}
 use Rattle.client_script.specs.Reply.{Reply, committed}
@@ -14,6 +14,7 @@ use Rattle.client_script.specs.Spent.{IsTold}
 use Rattle.client_script.specs.declared.command.Command.{Command}
 use Rattle.client_script.specs.declared.command.Command.TheVariants as command
 use Rattle.client_session.specs.Answered.{IsLater}
+use Rattle.client_session.specs.Steps.{HasNotLost}
 use Rattle.client_session.specs.declared.open.Open.{Open}
 use Rattle.client_session.specs.declared.open.Open.TheVariants as opens
 
@@ -112,3 +113,9 @@ pub record LooksAndTurns (c : Command) (old new : Open) (r : Reply) : Type 0 whe
   pub turns : TurnsTo c at new r
   pub loads : (v : Client) → v.transaction ≡ transaction_of at → v.last ≤ length (caller_of at).seen
       → AreAmong (number_begun r) looks.read
+
+-- a `write` that makes one try; it gives no reply where that found another's number
+abbrev pub TriesWrite : ℕ → Open → Open → Option Reply → Type 0
+TriesWrite callers old new (Some r) =
+    LooksAndTurns command.Write old new r × HasNotLost command.Write (caller_of old) (caller_of new)
+TriesWrite callers old new None = Looks old new × HasLost callers (caller_of old) (caller_of new)

@@ -1,32 +1,56 @@
 -- How the logic stores what contracts see of a session.
-use Rattle.std.specs.Prelude.{ℕ, Bool, List, Option, Some, None, refl}
+use Rattle.std.specs.Prelude.{◌≡◌, ◌≤◌, ◌<◌, ℕ, Bool, false, List, Option, Some, None, IsSome, length, take, refl}
 use Rattle.std.specs.Coded.{Coded, code_by, coded×, coded_ℕ, coded_bool, coded_list}
 use Rattle.mdb_datum.specs.Bytes.{Bytes}
 use Rattle.mem_txn.specs.Database.{Caller}
 use Rattle.mem_txn.specs.inner.Stored.{caller_code, no_caller}
 use Rattle.client_script.specs.declared.line.Line.{Line}
 use Rattle.client_script.specs.inner.StoredScript.{script_code}
+use Rattle.client_script.specs.Client.{Client, at_start}
+use Rattle.client_script.specs.Reply.{Reply, lines_text}
+use Rattle.client_script.specs.Session.{Runs}
 use Rattle.client_session.specs.Progress.{Progress}
+use Rattle.client_session.specs.declared.desk.Desk.{Desk}
+use Rattle.client_session.specs.inner.DeskView.{Follows}
+use Rattle.client_session.specs.inner.OpenView.{caller_of}
 
 abbrev pub Parts : Type 0
-Parts = ℕ × (List Line × (Caller × (Bytes × (Bool × Bool))))
+Parts = ℕ × (List Line × (Caller × (ℕ × (Bytes × Bool))))
 
 abbrev pub progress_code : Coded Progress
 progress_code = code_by Parts
     (coded× coded_ℕ (coded× script_code (coded× caller_code
-    (coded× (coded_list coded_ℕ) (coded× coded_bool coded_bool)))))
-    (λ s. (s.client, (s.script, (s.caller, (s.text, (s.done, s.failed))))))
+    (coded× coded_ℕ (coded× (coded_list coded_ℕ) coded_bool)))))
+    (λ s. (s.client, (s.script, (s.caller, (s.answered, (s.text, s.failed))))))
     (λ p. record {
       client = p.0;
       script = p.1.0;
       caller = p.1.1.0;
-      text = p.1.1.1.0;
-      done = p.1.1.1.1.0;
+      answered = p.1.1.1.0;
+      text = p.1.1.1.1.0;
       failed = p.1.1.1.1.1;
     })
     (λ _. refl)
 
--- the pass, which is always there
-abbrev pub pass_in : Option Caller → Caller
-pass_in None = no_caller
-pass_in (Some p) = p
+-- the pass on the desk, which is always there
+abbrev pub caller_in : Option Desk → Caller
+caller_in None = no_caller
+caller_in (Some d) = caller_of d.«open»
+
+-- The desk is there. The lines that are answered have replies whose text is kept, and while there
+-- are more, the desk has what the client knows after these replies.
+pub record HasDone (script : List Line) (desk : Option Desk) (answered : ℕ) (text : Bytes)
+    (failed : Bool) : Type 0 where
+  pub here : IsSome desk
+  pub within : answered ≤ length script
+  pub replies : List Reply
+  pub client : Client
+  pub runs : let p = caller_in desk in
+      Runs p.schema p.seen p.number at_start (take answered script) replies client
+  pub written : text ≡ lines_text (take answered script) replies
+  pub follows : failed ≡ false → answered < length script → (d : Desk) → desk ≡ Some d
+      → Follows d client
+
+-- memory was always found, and a line is left
+abbrev pub IsUnfinished : Progress → Type 0
+IsUnfinished s = (s.failed ≡ false) × (s.answered < length s.script)

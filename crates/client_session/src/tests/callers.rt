@@ -31,7 +31,7 @@ const AGAIN: Case = (
 );
 
 /// A database of two callers, the list of its passes without them, and they.
-fn pair(alloc: Global) -> Result<(Db, Passes, Pass, Pass), Fail>
+pub(super) fn pair(alloc: Global) -> Result<(Db, Passes, Pass, Pass), Fail>
     ensures one { IfOk result (λ made. IsCaller made.0 1 made.2) }
     ensures two { IfOk result (λ made. IsCaller made.0 2 made.3) }
     ensures both { IfOk result (λ made. made.0.callers ≡ 2) }

@@ -362,7 +362,7 @@ const SILENT_LINES: Case = (
 
 const NOTHING: Case = ("", "");
 
-const CASES: [Case; 14] = [
+pub(super) const CASES: [Case; 14] = [
     OWN_COMMIT,
     ORDER_BY_KEY,
     END_BYTE,

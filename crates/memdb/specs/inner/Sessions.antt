@@ -1,9 +1,10 @@
 -- The sessions of all clients.
-use Rattle.std.specs.Prelude.{◌≡◌, ◌+◌, ◌++◌, ℕ, List, [], ◌∷◌, false, ⊤}
+use Rattle.std.specs.Prelude.{◌≡◌, ◌+◌, ◌++◌, ℕ, List, [], ◌∷◌, length, ⊤}
 use Rattle.client_script.specs.Reply.{heading}
 use Rattle.client_script.specs.Session.{AreKnown}
 use Rattle.client_script.specs.declared.line.Line.{Line}
 use Rattle.client_session.specs.Answered.{HasAnswered, IsLater}
+use Rattle.client_session.specs.Progress as progress
 use Rattle.client_session.specs.Progress.{Progress}
 use Rattle.mdb_datum.specs.Bytes.{Bytes}
 use Rattle.mem_txn.specs.Database.{Caller, Database, IsOf}
@@ -13,35 +14,24 @@ abbrev pub AllKnown : List (List Line) → Type 0
 AllKnown [] = ⊤
 AllKnown (s ∷ ss) = AreKnown s × AllKnown ss
 
--- a session that isn't carried out yet
-abbrev pub new_session : Caller → List Line → Progress
-new_session p script = record {
-  client = p.number;
-  script = script;
-  caller = p;
-  text = [];
-  done = false;
-  failed = false;
-}
-
--- one for each pass and script
+-- sessions of which nothing is carried out yet, one for each pass and script
 abbrev pub begun : List Caller → List (List Line) → List Progress
-begun (p ∷ ps) (s ∷ ss) = new_session p s ∷ begun ps ss
+begun (p ∷ ps) (s ∷ ss) = progress.begun p.number s p ∷ begun ps ss
 begun ps ss = []
 
 -- the sessions may be carried out on the database
 abbrev pub AreReady : Database → List Progress → Type 0
 AreReady db [] = ⊤
 AreReady db (s ∷ ss) =
-    IsOf db s.caller × AreKnown s.script × (s.done ≡ false) × AreReady db ss
+    IsOf db s.caller × AreKnown s.script × AreReady db ss
 
--- each script is answered, and the pass is later
+-- all lines of each script are answered
 abbrev pub HaveAnswered : List Progress → List Progress → Type 0
 HaveAnswered [] [] = ⊤
 HaveAnswered [] (t ∷ ts) = ⊥
 HaveAnswered (s ∷ ss) [] = ⊥
 HaveAnswered (s ∷ ss) (t ∷ ts) =
-    HasAnswered s.caller t.caller s.script t.text × HaveAnswered ss ts
+    HasAnswered s t × (t.script ≡ s.script) × (t.answered ≡ length s.script) × HaveAnswered ss ts
 
 -- each session has a later pass of its client
 abbrev pub AreLater : List Progress → List Progress → Type 0

@@ -11,6 +11,8 @@ use Rattle.client_session.specs.inner.Carried.{AnswersLine}
 use Rattle.client_session.specs.inner.DeskView.{LooksAndReplies}
 use Rattle.client_session.specs.inner.OpenView.{caller_of}
 use Rattle.client_session.specs.inner.ReplyOf.{reply_of}
+use Rattle.client_session.proofs.OpenTurns.{on_err}
+use Rattle.client_session.proofs.UntoldCommits.{turn_stopped}
 use Rattle.client_session.proofs.run.answer_line.Goals as goal
 
 -- the reply that was added is the turn's
@@ -25,3 +27,6 @@ line_told l old new schema (Ok r) (Ok x) before after same turn added = record {
 
 pub returns-clause-answered : goal.returns-clause-answered
 returns-clause-answered g c = line_told c.args.line.now c.args.desk c.turn-desk.result.0 c.schema.result.now c.turn-desk.result.1 c.add_reply-added.result c.args.text.now.items c.add_reply-added.new.text.items (search (rules)) c.turn-desk.ensures.turn c.add_reply-added.ensures.added
+
+pub returns-clause-stopped : goal.returns-clause-stopped
+returns-clause-stopped g c = on_err _ (turn_stopped c.args.line.now c.args.desk c.turn-desk.result.0 (caller_of c.args.desk.«open»).schema c.turn-desk.result.1 c.turn-desk.ensures.turn c.turn-desk.ensures.unmade)

@@ -9,4 +9,5 @@ pub returns-in_default : goal.returns-in_default
 returns-in_default g c = record {
   turn = read_refused c.args.self c.requires.stands c.in_default.not-Nothing;
   caller = later_self (caller_of c.args.self);
+  unmade = tt;
 }

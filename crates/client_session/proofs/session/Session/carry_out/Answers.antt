@@ -1,6 +1,13 @@
 use Rattle.std.proofs.Common.{rules}
-use Rattle.client_session.proofs.OneMoreLine.{answered_ok}
+use Rattle.client_session.proofs.SessionSteps.{answered_ok, stopped_on_err}
 use Rattle.client_session.proofs.session.Session.carry_out.Goals as goal
 
 pub returns-clause-answered : goal.returns-clause-answered
-returns-clause-answered g c = answered_ok _ c.carry_out-pass.new.text.items c.carry_out-pass.result.1 _ _ _ _ _ _ c.carry_out-pass.ensures.answered (search (rules)) (search (rules)) (search (rules)) (search (rules))
+returns-clause-answered g c =
+    let f = c.self.inside in
+    answered_ok c.args.self.now f.client f.script f.desk c.replace-gone.new.self f.answered f.text.items f.failed c.self.view_is c.in-Some.desk c.carry_out-desk.result.0 c.carry_out-desk.result.1 c.carry_out-desk.new.text.items c.is_err-self-inside.result c.carry_out-desk.result.2 (search (rules)) (search (rules)) c.carry_out-desk.ensures.answered
+
+pub returns-clause-stopped : goal.returns-clause-stopped
+returns-clause-stopped g c =
+    let f = c.self.inside in
+    stopped_on_err c.args.self.now f.client f.script f.desk c.replace-gone.new.self f.answered f.text.items f.failed c.self.view_is c.in-Some.desk c.carry_out-desk.result.0 c.carry_out-desk.result.1 c.carry_out-desk.new.text.items c.is_err-self-inside.result c.carry_out-desk.result.2 (search (rules)) (search (rules)) c.carry_out-desk.ensures.stopped

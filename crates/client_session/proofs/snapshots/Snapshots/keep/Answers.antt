@@ -9,5 +9,6 @@ pub returns : goal.returns
 returns c = record {
   kept =
       let bytes : string_bytes c.in_ok-name.name ≡ c.args.name.now = search (rules) in
-      subst (λ (b : Bytes). OnOk c.put.result ((q : Bytes) → seen_in c.put.new.self q ≡ cond (bytes_eq b q) (Some (kept_view c.args.kept)) (seen_in c.args.self.now q))) bytes c.put.ensures;
+      subst (λ (b : Bytes). OnOk c.put.result ((q : Bytes) → seen_in c.put.new.self q ≡ cond (bytes_eq b q) (Some (kept_view c.args.kept)) (seen_in c.args.self.now q))) bytes c.put.ensures.kept;
+  unchanged = c.put.ensures.unchanged;
 }

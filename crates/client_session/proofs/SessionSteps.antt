@@ -1,0 +1,277 @@
+-- What a session keeps from one call to the next, and what a call tells.
+use Rattle.std.proofs.Common.{arith, ◌≡◌, refl, ap, subst, sym, ◌∙◌, ℕ, ◌+◌, ◌≤◌, ◌<◌, Bool, true, false, List, [], ◌++◌, length, take, Option, Some, Result, Ok, Err, OnErr, OnOk, slice_get, le_refl}
+use Rattle.std.proofs.lemmas.List.{append-nil}
+use Rattle.std.specs.declared.alloc.AllocError.{AllocError}
+use Rattle.mdb_datum.specs.Bytes.{Bytes}
+use Rattle.mdb_schema.specs.Schema.{DbSchema}
+use Rattle.mem_txn.specs.Database.{Caller}
+use Rattle.client_script.specs.Client.{at_start}
+use Rattle.client_script.specs.Reply.{Reply, lines_text}
+use Rattle.client_script.specs.Session.{Runs, Session}
+use Rattle.client_script.specs.declared.line.Line.{Line}
+use Rattle.client_session.proofs.OneMoreLine.{all_carried, from_here, kept_some, next, stops_here}
+use Rattle.client_session.proofs.OpenTurns.{later_self}
+use Rattle.client_session.specs.Answered.{AreTold, HasAnswered, HasStopped, IsLater, IsUntold, Tells}
+use Rattle.client_session.specs.Progress.{Progress}
+use Rattle.client_session.specs.Steps.{AnswersStep, HasNotLost}
+use Rattle.client_session.specs.declared.desk.Desk.{Desk}
+use Rattle.client_session.specs.declared.stepped.Stepped.TheVariants as stepped
+use Rattle.client_session.specs.inner.Carried.{AddsSome, AnswersLine, CarriedOn, CarriesOut, SoFar, StepsLine, Stops, StopsLine}
+use Rattle.client_session.specs.inner.DeskView.{Follows, IsTaken}
+use Rattle.client_session.specs.inner.OpenView.{caller_of}
+use Rattle.client_session.specs.inner.StoredSession.{HasDone, IsUnfinished, caller_in}
+
+-- the fields, as contracts see them
+abbrev pub progress_of : ℕ → List Line → Option Desk → ℕ → Bytes → Bool → Progress
+progress_of client script desk n text failed = record {
+  client = client;
+  script = script;
+  caller = caller_in desk;
+  answered = n;
+  text = text;
+  failed = failed;
+}
+
+-- ---- a call that answers no line
+
+pub tells_nothing : (s : Progress) (replies : List Reply) → AreTold s replies → Tells s s
+tells_nothing s replies told = record {
+  before = replies;
+  told_before = told;
+  replies = [];
+  told = subst (λ (rs : List Reply). AreTold s rs) (sym (append-nil replies)) told;
+  later = later_self s.caller;
+  read = [];
+  counts = sym (append-nil s.caller.counts);
+  loads = tt;
+}
+
+pub answers_nothing : (s : Progress) (replies : List Reply) → AreTold s replies → HasAnswered s s
+unfolding tells_nothing
+answers_nothing s replies told = record {
+  tells = tells_nothing s replies told;
+  made = [];
+  own = sym (append-nil s.caller.own);
+  told = refl;
+  rising = le_refl (length s.caller.seen);
+}
+
+pub stops_nothing : (s : Progress) (replies : List Reply) → AreTold s replies → HasStopped s s
+unfolding tells_nothing
+stops_nothing s replies told = record {
+  tells = tells_nothing s replies told;
+  made = [];
+  untold = [];
+  own = sym (append-nil s.caller.own);
+  told = refl;
+  rising = le_refl (length s.caller.seen);
+  last = tt;
+}
+
+-- ---- a call that answers some lines
+
+-- the same replies, of a pass with this schema and number
+session_of : (p q : Caller) (lines : List Line) (replies : List Reply) → q.schema ≡ p.schema → q.number ≡ p.number → Session p.schema q.seen p.number lines replies → Session q.schema q.seen q.number lines replies
+session_of p q lines replies schema number told = subst (λ (s : DbSchema). Session s q.seen q.number lines replies) (sym schema) (subst (λ (n : ℕ). Session p.schema q.seen n lines replies) (sym number) told)
+
+pub tells_some : (s t : Progress) → t.script ≡ s.script → AddsSome s.caller t.caller s.script s.answered t.answered s.text t.text → Tells s t
+tells_some s t same some =
+    let adds = some.adds in
+    let before = some.before in
+    let all = before.replies ++ adds.replies in
+    let told : Session t.caller.schema t.caller.seen t.caller.number (take t.answered s.script) all = session_of s.caller t.caller (take t.answered s.script) all adds.later.schema adds.later.number (adds.client, adds.runs) in
+    record {
+      before = before.replies;
+      told_before = record { session = (before.client, before.runs); written = before.written };
+      replies = adds.replies;
+      told = record {
+        session = subst (λ (ls : List Line). Session t.caller.schema t.caller.seen t.caller.number (take t.answered ls) all) (sym same) told;
+        written = adds.written ∙ ap (λ (ls : List Line). lines_text (take t.answered ls) all) (sym same);
+      };
+      later = adds.later;
+      read = adds.read;
+      counts = adds.counts;
+      loads = adds.loads;
+    }
+
+pub answers_some : (s t : Progress) → t.script ≡ s.script → CarriesOut s.caller t.caller s.script s.answered t.answered s.text t.text → HasAnswered s t
+unfolding tells_some
+answers_some s t same c = record {
+  tells = tells_some s t same c.some;
+  made = c.made;
+  own = c.own;
+  told = c.told;
+  rising = c.rising;
+}
+
+pub stops_some : (s t : Progress) → t.script ≡ s.script → Stops s.caller t.caller s.script s.answered t.answered s.text t.text → HasStopped s t
+unfolding tells_some
+stops_some s t same c = record {
+  tells = tells_some s t same c.some;
+  made = c.made;
+  untold = c.untold;
+  own = c.own;
+  told = c.told;
+  rising = c.rising;
+  last = subst (λ (ls : List Line). IsUntold ls t.answered c.untold) (sym same) c.last;
+}
+
+-- ---- what is kept
+
+-- a session that isn't finished has what its desk goes on with
+pub goes_on : (script : List Line) (desk : Option Desk) (n : ℕ) (text : Bytes) (failed : Bool) (d : Desk) → HasDone script desk n text failed → desk ≡ Some d → failed ≡ false → n < length script → SoFar script n d text
+goes_on script desk n text failed d h is ok more = record {
+  replies = h.replies;
+  client = h.client;
+  runs = subst (λ (o : Option Desk). let p = caller_in o in Runs p.schema p.seen p.number at_start (take n script) h.replies h.client) is h.runs;
+  follows = h.follows ok more d is;
+  written = h.written;
+}
+
+-- some lines were answered, and then none is left, or memory was wanting
+pub has_added : (pass : Caller) (script : List Line) (from to : ℕ) (old text : Bytes) (d : Desk) (failed : Bool) → AddsSome pass (caller_of d.«open») script from to old text → to ≤ length script → (failed ≡ false → to ≡ length script) → HasDone script (Some d) to text failed
+has_added pass script from to old text d failed some within all =
+    let adds = some.adds in
+    let p = caller_of d.«open» in
+    record {
+      here = refl;
+      within = within;
+      replies = some.before.replies ++ adds.replies;
+      client = adds.client;
+      runs = subst (λ (s : DbSchema). Runs s p.seen p.number at_start (take to script) (some.before.replies ++ adds.replies) adds.client) (sym adds.later.schema) (subst (λ (n : ℕ). Runs pass.schema p.seen n at_start (take to script) (some.before.replies ++ adds.replies) adds.client) (sym adds.later.number) adds.runs);
+      written = adds.written;
+      follows = λ ok more d' is. let end = all ok in absurd (omega (arith, end, more));
+    }
+
+-- lines were answered from one place on to another, and the desk has what the client knows then
+pub has_carried : (pass : Caller) (script : List Line) (from to : ℕ) (old text : Bytes) (d : Desk) (failed : Bool) → CarriedOn pass script from to old d text → to ≤ length script → HasDone script (Some d) to text failed
+has_carried pass script from to old text d failed on within =
+    let c = on.carried in
+    let p = caller_of d.«open» in
+    record {
+      here = refl;
+      within = within;
+      replies = on.before.replies ++ c.replies;
+      client = c.client;
+      runs = subst (λ (s : DbSchema). Runs s p.seen p.number at_start (take to script) (on.before.replies ++ c.replies) c.client) (sym c.later.schema) (subst (λ (n : ℕ). Runs pass.schema p.seen n at_start (take to script) (on.before.replies ++ c.replies) c.client) (sym c.later.number) c.runs);
+      written = c.written;
+      follows = λ ok more d' is. let same : d ≡ d' = cc in subst (λ (x : Desk). Follows x c.client) same c.follows;
+    }
+
+-- ---- a call, by the fields before and after
+
+module _ (s : Progress) (client : ℕ) (script : List Line) (desk desk' : Option Desk) (n : ℕ) (text : Bytes) (failed : Bool) (view_is : progress_of client script desk n text failed ≡ s) where
+  pub kept_told : HasDone script desk n text failed → (replies : List Reply) × AreTold s replies
+  kept_told h = (h.replies, subst (λ (x : Progress). AreTold x h.replies) view_is (record { session = (h.client, h.runs); written = h.written }))
+
+  pub same_told : (t : Progress) → t ≡ s → HasDone script desk n text failed → Tells s t
+  unfolding kept_told
+  same_told t same h = subst (λ (x : Progress). Tells s x) (sym same) (tells_nothing s (kept_told h).0 (kept_told h).1)
+
+  pub same_answered : (t : Progress) → t ≡ s → HasDone script desk n text failed → HasAnswered s t
+  unfolding kept_told
+  same_answered t same h = subst (λ (x : Progress). HasAnswered s x) (sym same) (answers_nothing s (kept_told h).0 (kept_told h).1)
+
+  pub same_stopped : HasDone script desk n text failed → HasStopped s s
+  unfolding kept_told
+  same_stopped h = stops_nothing s (kept_told h).0 (kept_told h).1
+
+  -- both desks are there
+  by_fields : (P : Progress → Progress → Type 0) (d d' : Desk) (n' : ℕ) (text' : Bytes) (failed' : Bool) → desk ≡ Some d → desk' ≡ Some d' → P (progress_of client script (Some d) n text failed) (progress_of client script (Some d') n' text' failed') → P s (progress_of client script desk' n' text' failed')
+  by_fields P d d' n' text' failed' is is' holds =
+      let t = progress_of client script desk' n' text' failed' in
+      subst (λ (x : Progress). P x t) view_is
+      (subst (λ (o : Option Desk). P (progress_of client script o n text failed) t) (sym is)
+      (subst (λ (o : Option Desk). P (progress_of client script (Some d) n text failed) (progress_of client script o n' text' failed')) (sym is') holds))
+
+  pub some_told : (d d' : Desk) (n' : ℕ) (text' : Bytes) (failed' : Bool) → desk ≡ Some d → desk' ≡ Some d' → AddsSome (caller_of d.«open») (caller_of d'.«open») script n n' text text' → Tells s (progress_of client script desk' n' text' failed')
+  some_told d d' n' text' failed' is is' some = by_fields Tells d d' n' text' failed' is is' (tells_some (progress_of client script (Some d) n text failed) (progress_of client script (Some d') n' text' failed') refl some)
+
+  pub all_answered : (d d' : Desk) (n' : ℕ) (text' : Bytes) (failed' : Bool) → desk ≡ Some d → desk' ≡ Some d' → CarriesOut (caller_of d.«open») (caller_of d'.«open») script n n' text text' → HasAnswered s (progress_of client script desk' n' text' failed')
+  all_answered d d' n' text' failed' is is' c = by_fields HasAnswered d d' n' text' failed' is is' (answers_some (progress_of client script (Some d) n text failed) (progress_of client script (Some d') n' text' failed') refl c)
+
+  pub answered_ok : (d d' : Desk) (n' : ℕ) (text' : Bytes) (failed' : Bool) (r : Result (Unit {0}) AllocError) → desk ≡ Some d → desk' ≡ Some d' → OnOk r (CarriesOut (caller_of d.«open») (caller_of d'.«open») script n n' text text') → OnOk r (HasAnswered s (progress_of client script desk' n' text' failed'))
+  answered_ok d d' n' text' failed' (Ok x) is is' c = all_answered d d' n' text' failed' is is' c
+  answered_ok d d' n' text' failed' (Err e) is is' c = tt
+
+  pub some_stopped : (d d' : Desk) (n' : ℕ) (text' : Bytes) (failed' : Bool) → desk ≡ Some d → desk' ≡ Some d' → Stops (caller_of d.«open») (caller_of d'.«open») script n n' text text' → HasStopped s (progress_of client script desk' n' text' failed')
+  some_stopped d d' n' text' failed' is is' c = by_fields HasStopped d d' n' text' failed' is is' (stops_some (progress_of client script (Some d) n text failed) (progress_of client script (Some d') n' text' failed') refl c)
+
+  pub stopped_on_err : (d d' : Desk) (n' : ℕ) (text' : Bytes) (failed' : Bool) (r : Result (Unit {0}) AllocError) → desk ≡ Some d → desk' ≡ Some d' → OnErr r (Stops (caller_of d.«open») (caller_of d'.«open») script n n' text text') → OnErr r (HasStopped s (progress_of client script desk' n' text' failed'))
+  stopped_on_err d d' n' text' failed' (Ok x) is is' c = tt
+  stopped_on_err d d' n' text' failed' (Err e) is is' c = some_stopped d d' n' text' failed' is is' c
+
+-- ---- a step
+
+-- a session that isn't finished, by its fields
+pub unfinished_fields : (s : Progress) (client : ℕ) (script : List Line) (desk : Option Desk) (n : ℕ) (text : Bytes) (failed : Bool) → progress_of client script desk n text failed ≡ s → IsUnfinished s → (failed ≡ false) × (n < length script)
+unfinished_fields s client script desk n text failed view_is unfinished = subst IsUnfinished (sym view_is) unfinished
+
+pub was_stopped : {P : Type 0} (r : Result Bool AllocError) (e : AllocError) → r ≡ Err e → OnErr r P → P
+was_stopped {P} r e is holds = subst (λ (x : Result Bool AllocError). OnErr x P) is holds
+
+pub line_answered : (callers : ℕ) (l : Line) (d d' : Desk) (text text' : Bytes) (r : Result Bool AllocError) (b : Bool) → r ≡ Ok b → b ≡ true → OnOk r (StepsLine callers l d d' text text' r) → AnswersLine l d d' text text' × HasNotLost l.command (caller_of d.«open») (caller_of d'.«open»)
+line_answered callers l d d' text text' r b is so told = subst (λ (x : Result Bool AllocError). OnOk x (StepsLine callers l d d' text text' x)) (is ∙ ap Ok so) told
+
+pub line_taken : (callers : ℕ) (l : Line) (d d' : Desk) (text text' : Bytes) (r : Result Bool AllocError) (b : Bool) → r ≡ Ok b → b ≡ false → OnOk r (StepsLine callers l d d' text text' r) → IsTaken callers l.command d d' × (text' ≡ text)
+line_taken callers l d d' text text' r b is so told = subst (λ (x : Result Bool AllocError). OnOk x (StepsLine callers l d d' text text' x)) (is ∙ ap Ok so) told
+
+module _ (s : Progress) (client : ℕ) (script : List Line) (desk desk' : Option Desk) (n : ℕ) (text text' : Bytes) (failed : Bool) (d d' : Desk) (view_is : progress_of client script desk n text failed ≡ s) (is : desk ≡ Some d) (is' : desk' ≡ Some d') (h : HasDone script desk n text failed) (unfinished : (failed ≡ false) × (n < length script)) where
+  old : Caller
+  old = caller_of d.«open»
+
+  new : Caller
+  new = caller_of d'.«open»
+
+  here : CarriedOn old script n n text d text
+  unfolding old
+  here = from_here script n d text (goes_on script desk n text failed d h is unfinished.0 unfinished.1)
+
+  kept : (n' : ℕ) (failed' : Bool) → HasDone script (Some d') n' text' failed' → HasDone script desk' n' text' failed'
+  kept n' failed' done = subst (λ (o : Option Desk). HasDone script o n' text' failed') (sym is') done
+
+  module _ (callers : ℕ) (l : Line) (n' : ℕ) (failed' : Bool) (one : n' ≡ n + 1) (there : slice_get script n ≡ Some l) (line : AnswersLine l d d' text text' × HasNotLost l.command (caller_of d.«open») (caller_of d'.«open»)) where
+    on_next : CarriedOn old script n n' text d' text'
+    unfolding old
+    on_next = subst (λ (k : ℕ). CarriedOn old script n k text d' text') (sym one) (next old script n n d d' text text text' l there here line.0)
+
+    carries_next : CarriesOut old new script n n' text text'
+    unfolding old new
+    carries_next = all_carried old new script n n' d' text text' refl on_next
+
+    pub next_kept : HasDone script desk' n' text' failed'
+    unfolding old
+    next_kept =
+        let lt = unfinished.1 in
+        kept n' failed' (has_carried old script n n' text text' d' failed' on_next (omega (arith, lt, one)))
+
+    pub next_told : Tells s (progress_of client script desk' n' text' failed')
+    unfolding old new
+    next_told = some_told s client script desk desk' n text failed view_is d d' n' text' failed' is is' carries_next.some
+
+    pub next_stepped : AnswersStep callers s (progress_of client script desk' n' text' failed') (Ok (stepped.Answered l.number))
+    unfolding old new
+    next_stepped = (
+      l,
+      (subst (λ (x : Progress). slice_get x.script x.answered ≡ Some l) view_is there, refl),
+      one ∙ ap (λ (x : Progress). x.answered + 1) view_is,
+      all_answered s client script desk desk' n text failed view_is d d' n' text' failed' is is' carries_next,
+      by_fields s client script desk desk' n text failed view_is (λ x y. HasNotLost l.command x.caller y.caller) d d' n' text' failed' is is' line.1,
+    )
+
+  -- nothing was answered, but the caller may have seen more
+  seen_some : IsLater old new → text' ≡ text → AddsSome old new script n n text text'
+  unfolding old new
+  seen_some later same = kept_some old new script n n d text text text' later same here
+
+  pub seen_told : (failed' : Bool) → IsLater (caller_of d.«open») (caller_of d'.«open») → text' ≡ text → Tells s (progress_of client script desk' n text' failed')
+  unfolding old new
+  seen_told failed' later same = some_told s client script desk desk' n text failed view_is d d' n text' failed' is is' (seen_some later same)
+
+  pub seen_stopped : (l : Line) (failed' : Bool) → slice_get script n ≡ Some l → IsLater (caller_of d.«open») (caller_of d'.«open») → text' ≡ text → StopsLine l d (caller_of d'.«open») → HasStopped s (progress_of client script desk' n text' failed')
+  unfolding old new
+  seen_stopped l failed' there later same stops = some_stopped s client script desk desk' n text failed view_is d d' n text' failed' is is' (stops_here old new script n n d text text text' l there later same stops here)
+
+  pub seen_kept : (failed' : Bool) → failed' ≡ true → IsLater (caller_of d.«open») (caller_of d'.«open») → text' ≡ text → HasDone script desk' n text' failed'
+  unfolding old new
+  seen_kept failed' fails later same = kept n failed' (has_added old script n n text text' d' failed' (seen_some later same) h.within (λ ok. cc))

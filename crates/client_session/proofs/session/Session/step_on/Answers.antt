@@ -1,0 +1,63 @@
+use Rattle.std.proofs.Common.{rules, ◌≡◌, ◌∙◌, ◌+◌, ap, sym, Some}
+use Rattle.std.specs.Prelude.{option_copied, slice_get}
+use Rattle.client_session.specs.Progress.{Progress}
+use Rattle.client_session.proofs.OneMoreLine.{known_at}
+use Rattle.client_session.proofs.OpenTurns.{on_err}
+use Rattle.client_session.proofs.SessionSteps.{line_answered, line_taken, next_kept, next_stepped, next_told, seen_kept, seen_stopped, seen_told, unfinished_fields, was_stopped}
+use Rattle.client_session.proofs.session.Session.step_on.Goals as goal
+
+pub step_line-desk-requires-clause-known : goal.step_line-desk-requires-clause-known
+step_line-desk-requires-clause-known g c =
+    known_at c.self.inside.script c.self.inside.answered c.in-Some.line.now (search (rules)) (sym c.get.ensures ∙ ap option_copied c.in-Some.is)
+
+pub invariant_of-self : goal.invariant_of-self
+invariant_of-self g c =
+    let f = c.self.inside in
+    let more = unfinished_fields c.args.self.now f.client f.script f.desk f.answered f.text.items f.failed c.self.view_is c.requires.open in
+    seen_kept c.args.self.now f.client f.script f.desk c.replace-gone.new.self f.answered f.text.items c.step_line-desk.new.text.items f.failed c.in-Some-take.desk c.step_line-desk.result.0 c.self.view_is (search (rules)) (search (rules)) c.self.invariant more c.is_err-self-inside.result (search (rules)) c.step_line-desk.ensures.caller (search (rules))
+
+pub returns-in_err-told-clause-told : goal.returns-in_err-told-clause-told
+returns-in_err-told-clause-told g c =
+    let f = c.self.inside in
+    let more = unfinished_fields c.args.self.now f.client f.script f.desk f.answered f.text.items f.failed c.self.view_is c.requires.open in
+    seen_told c.args.self.now f.client f.script f.desk c.replace-gone.new.self f.answered f.text.items c.step_line-desk.new.text.items f.failed c.in-Some-take.desk c.step_line-desk.result.0 c.self.view_is (search (rules)) (search (rules)) c.self.invariant more c.is_err-self-inside.result c.step_line-desk.ensures.caller (search (rules))
+
+pub invariant_of-self-then-branch : goal.invariant_of-self-then-branch
+invariant_of-self-then-branch g c =
+    let f = c.self.inside in
+    let more = unfinished_fields c.args.self.now f.client f.script f.desk f.answered f.text.items f.failed c.self.view_is c.requires.open in
+    let line = line_answered c.args.db.now.callers c.in-Some.line.now c.in-Some-take.desk c.step_line-desk.result.0 f.text.items c.step_line-desk.new.text.items c.step_line-desk.result.1 c.in_ok-told.field-0 (search (rules)) (search (rules)) c.step_line-desk.ensures.answered in
+    let there : slice_get f.script f.answered ≡ Some c.in-Some.line.now = sym c.get.ensures ∙ ap option_copied c.in-Some.is in
+    let one : c.args.next ≡ f.answered + 1 = c.requires.next ∙ sym (ap (λ (x : Progress). x.answered + 1) c.self.view_is) in
+    next_kept c.args.self.now f.client f.script f.desk c.replace-gone.new.self f.answered f.text.items c.step_line-desk.new.text.items f.failed c.in-Some-take.desk c.step_line-desk.result.0 c.self.view_is (search (rules)) (search (rules)) c.self.invariant more c.args.db.now.callers c.in-Some.line.now c.args.next c.is_err-self-inside.result one there line
+
+pub returns-then-branch-clause-told : goal.returns-then-branch-clause-told
+returns-then-branch-clause-told g c =
+    let f = c.self.inside in
+    let more = unfinished_fields c.args.self.now f.client f.script f.desk f.answered f.text.items f.failed c.self.view_is c.requires.open in
+    let line = line_answered c.args.db.now.callers c.in-Some.line.now c.in-Some-take.desk c.step_line-desk.result.0 f.text.items c.step_line-desk.new.text.items c.step_line-desk.result.1 c.in_ok-told.field-0 (search (rules)) (search (rules)) c.step_line-desk.ensures.answered in
+    let there : slice_get f.script f.answered ≡ Some c.in-Some.line.now = sym c.get.ensures ∙ ap option_copied c.in-Some.is in
+    let one : c.args.next ≡ f.answered + 1 = c.requires.next ∙ sym (ap (λ (x : Progress). x.answered + 1) c.self.view_is) in
+    next_told c.args.self.now f.client f.script f.desk c.replace-gone.new.self f.answered f.text.items c.step_line-desk.new.text.items f.failed c.in-Some-take.desk c.step_line-desk.result.0 c.self.view_is (search (rules)) (search (rules)) c.self.invariant more c.args.db.now.callers c.in-Some.line.now c.args.next c.is_err-self-inside.result one there line
+
+pub returns-then-branch-clause-stepped : goal.returns-then-branch-clause-stepped
+returns-then-branch-clause-stepped g c =
+    let f = c.self.inside in
+    let more = unfinished_fields c.args.self.now f.client f.script f.desk f.answered f.text.items f.failed c.self.view_is c.requires.open in
+    let line = line_answered c.args.db.now.callers c.in-Some.line.now c.in-Some-take.desk c.step_line-desk.result.0 f.text.items c.step_line-desk.new.text.items c.step_line-desk.result.1 c.in_ok-told.field-0 (search (rules)) (search (rules)) c.step_line-desk.ensures.answered in
+    let there : slice_get f.script f.answered ≡ Some c.in-Some.line.now = sym c.get.ensures ∙ ap option_copied c.in-Some.is in
+    let one : c.args.next ≡ f.answered + 1 = c.requires.next ∙ sym (ap (λ (x : Progress). x.answered + 1) c.self.view_is) in
+    next_stepped c.args.self.now f.client f.script f.desk c.replace-gone.new.self f.answered f.text.items c.step_line-desk.new.text.items f.failed c.in-Some-take.desk c.step_line-desk.result.0 c.self.view_is (search (rules)) (search (rules)) c.self.invariant more c.args.db.now.callers c.in-Some.line.now c.args.next c.is_err-self-inside.result one there line
+
+pub returns-else-branch-clause-told : goal.returns-else-branch-clause-told
+returns-else-branch-clause-told g c =
+    let f = c.self.inside in
+    let more = unfinished_fields c.args.self.now f.client f.script f.desk f.answered f.text.items f.failed c.self.view_is c.requires.open in
+    let taken = line_taken c.args.db.now.callers c.in-Some.line.now c.in-Some-take.desk c.step_line-desk.result.0 f.text.items c.step_line-desk.new.text.items c.step_line-desk.result.1 c.in_ok-told.field-0 (search (rules)) (search (rules)) c.step_line-desk.ensures.answered in
+    seen_told c.args.self.now f.client f.script f.desk c.replace-gone.new.self f.answered f.text.items c.step_line-desk.new.text.items f.failed c.in-Some-take.desk c.step_line-desk.result.0 c.self.view_is (search (rules)) (search (rules)) c.self.invariant more c.is_err-self-inside.result c.step_line-desk.ensures.caller taken.1
+
+pub returns-in_err-told-clause-stopped : goal.returns-in_err-told-clause-stopped
+returns-in_err-told-clause-stopped g c =
+    let f = c.self.inside in
+    let more = unfinished_fields c.args.self.now f.client f.script f.desk f.answered f.text.items f.failed c.self.view_is c.requires.open in
+    on_err _ (seen_stopped c.args.self.now f.client f.script f.desk c.replace-gone.new.self f.answered f.text.items c.step_line-desk.new.text.items f.failed c.in-Some-take.desk c.step_line-desk.result.0 c.self.view_is (search (rules)) (search (rules)) c.self.invariant more c.in-Some.line.now c.is_err-self-inside.result (sym c.get.ensures ∙ ap option_copied c.in-Some.is) c.step_line-desk.ensures.caller (search (rules)) (was_stopped c.step_line-desk.result.1 _ (search (rules)) c.step_line-desk.ensures.stopped))
