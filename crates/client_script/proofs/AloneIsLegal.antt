@@ -10,7 +10,7 @@ use Rattle.client_script.specs.Alone.{alone, then_told, joined, commit_printed}
 use Rattle.client_script.specs.Client.{Writing, Transaction, writing, Client, at_start}
 use Rattle.client_script.specs.Legal.{Legal, printed, number_printed, callers}
 use Rattle.client_script.specs.Reply.{Reply, committed, output_text}
-use Rattle.client_script.specs.Session.{AreKnown, IsEntry, Runs}
+use Rattle.client_script.specs.Session.{AreKnown, IsEntry, of_rows, Runs}
 use Rattle.client_script.specs.Spent.{by_turn}
 use Rattle.client_script.specs.Turn.{turn, outcome, is_of_watches}
 use Rattle.client_script.specs.declared.line.Line.{Line}
@@ -53,8 +53,7 @@ module _ (schema : DbSchema) (H : History) (v : Client) (l : Line) (ls : List Li
             now = length H;
             not_older = search (arith, last);
             there = rw (grown, length-append H (cs ++ lives.more)) (search (arith));
-            known = known;
-            says = by_turn (ap (λ (G : History). outcome v (turn schema G (length H) v l.command)) grown ∙ ap (outcome v) (turn_longer schema H (cs ++ lives.more) (length H) v l.command within) ∙ says);
+            says = of_rows known (by_turn (ap (λ (G : History). outcome v (turn schema G (length H) v l.command)) grown ∙ ap (outcome v) (turn_longer schema H (cs ++ lives.more) (length H) v l.command within) ∙ says));
             entry = entry lives.more grown;
           },
           lives.runs,

@@ -17,13 +17,14 @@ use Rattle.mdb_schema.specs.Write.{Write, put, remove, step}
 use Rattle.client_script.specs.Client.{Sight, Writing, Transaction, closed, reading, writing, Client, at_start, state_seen, snapshot_named, none_open, some_open, read_open, write_open, sight_of, Judged}
 use Rattle.client_script.specs.Legal.{Legal, printed, number_printed, all_printed, callers}
 use Rattle.client_script.specs.Reply.{Reply, write_at, deleted, wiped, answered, refused}
-use Rattle.client_script.specs.Session.{Answers, Runs, Sessions}
+use Rattle.client_script.specs.Session.{IsAnswered, of_rows, of_watches, Answers, Runs, Sessions}
 use Rattle.client_script.proofs.SpentIds.{told_so, told_turn}
+use Rattle.client_script.proofs.WatchLines.{aside}
 use Rattle.client_script.specs.Turn.{Turn, turn, write_turn, wipe_turn, question_turn, outcome, stepped, asked, indexes_of, with_writes, with_transaction, insert_reply, commit_limit}
 use Rattle.client_script.specs.declared.command.Command.{Command}
 use Rattle.client_script.specs.declared.command.Command.TheVariants as command
 use Rattle.client_script.specs.declared.line.Line.{Line}
-use Rattle.client_script.proofs.OneClient.{writing_is, numbered}
+use Rattle.client_script.proofs.OneClient.{writing_is, numbered, rows_told}
 use Rattle.client_script.proofs.OneHistory.{commit_told, either, either_pair, pair_of}
 
 -- ---- a write transaction stands on fewer commits
@@ -99,7 +100,11 @@ module _ (schema : DbSchema) (H : History) where
 
   few_after : (client : ℕ) (v next : Client) (c : Command) (r : Reply) → FewBefore v.transaction → Answers schema H client v c r next → FewBefore next.transaction
   unfolding Few
-  few_after client v next c r few a = told_so Few schema H a.now v c r next a.says (few_next schema H a.now v c few) (λ rule. few)
+  few_after client v next c r few a = of a.says
+    where
+      of : IsAnswered schema H client a.now v c r next → FewBefore next.transaction
+      of (of_rows known says) = told_so Few schema H a.now v c r next says (few_next schema H a.now v c few) (λ rule. few)
+      of (of_watches says) = subst FewBefore (sym (aside a.now v schema H client c r next says).transaction) few
 
   each_number : (client : ℕ) (v end : Client) (ls : List Line) (rs : List Reply) (m : ℕ) → FewBefore v.transaction → Runs schema H client v ls rs end → Contains (printed rs) m → m ≤ commit_limit
   each_number client v end [] [] m few runs told = absurd (Contains-nil m told)
@@ -140,7 +145,7 @@ write_answered schema H client v next r a few none = of (nat_lt a.now commit_lim
     told b e =
         subst (λ (x : Bool). (outcome v (passed (codes "commits-spent") x >>= (λ u. Ok (write_at a.now, with_transaction a.now (writing (record { number = a.now; writes = []; texts = [] })) v)))).0 ≡ r) e
         (subst (λ (t : Transaction). (outcome v (none_open t >>= (λ u'. passed (codes "commits-spent") (nat_lt a.now commit_limit) >>= (λ u. Ok (write_at a.now, with_transaction a.now (writing (record { number = a.now; writes = []; texts = [] })) v))))).0 ≡ r) none
-        (ap (λ (p : Reply × Client). p.0) (told_turn schema H a.now v command.Write r next refl a.says)))
+        (ap (λ (p : Reply × Client). p.0) (told_turn schema H a.now v command.Write r next refl (rows_told schema H client a.now v command.Write r next refl a.says))))
 
     of : (b : Bool) → nat_lt a.now commit_limit ≡ b → ((a.now < commit_limit) × (r ≡ write_at a.now)) ⊎ ((a.now ≡ commit_limit) × (r ≡ refused (codes "commits-spent")))
     of true e = inl (ltb-true a.now commit_limit e, sym (told true e))

@@ -21,14 +21,14 @@ use Rattle.client_script.specs.Alone.{alone, commit_printed}
 use Rattle.client_script.specs.Client.{Sight, Writing, Transaction, closed, reading, writing, Client, at_start, state_seen, snapshot_named, none_open, some_open, read_open, write_open, sight_of, Judged}
 use Rattle.client_script.specs.Legal.{Legal, printed, number_printed, all_printed, callers}
 use Rattle.client_script.specs.Reply.{Reply, committed, deleted, wiped, answered, output_text}
-use Rattle.client_script.specs.Session.{IsEntry, Runs, Sessions}
+use Rattle.client_script.specs.Session.{AreKnown, IsEntry, Runs, Sessions}
 use Rattle.client_script.specs.Spent.{is_write, IsTold, by_turn, without_ids}
 use Rattle.client_script.specs.Turn.{Turn, turn, write_turn, wipe_turn, question_turn, outcome, stepped, asked, indexes_of, with_writes, insert_reply, commit_limit}
 use Rattle.client_script.specs.declared.command.Command.{Command}
 use Rattle.client_script.specs.declared.command.Command.TheVariants as command
 use Rattle.client_script.specs.declared.line.Line.{Line}
 use Rattle.client_script.proofs.LongerHistory.{IsWithin, next_within, start_within}
-use Rattle.client_script.proofs.OneClient.{AreTurns, IsOn, Keeps, same, commits, keeps, StandsOn, Prints, told_here, later, later_commit, next_commit, within_history, within_up, told_each, as_many, printed_few, one_session, self_le, writing_is}
+use Rattle.client_script.proofs.OneClient.{AreTurns, IsOn, Keeps, same, commits, keeps, StandsOn, Prints, told_here, later, later_commit, next_commit, within_history, within_up, told_each, as_many, printed_few, one_session, self_le, writing_is, rows_told}
 use Rattle.client_script.proofs.RowCounts.{rows_in, rows_in-empty, put_count, remove_count, wipe_count, wipe_by_prefix_count, after_both}
 
 -- after so many lines: a transaction stands on the first k commits, and all writes until now, with
@@ -185,32 +185,32 @@ module _ (schema : DbSchema) (H : History) (laws : IsLawfulSchema schema) (few :
       let open_one : Bounded schema H k lines (writing t) = subst (Bounded schema H k lines) is bound in
       others (suc k) on' (within_up k next within) (within_history H k t r texts told open_one.0 entry) (later_commit schema H few k r rs texts told prints) (committed_base schema H k lines t r texts told entry open_one) (closed_bound schema H k (suc lines) next.transaction bound' on'.transaction)
 
-  each_turn : (ls : List Line) (rs : List Reply) (v end : Client) (k lines : ℕ) (runs : Runs schema H 1 v ls rs end) → lines + length ls < 2 ^ 35 → IsOn k v → IsWithin k v → k ≤ length H → Prints k (length H) (printed rs) → writes_in (take k H) + rows_in (state_at schema H k) ≤ 2 * lines → Bounded schema H k lines v.transaction → AreTurns schema H 1 v ls rs end runs
+  each_turn : (ls : List Line) (rs : List Reply) (v end : Client) (k lines : ℕ) (runs : Runs schema H 1 v ls rs end) → AreKnown ls → lines + length ls < 2 ^ 35 → IsOn k v → IsWithin k v → k ≤ length H → Prints k (length H) (printed rs) → writes_in (take k H) + rows_in (state_at schema H k) ≤ 2 * lines → Bounded schema H k lines v.transaction → AreTurns schema H 1 v ls rs end runs
   unfolding Others Next
-  each_turn [] [] v end k lines runs short on within there prints base bound = tt
-  each_turn [] (r ∷ rs) v end k lines runs short on within there prints base bound = tt
-  each_turn (l ∷ ls) [] v end k lines runs short on within there prints base bound = tt
-  each_turn (l ∷ ls) (r ∷ rs) v end k lines (next, a, runs) short on within there prints base bound =
-      let is : outcome v (turn schema H a.now v l.command) ≡ (r, next) = told_turn schema H k lines laws base a.now v next l.command r (omega (arith, short)) bound a.says in
+  each_turn [] [] v end k lines runs known short on within there prints base bound = tt
+  each_turn [] (r ∷ rs) v end k lines runs known short on within there prints base bound = tt
+  each_turn (l ∷ ls) [] v end k lines runs known short on within there prints base bound = tt
+  each_turn (l ∷ ls) (r ∷ rs) v end k lines (next, a, runs) known short on within there prints base bound =
+      let is : outcome v (turn schema H a.now v l.command) ≡ (r, next) = told_turn schema H k lines laws base a.now v next l.command r (omega (arith, short)) bound (rows_told schema H 1 a.now v l.command r next known.0 a.says) in
       let told : outcome v (turn schema H k v l.command) ≡ (r, next) = told_here schema H k v next l ls r rs end a is runs on few prints in
       let bound' : Bounded schema H k (suc lines) next.transaction = subst (λ (p : Reply × Client). Bounded schema H k (suc lines) p.1.transaction) told (next_bounded schema H k lines laws base k v l.command (λ reads. refl) bound) in
-      (is, others_turn k lines v next ls r rs end runs on (subst (λ (p : Reply × Client). IsWithin k p.1) told (next_within k schema H k v l.command (self_le k) within)) there prints a.entry base bound bound' (λ k' on' within' there' prints' base' bound''. each_turn ls rs next end k' (suc lines) runs (omega (arith, short)) on' within' there' prints' base' bound'') (subst (λ (p : Reply × Client). Keeps k v p) told (keeps k schema H v l.command on)))
+      (is, others_turn k lines v next ls r rs end runs on (subst (λ (p : Reply × Client). IsWithin k p.1) told (next_within k schema H k v l.command (self_le k) within)) there prints a.entry base bound bound' (λ k' on' within' there' prints' base' bound''. each_turn ls rs next end k' (suc lines) runs known.1 (omega (arith, short)) on' within' there' prints' base' bound'') (subst (λ (p : Reply × Client). Keeps k v p) told (keeps k schema H v l.command on)))
 
-few_turns : (schema : DbSchema) (H : History) (script : List Line) (rs : List Reply) → IsLawfulSchema schema → length script < 2 ^ 35 → IsPermutation (enumerate_from 1 (callers H)) (all_printed 1 (rs ∷ [])) → (end : Client) (runs : Runs schema H 1 at_start script rs end) → AreTurns schema H 1 at_start script rs end runs
-few_turns schema H script rs laws short numbers end runs =
+few_turns : (schema : DbSchema) (H : History) (script : List Line) (rs : List Reply) → IsLawfulSchema schema → AreKnown script → length script < 2 ^ 35 → IsPermutation (enumerate_from 1 (callers H)) (all_printed 1 (rs ∷ [])) → (end : Client) (runs : Runs schema H 1 at_start script rs end) → AreTurns schema H 1 at_start script rs end runs
+few_turns schema H script rs laws known short numbers end runs =
     let size = as_many schema H script rs numbers in
     let lines = printed_few schema H 1 at_start script rs end runs in
     let few : length H < commit_limit = fewer (length H) (length (printed rs)) (length script) size lines short in
     let none = rows_in-empty schema in
-    each_turn schema H laws few script rs at_start end 0 0 runs (omega (arith, short)) (record { last = refl; transaction = tt }) (start_within 0) (search (arith)) (told_each schema H script rs numbers) (omega (arith, none)) tt
+    each_turn schema H laws few script rs at_start end 0 0 runs known (omega (arith, short)) (record { last = refl; transaction = tt }) (start_within 0) (search (arith)) (told_each schema H script rs numbers) (omega (arith, none)) tt
   where
     fewer : (a b c : ℕ) → a ≡ b → b ≤ c → c < 2 ^ 35 → a < 2 ^ 63
     fewer a b c e le lt = omega arith
 
--- for one client with fewer than 2^35 lines the legal outputs are one text, and their histories one
--- history
-pub one_output_of_few : (schema : DbSchema) (name : Bytes) (script : List Line) (out : Bytes) → IsLawfulSchema schema → length script < 2 ^ 35 → Legal schema (name ∷ []) (script ∷ []) out → out ≡ output_text 1 (name ∷ []) (script ∷ []) ((alone schema script [] at_start).0 ∷ [])
-one_output_of_few schema name script out laws short legal = of legal.replies legal.written legal.numbers legal.sessions
+-- for one client with fewer than 2^35 lines, none of watches, the legal outputs are one text, and
+-- their histories one history
+pub one_output_of_few : (schema : DbSchema) (name : Bytes) (script : List Line) (out : Bytes) → IsLawfulSchema schema → AreKnown script → length script < 2 ^ 35 → Legal schema (name ∷ []) (script ∷ []) out → out ≡ output_text 1 (name ∷ []) (script ∷ []) ((alone schema script [] at_start).0 ∷ [])
+one_output_of_few schema name script out laws known short legal = of legal.replies legal.written legal.numbers legal.sessions
   where
     few : (n : ℕ) → n < 2 ^ 35 → n < 2 ^ 63
     few n lt = omega arith
@@ -218,6 +218,6 @@ one_output_of_few schema name script out laws short legal = of legal.replies leg
     of : (rss : List (List Reply)) → out ≡ output_text 1 (name ∷ []) (script ∷ []) rss → IsPermutation (enumerate_from 1 (callers legal.history)) (all_printed 1 rss) → Sessions schema legal.history 1 (script ∷ []) rss → out ≡ output_text 1 (name ∷ []) (script ∷ []) ((alone schema script [] at_start).0 ∷ [])
     of [] written numbers sessions = absurd sessions
     of (rs ∷ []) written numbers sessions =
-        let turns = few_turns schema legal.history script rs laws short numbers sessions.0.0 sessions.0.1 in
+        let turns = few_turns schema legal.history script rs laws known short numbers sessions.0.0 sessions.0.1 in
         written ∙ ap (λ (p : List Reply × History). output_text 1 (name ∷ []) (script ∷ []) (p.0 ∷ [])) (sym (one_session schema legal.history script rs numbers (few (length script) short) sessions.0 turns))
     of (rs ∷ rs' ∷ rss) written numbers sessions = absurd sessions.1

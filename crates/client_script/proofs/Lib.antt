@@ -13,3 +13,4 @@ pub mod OneHistory
 pub mod RowCounts
 pub mod ScriptAnswered
 pub mod SpentIds
+pub mod WatchLines

@@ -1,5 +1,5 @@
 -- A session stays one when the history grows: what a client was told looks at no later commit.
-use Rattle.std.proofs.Common.{arith, ◌≡◌, refl, ap, subst, sym, ◌∙◌, ℕ, zero, suc, ◌+◌, ◌≤◌, ◌^◌, List, [], ◌∷◌, ◌++◌, length, Option, Some, None, Ok, Err, slice_get, false}
+use Rattle.std.proofs.Common.{arith, ◌≡◌, refl, ap, subst, sym, ◌∙◌, ℕ, zero, suc, ◌+◌, ◌≤◌, ◌^◌, ◌⊎◌, inl, inr, List, [], ◌∷◌, ◌++◌, length, Option, Some, None, Ok, Err, slice_get, false}
 use Rattle.std.specs.Bool.{⊤}
 use Rattle.std.specs.Str.{bytes_eq}
 use Rattle.std.specs.Prelude.{if◌then◌else◌, is_some, not, nat_lt, Bool, true, codes}
@@ -8,19 +8,22 @@ use Rattle.mdb_datum.specs.Bytes.{Bytes}
 use Rattle.mdb_datum.specs.Row.{Fields}
 use Rattle.mdb_schema.specs.Answer.{Asked, ask}
 use Rattle.mdb_schema.specs.Query.{Query}
+use Rattle.mdb_schema.specs.Watchable.{is_watchable}
 use Rattle.mdb_schema.specs.History.{History, after_commits, state_at, after_writes, writes_in}
 use Rattle.mdb_schema.specs.Schema.{DbSchema}
 use Rattle.mdb_schema.specs.State.{State, empty_state}
 use Rattle.mdb_schema.specs.Tests.{◌>>=◌, needed, passed}
 use Rattle.mdb_schema.specs.Write.{Write, put, remove, step}
 use Rattle.mdb_schema.specs.Wipe.{wipe, wipe_by_prefix}
-use Rattle.client_script.specs.Client.{Sight, Writing, Transaction, closed, reading, writing, Snapshot, Client, at_start, state_seen, snapshot_named, none_open, some_open, read_open, write_open, sight_of, Judged}
-use Rattle.client_script.specs.Reply.{Reply, read_at, write_at, ended, committed, aborted, inserted, replaced, deleted, wiped, deferred, answered, kept_at, kept_within, refused}
+use Rattle.client_script.specs.Client.{Sight, Watching, watch_named, Writing, Transaction, closed, reading, writing, Snapshot, Client, at_start, state_seen, snapshot_named, none_open, some_open, read_open, write_open, sight_of, Judged}
+use Rattle.client_script.specs.Reply.{Reply, read_at, write_at, ended, committed, aborted, inserted, replaced, deleted, wiped, deferred, answered, kept_at, kept_within, quiet_at, fired_at, sized, woken_by, stopped_at, refused}
 use Rattle.client_script.specs.Turn.{Turn, insert_reply, turn, write_turn, wipe_turn, question_turn, outcome, stepped, asked, indexes_of, with_writes, commit_limit}
 use Rattle.client_script.specs.Legal.{number_printed}
-use Rattle.client_script.specs.Session.{IsCommit, IsEntry, Answers, Runs, Session}
+use Rattle.client_script.specs.Session.{IsCommit, IsEntry, IsAnswered, of_rows, of_watches, Answers, Runs, Session}
 use Rattle.client_script.specs.Spent.{IsSpent, IsTold, by_turn, without_ids}
+use Rattle.client_script.specs.Watching.{IsWatchTold, asked_watched, watch_turn, with_watch}
 use Rattle.client_script.proofs.SpentIds.{told_so}
+use Rattle.client_script.proofs.WatchLines.{IsAside, aside, watch_line_longer}
 use Rattle.client_script.specs.declared.command.Command.{Command}
 use Rattle.client_script.specs.declared.command.Command.TheVariants as command
 use Rattle.client_script.specs.declared.line.Line.{Line}
@@ -47,20 +50,20 @@ pub record IsWithin (n : ℕ) (v : Client) : Type 0 where
   pub transaction : StandsWithin n v.transaction
   pub snapshots : AllWithin n v.snapshots
 
-client : ℕ → Transaction → List Snapshot → Client
-client last t ss = record { last = last; transaction = t; snapshots = ss }
+client : ℕ → Transaction → List Snapshot → Watching → Client
+client last t ss g = record { last = last; transaction = t; snapshots = ss; watching = g }
 
-write_longer : (schema : DbSchema) (H more : History) (last : ℕ) (t : Transaction) (ss : List Snapshot) (w : Write) (table : Bytes) (reply : Option Fields → Reply) → StandsWithin (length H) t → write_turn schema (H ++ more) (client last t ss) w table reply ≡ write_turn schema H (client last t ss) w table reply
+write_longer : (schema : DbSchema) (H more : History) (last : ℕ) (t : Transaction) (ss : List Snapshot) (g : Watching) (w : Write) (table : Bytes) (reply : Option Fields → Reply) → StandsWithin (length H) t → write_turn schema (H ++ more) (client last t ss g) w table reply ≡ write_turn schema H (client last t ss g) w table reply
 unfolding client
-write_longer schema H more last closed ss w table reply within = refl
-write_longer schema H more last (reading m) ss w table reply within = refl
-write_longer schema H more last (writing t) ss w table reply within = rw (state_longer schema H more t.number within) refl
+write_longer schema H more last closed ss g w table reply within = refl
+write_longer schema H more last (reading m) ss g w table reply within = refl
+write_longer schema H more last (writing t) ss g w table reply within = rw (state_longer schema H more t.number within) refl
 
-wipe_longer : (wiping : State → Asked (List Write)) (schema : DbSchema) (H more : History) (last : ℕ) (t : Transaction) (ss : List Snapshot) → StandsWithin (length H) t → wipe_turn wiping schema (H ++ more) (client last t ss) ≡ wipe_turn wiping schema H (client last t ss)
+wipe_longer : (wiping : State → Asked (List Write)) (schema : DbSchema) (H more : History) (last : ℕ) (t : Transaction) (ss : List Snapshot) (g : Watching) → StandsWithin (length H) t → wipe_turn wiping schema (H ++ more) (client last t ss g) ≡ wipe_turn wiping schema H (client last t ss g)
 unfolding client
-wipe_longer wiping schema H more last closed ss within = refl
-wipe_longer wiping schema H more last (reading m) ss within = refl
-wipe_longer wiping schema H more last (writing t) ss within = rw (state_longer schema H more t.number within) refl
+wipe_longer wiping schema H more last closed ss g within = refl
+wipe_longer wiping schema H more last (reading m) ss g within = refl
+wipe_longer wiping schema H more last (writing t) ss g within = rw (state_longer schema H more t.number within) refl
 
 -- a sight that is there is one of the first commits
 abbrev SightWithin : ℕ → Judged Sight → Type 0
@@ -100,10 +103,10 @@ turn_longer schema H more now v command.Write within = refl
 turn_longer schema H more now v command.End within = refl
 turn_longer schema H more now v command.Commit within = refl
 turn_longer schema H more now v command.Abort within = refl
-turn_longer schema H more now v (command.Insert table row) within = write_longer schema H more v.last v.transaction v.snapshots (put table row) table insert_reply within.transaction
-turn_longer schema H more now v (command.Delete table row) within = write_longer schema H more v.last v.transaction v.snapshots (remove table row) table (λ was. deleted) within.transaction
-turn_longer schema H more now v (command.DeleteAll q) within = wipe_longer (λ s. wipe schema s q) schema H more v.last v.transaction v.snapshots within.transaction
-turn_longer schema H more now v (command.DeletePrefix q) within = wipe_longer (λ s. wipe_by_prefix schema s q) schema H more v.last v.transaction v.snapshots within.transaction
+turn_longer schema H more now v (command.Insert table row) within = write_longer schema H more v.last v.transaction v.snapshots v.watching (put table row) table insert_reply within.transaction
+turn_longer schema H more now v (command.Delete table row) within = write_longer schema H more v.last v.transaction v.snapshots v.watching (remove table row) table (λ was. deleted) within.transaction
+turn_longer schema H more now v (command.DeleteAll q) within = wipe_longer (λ s. wipe schema s q) schema H more v.last v.transaction v.snapshots v.watching within.transaction
+turn_longer schema H more now v (command.DeletePrefix q) within = wipe_longer (λ s. wipe_by_prefix schema s q) schema H more v.last v.transaction v.snapshots v.watching within.transaction
 turn_longer schema H more now v (command.Defer text) within = refl
 turn_longer schema H more now v (command.Question q) within = question_longer schema H more v (some_open v.transaction) q (open_within (length H) v.transaction within.transaction)
 turn_longer schema H more now v (command.Snapshot name) within = refl
@@ -124,7 +127,7 @@ within_then n v (Ok a) f within each = each a refl
 within_then n v (Err rule) f within each = within
 
 -- only its transaction is another
-within_as : (n : ℕ) (v : Client) (last : ℕ) (t : Transaction) → IsWithin n v → StandsWithin n t → IsWithin n (record { last = last; transaction = t; snapshots = v.snapshots })
+within_as : (n : ℕ) (v : Client) (last : ℕ) (t : Transaction) → IsWithin n v → StandsWithin n t → IsWithin n (record { last = last; transaction = t; snapshots = v.snapshots; watching = v.watching })
 within_as n v last t within stands = record { transaction = stands; snapshots = within.snapshots }
 
 writing_within : (n : ℕ) (t : Transaction) (x : Writing) → write_open t ≡ Ok x → StandsWithin n t → x.number ≤ n
@@ -204,6 +207,11 @@ entry_longer H more client t deferred entry = tt
 entry_longer H more client t (answered a) entry = tt
 entry_longer H more client t (kept_at n) entry = tt
 entry_longer H more client t (kept_within n) entry = tt
+entry_longer H more client t (quiet_at n) entry = tt
+entry_longer H more client t (fired_at n) entry = tt
+entry_longer H more client t (sized k) entry = tt
+entry_longer H more client t (woken_by name n) entry = tt
+entry_longer H more client t (stopped_at n) entry = tt
 entry_longer H more client t (refused rule) entry = tt
 
 -- where no commit is told, there is none to be an entry
@@ -221,6 +229,11 @@ no_entry H client t deferred none = tt
 no_entry H client t (answered a) none = tt
 no_entry H client t (kept_at n) none = tt
 no_entry H client t (kept_within n) none = tt
+no_entry H client t (quiet_at n) none = tt
+no_entry H client t (fired_at n) none = tt
+no_entry H client t (sized k) none = tt
+no_entry H client t (woken_by name n) none = tt
+no_entry H client t (stopped_at n) none = tt
 no_entry H client t (refused rule) none = tt
 
 -- what is told looks at no later commit either
@@ -244,6 +257,30 @@ pub told_longer : (schema : DbSchema) (H more : History) (now : ℕ) (v : Client
 told_longer schema H more now v c r next there within (by_turn is) = by_turn (ap (outcome v) (turn_longer schema H more now v c within) ∙ is)
 told_longer schema H more now v c r next there within (without_ids s) = without_ids (spent_longer schema H more now v c r next there within s)
 
+-- of watches too
+sight_longer : (schema : DbSchema) (H more : History) (v : Client) (sight : Judged Sight) (name : Bytes) (q : Query) → SightWithin (length H) sight → watch_turn schema (H ++ more) v sight name q ≡ watch_turn schema H v sight name q
+sight_longer schema H more v (Ok s) name q within =
+    ap (λ (x : State). passed (codes "name-taken") (not (is_some (watch_named name v.watching.watches))) >>= (λ free. passed (codes "uncommitted") (not s.uncommitted) >>= (λ committed. asked_watched (is_watchable q.ask) (ask schema (after_writes schema x s.writes) q) >>= (λ a. Ok (answered a, with_watch name q s.number v))))) (state_longer schema H more s.number within)
+sight_longer schema H more v (Err rule) name q within = refl
+
+watch_longer : (schema : DbSchema) (H more : History) (client now : ℕ) (v : Client) (c : Command) (r : Reply) (next : Client) → v.last ≤ now → now ≤ length H → IsWithin (length H) v → IsWatchTold schema H client now v c r next → IsWatchTold schema (H ++ more) client now v c r next
+watch_longer schema H more client now v c r next told there within = watch_line_longer schema H more client (state_longer schema H more) now v there told c r next same
+  where
+    same : (sight : Judged Sight) (name : Bytes) (q : Query) → (sight ≡ some_open v.transaction) ⊎ ((snapshot : Bytes) × (sight ≡ needed (codes "unknown-name") (snapshot_named snapshot v.snapshots))) → watch_turn schema (H ++ more) v sight name q ≡ watch_turn schema H v sight name q
+    same sight name q (inl is) = sight_longer schema H more v sight name q (subst (SightWithin (length H)) (sym is) (open_within (length H) v.transaction within.transaction))
+    same sight name q (inr is) = sight_longer schema H more v sight name q (subst (SightWithin (length H)) (sym is.1) (needed_within (length H) (codes "unknown-name") (snapshot_named is.0 v.snapshots) (found_within (length H) is.0 v.snapshots within.snapshots)))
+
+-- a line of watches leaves what stands within
+pub aside_within : (n now : ℕ) (v : Client) (r : Reply) (next : Client) → IsAside now v r next → IsWithin n v → IsWithin n next
+aside_within n now v r next aside within = record {
+  transaction = subst (StandsWithin n) (sym aside.transaction) within.transaction;
+  snapshots = subst (AllWithin n) (sym aside.snapshots) within.snapshots;
+}
+
+pub answered_longer : (schema : DbSchema) (H more : History) (client now : ℕ) (v : Client) (c : Command) (r : Reply) (next : Client) → v.last ≤ now → now ≤ length H → IsWithin (length H) v → IsAnswered schema H client now v c r next → IsAnswered schema (H ++ more) client now v c r next
+answered_longer schema H more client now v c r next told there within (of_rows known says) = of_rows known (told_longer schema H more now v c r next there within says)
+answered_longer schema H more client now v c r next told there within (of_watches says) = of_watches (watch_longer schema H more client now v c r next told there within says)
+
 longer_there : (H more : History) (n : ℕ) → n ≤ length H → n ≤ length (H ++ more)
 longer_there H more n there = rw (length-append H more) (search (arith))
 
@@ -252,14 +289,17 @@ answers_longer schema H more client v c r next within a = record {
   now = a.now;
   not_older = a.not_older;
   there = longer_there H more a.now a.there;
-  known = a.known;
-  says = told_longer schema H more a.now v c r next a.there within a.says;
+  says = answered_longer schema H more client a.now v c r next a.not_older a.there within a.says;
   entry = entry_longer H more client v.transaction r a.entry;
 }
 
 -- what the client knows after a line stands within the history too
 pub answered_within : (schema : DbSchema) (H : History) (client : ℕ) (v : Client) (c : Command) (r : Reply) (next : Client) → IsWithin (length H) v → Answers schema H client v c r next → IsWithin (length H) next
-answered_within schema H client v c r next within a = told_so (λ p. IsWithin (length H) p.1) schema H a.now v c r next a.says (next_within (length H) schema H a.now v c a.there within) (λ rule. within)
+answered_within schema H client v c r next within a = of a.says
+  where
+    of : IsAnswered schema H client a.now v c r next → IsWithin (length H) next
+    of (of_rows known says) = told_so (λ p. IsWithin (length H) p.1) schema H a.now v c r next says (next_within (length H) schema H a.now v c a.there within) (λ rule. within)
+    of (of_watches says) = aside_within (length H) a.now v r next (aside a.now v schema H client c r next says) within
 
 pub runs_longer : (schema : DbSchema) (H more : History) (client : ℕ) (v : Client) (ls : List Line) (rs : List Reply) (end : Client) → IsWithin (length H) v → Runs schema H client v ls rs end → Runs schema (H ++ more) client v ls rs end
 runs_longer schema H more client v [] [] end within runs = runs

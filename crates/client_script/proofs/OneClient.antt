@@ -3,7 +3,7 @@
 use Rattle.std.proofs.Common.{arith, lit≤, ◌≡◌, refl, ap, subst, sym, ◌∙◌, ℕ, suc, ◌+◌, ◌<◌, ◌≤◌, ◌⊎◌, inl, inr, List, [], ◌∷◌, ◌++◌, length, map, Option, Some, None, Ok, Err, slice_get, take, drop, Contains, IsPermutation}
 use Rattle.std.specs.Bool.{⊤}
 use Rattle.std.specs.List.{enumerate_from}
-use Rattle.std.specs.Prelude.{not, nat_lt, codes, is_some, reverse}
+use Rattle.std.specs.Prelude.{false, not, nat_lt, codes, is_some, reverse}
 use Rattle.std.proofs.lemmas.Bool.{lt-ltb, cases_lt}
 use Rattle.std.proofs.lemmas.List.{take-append-drop, length-append, length-take-le, append-nil, length-map}
 use Rattle.std.proofs.Math.Seq.{take-length, take-suc}
@@ -22,13 +22,14 @@ use Rattle.mdb_schema.specs.Tests.{◌>>=◌, needed, passed}
 use Rattle.mdb_schema.specs.Wipe.{wipe, wipe_by_prefix}
 use Rattle.mdb_schema.specs.Write.{Write, put, remove, step}
 use Rattle.client_script.specs.Alone.{alone, then_told, joined, commit_printed}
-use Rattle.client_script.specs.Client.{Sight, Writing, Transaction, closed, reading, writing, Snapshot, Client, at_start, state_seen, snapshot_named, none_open, some_open, read_open, write_open, sight_of, Judged}
+use Rattle.client_script.specs.Client.{Sight, Writing, Transaction, closed, reading, writing, Snapshot, Client, at_start, state_seen, snapshot_named, none_open, some_open, read_open, write_open, no_write_open, sight_of, Judged}
 use Rattle.client_script.specs.Legal.{Legal, printed, number_printed, all_printed, callers}
-use Rattle.client_script.specs.Reply.{Reply, read_at, write_at, ended, committed, aborted, inserted, replaced, deleted, wiped, deferred, answered, kept_at, kept_within, refused, output_text}
-use Rattle.client_script.specs.Session.{IsEntry, Answers, Runs, Session, Sessions}
+use Rattle.client_script.specs.Reply.{Reply, read_at, write_at, ended, committed, aborted, inserted, replaced, deleted, wiped, deferred, answered, kept_at, kept_within, quiet_at, fired_at, sized, woken_by, stopped_at, refused, output_text}
+use Rattle.client_script.specs.Session.{AreKnown, IsEntry, IsAnswered, of_rows, of_watches, Answers, Runs, Session, Sessions}
 use Rattle.client_script.specs.Spent.{IsTold, HaveIds, AllHaveIds}
 use Rattle.client_script.proofs.SpentIds.{told_so, told_with_ids}
-use Rattle.client_script.specs.Turn.{Turn, turn, write_turn, wipe_turn, question_turn, outcome, stepped, asked, indexes_of, with_writes, insert_reply, commit_limit, snapshot_reply}
+use Rattle.client_script.proofs.WatchLines.{IsAside, aside, prints_none, watch_word}
+use Rattle.client_script.specs.Turn.{Turn, turn, write_turn, wipe_turn, question_turn, outcome, stepped, asked, indexes_of, with_writes, insert_reply, commit_limit, is_of_watches, snapshot_reply}
 use Rattle.client_script.specs.declared.command.Command.{Command}
 use Rattle.client_script.specs.declared.command.Command.TheVariants as command
 use Rattle.client_script.specs.declared.line.Line.{Line}
@@ -54,7 +55,7 @@ keeps_then : {A : Type 0} (k : ℕ) (v : Client) (j : Judged A) (f : A → Turn)
 keeps_then k v (Ok a) f on each = each a refl
 keeps_then k v (Err rule) f on each = same refl refl on
 
-on_as : (k : ℕ) (v : Client) (t : Transaction) (ss : List Snapshot) → IsOn k v → StandsOn k t → IsOn k (record { last = v.last; transaction = t; snapshots = ss })
+on_as : (k : ℕ) (v : Client) (t : Transaction) (ss : List Snapshot) → IsOn k v → StandsOn k t → IsOn k (record { last = v.last; transaction = t; snapshots = ss; watching = v.watching })
 on_as k v t ss on stands = record { last = on.last; transaction = stands }
 
 pub writing_is : (t : Transaction) (x : Writing) → write_open t ≡ Ok x → t ≡ writing x
@@ -123,9 +124,11 @@ keeps k schema H v (command.WaitUntil set until) on = same refl refl on
 
 -- ---- the numbers that are printed rise
 
+-- a write transaction stands on the last number that was told; a check may tell a later one than
+-- that on which a read transaction stands
 abbrev pub StandsFrom : ℕ → Transaction → Type 0
 StandsFrom n closed = ⊤
-StandsFrom n (reading m) = n ≤ m
+StandsFrom n (reading m) = ⊤
 StandsFrom n (writing t) = n ≤ t.number
 
 abbrev pub AllAbove : ℕ → List ℕ → Type 0
@@ -153,10 +156,10 @@ rises_then : {A : Type 0} (v : Client) (j : Judged A) (f : A → Turn) → Stand
 rises_then v (Ok a) f from each = each a refl
 rises_then v (Err rule) f from each = record { later = search (arith); stands = from; above = tt }
 
-rises_same : (v : Client) (r : Reply) (t : Transaction) (ss : List Snapshot) → StandsFrom v.last t → number_printed r ≡ [] → Rises v.last (r, record { last = v.last; transaction = t; snapshots = ss })
+rises_same : (v : Client) (r : Reply) (t : Transaction) (ss : List Snapshot) → StandsFrom v.last t → number_printed r ≡ [] → Rises v.last (r, record { last = v.last; transaction = t; snapshots = ss; watching = v.watching })
 rises_same v r t ss from none = record { later = search (arith); stands = from; above = subst (AllAbove v.last) (sym none) tt }
 
-rises_at : (v : Client) (r : Reply) (now : ℕ) (t : Transaction) → v.last ≤ now → StandsFrom now t → number_printed r ≡ [] → Rises v.last (r, record { last = now; transaction = t; snapshots = v.snapshots })
+rises_at : (v : Client) (r : Reply) (now : ℕ) (t : Transaction) → v.last ≤ now → StandsFrom now t → number_printed r ≡ [] → Rises v.last (r, record { last = now; transaction = t; snapshots = v.snapshots; watching = v.watching })
 rises_at v r now t le from none = record { later = le; stands = from; above = subst (AllAbove v.last) (sym none) tt }
 
 writing_from : (n : ℕ) (t : Transaction) (x : Writing) → write_open t ≡ Ok x → StandsFrom n t → n ≤ x.number
@@ -178,7 +181,7 @@ pub self_le : (n : ℕ) → n ≤ n
 self_le n = search (arith)
 
 pub rises : (schema : DbSchema) (H : History) (now : ℕ) (v : Client) (c : Command) → v.last ≤ now → StandsFrom v.last v.transaction → Rises v.last (outcome v (turn schema H now v c))
-rises schema H now v command.Read le from = rises_then v (none_open v.transaction) _ from (λ u e. rises_at v _ now _ le (self_le now) refl)
+rises schema H now v command.Read le from = rises_then v (none_open v.transaction) _ from (λ u e. rises_at v _ now _ le tt refl)
 rises schema H now v command.Write le from = rises_then v (none_open v.transaction) _ from (λ u e. rises_then v (passed (codes "commits-spent") (nat_lt now commit_limit)) _ from (λ u' e'. rises_at v _ now _ le (self_le now) refl))
 rises schema H now v command.End le from = rises_then v (read_open v.transaction) _ from (λ m e. rises_same v _ closed v.snapshots tt refl)
 rises schema H now v command.Commit le from = rises_writing v _ from (λ x le'. record { later = search (arith, le'); stands = tt; above = (search (arith, le'), tt) })
@@ -203,12 +206,31 @@ rises schema H now v (command.WaitUntil set until) le from = rises_same v _ v.tr
 pub told_rises : (schema : DbSchema) (H : History) (now : ℕ) (v : Client) (c : Command) (r : Reply) (next : Client) → v.last ≤ now → StandsFrom v.last v.transaction → IsTold schema H now v c r next → Rises v.last (r, next)
 told_rises schema H now v c r next le from told = told_so (Rises v.last) schema H now v c r next told (rises schema H now v c le from) (λ rule. record { later = search (arith); stands = from; above = tt })
 
+free_stands : (t : Transaction) (n : ℕ) → no_write_open t ≡ Ok tt → StandsFrom n t
+free_stands closed n free = tt
+free_stands (reading m) n free = tt
+free_stands (writing t) n free = cc
+
+aside_rises : (now : ℕ) (v : Client) (r : Reply) (next : Client) → v.last ≤ now → StandsFrom v.last v.transaction → IsAside now v r next → Rises v.last (r, next)
+aside_rises now v r next le from a = of a.last
+  where
+    none : AllAbove v.last (number_printed r)
+    none = subst (AllAbove v.last) (sym (prints_none r a.reply)) tt
+
+    of : (next.last ≡ v.last) ⊎ ((next.last ≡ now) × (no_write_open v.transaction ≡ Ok tt)) → Rises v.last (r, next)
+    of (inl told) = record { later = search (arith, told); stands = subst (StandsFrom next.last) (sym a.transaction) (subst (λ (n : ℕ). StandsFrom n v.transaction) (sym told) from); above = none }
+    of (inr (is, free)) = record { later = omega (arith, is, le); stands = subst (StandsFrom next.last) (sym a.transaction) (free_stands v.transaction next.last free); above = none }
+
+pub answered_rises : (schema : DbSchema) (H : History) (client now : ℕ) (v : Client) (c : Command) (r : Reply) (next : Client) → v.last ≤ now → StandsFrom v.last v.transaction → IsAnswered schema H client now v c r next → Rises v.last (r, next)
+answered_rises schema H client now v c r next le from (of_rows known says) = told_rises schema H now v c r next le from says
+answered_rises schema H client now v c r next le from (of_watches says) = aside_rises now v r next le from (aside now v schema H client c r next says)
+
 pub all_rise : (schema : DbSchema) (H : History) (client : ℕ) (v : Client) (ls : List Line) (rs : List Reply) (end : Client) → Runs schema H client v ls rs end → StandsFrom v.last v.transaction → AllAbove v.last (printed rs)
 all_rise schema H client v [] [] end runs from = tt
 all_rise schema H client v [] (r ∷ rs) end runs from = absurd runs
 all_rise schema H client v (l ∷ ls) [] end runs from = absurd runs
 all_rise schema H client v (l ∷ ls) (r ∷ rs) end (next, a, runs) from =
-    let up : Rises v.last (r, next) = told_rises schema H a.now v l.command r next a.not_older from a.says in
+    let up : Rises v.last (r, next) = answered_rises schema H client a.now v l.command r next a.not_older from a.says in
     above_both v.last (number_printed r) (printed rs) up.above (above_from v.last next.last (printed rs) up.later (all_rise schema H client next ls rs end runs up.stands))
 
 -- ---- a line gives the same at any number, or tells the number
@@ -254,19 +276,24 @@ AreTurns schema H client v [] (r ∷ rs) end runs = ⊤
 AreTurns schema H client v (l ∷ ls) [] end runs = ⊤
 AreTurns schema H client v (l ∷ ls) (r ∷ rs) end (next, a, runs) = (outcome v (turn schema H a.now v l.command) ≡ (r, next)) × AreTurns schema H client next ls rs end runs
 
--- where none is told that there are too few ids
-with_ids : (schema : DbSchema) (H : History) (client : ℕ) (v : Client) (ls : List Line) (rs : List Reply) (end : Client) (runs : Runs schema H client v ls rs end) → HaveIds rs → AreTurns schema H client v ls rs end runs
-with_ids schema H client v [] [] end runs ids = tt
-with_ids schema H client v [] (r ∷ rs) end runs ids = tt
-with_ids schema H client v (l ∷ ls) [] end runs ids = tt
-with_ids schema H client v (l ∷ ls) (r ∷ rs) end (next, a, runs) ids = (told_with_ids schema H a.now v l.command r next ids.0 a.says, with_ids schema H client next ls rs end runs ids.1)
+-- a line that isn't of watches is told so
+pub rows_told : (schema : DbSchema) (H : History) (client now : ℕ) (v : Client) (c : Command) (r : Reply) (next : Client) → is_of_watches c ≡ false → IsAnswered schema H client now v c r next → IsTold schema H now v c r next
+rows_told schema H client now v c r next known (of_rows known' says) = says
+rows_told schema H client now v c r next known (of_watches says) = let word = watch_word schema H client now v c r next says in cc
+
+-- where no line is of watches, and none is told that there are too few ids
+with_ids : (schema : DbSchema) (H : History) (client : ℕ) (v : Client) (ls : List Line) (rs : List Reply) (end : Client) (runs : Runs schema H client v ls rs end) → AreKnown ls → HaveIds rs → AreTurns schema H client v ls rs end runs
+with_ids schema H client v [] [] end runs known ids = tt
+with_ids schema H client v [] (r ∷ rs) end runs known ids = tt
+with_ids schema H client v (l ∷ ls) [] end runs known ids = tt
+with_ids schema H client v (l ∷ ls) (r ∷ rs) end (next, a, runs) known ids = (told_with_ids schema H a.now v l.command r next ids.0 (rows_told schema H client a.now v l.command r next known.0 a.says), with_ids schema H client next ls rs end runs known.1 ids.1)
 
 from_on : (k : ℕ) (v : Client) → IsOn k v → StandsFrom v.last v.transaction
 from_on k v on = subst (λ (n : ℕ). StandsFrom n v.transaction) (sym on.last) (from v.transaction on.transaction)
   where
     from : (t : Transaction) → StandsOn k t → StandsFrom k t
     from closed stands = tt
-    from (reading m) stands = search (arith, stands)
+    from (reading m) stands = tt
     from (writing t) stands = search (arith, stands)
 
 -- what is printed from here on has each number from k to the last of the history
@@ -296,7 +323,7 @@ told_here schema H k v next l ls r rs end a says runs on few prints = elim (case
     here le = let low = a.not_older in let is = on.last in omega arith
 
     from_next : StandsFrom next.last next.transaction
-    from_next = (told_rises schema H a.now v l.command r next a.not_older (from_on k v on) a.says).stands
+    from_next = (answered_rises schema H 1 a.now v l.command r next a.not_older (from_on k v on) a.says).stands
 
     too_late : k < a.now → next.last ≡ a.now → number_printed r ≡ [] → ⊥
     too_late lt last none =
@@ -403,6 +430,11 @@ number_few deferred = lit≤ tt
 number_few (answered a) = lit≤ tt
 number_few (kept_at n) = lit≤ tt
 number_few (kept_within n) = lit≤ tt
+number_few (quiet_at n) = lit≤ tt
+number_few (fired_at n) = lit≤ tt
+number_few (sized k) = lit≤ tt
+number_few (woken_by name n) = lit≤ tt
+number_few (stopped_at n) = lit≤ tt
 number_few (refused rule) = lit≤ tt
 
 pub printed_few : (schema : DbSchema) (H : History) (client : ℕ) (v : Client) (ls : List Line) (rs : List Reply) (end : Client) → Runs schema H client v ls rs end → length (printed rs) ≤ length ls
@@ -450,12 +482,12 @@ module _ (schema : DbSchema) (H : History) (script : List Line) (rs : List Reply
       let lines = printed_few schema H 1 at_start script rs end runs in
       only_alone schema H (omega arith) script rs at_start end 0 runs turns (record { last = refl; transaction = tt }) (start_within 0) (search (arith)) told_each
 
--- for one client the legal outputs in which no line is told that there are too few ids are one
--- text, and their histories one history
-pub one_output : (schema : DbSchema) (name : Bytes) (script : List Line) (out : Bytes) → length script < commit_limit → (l : Legal schema (name ∷ []) (script ∷ []) out) → AllHaveIds l.replies → out ≡ output_text 1 (name ∷ []) (script ∷ []) ((alone schema script [] at_start).0 ∷ [])
-one_output schema name script out few legal ids = of legal.replies ids legal.written legal.numbers legal.sessions
+-- for one client without watches the legal outputs in which no line is told that there are too few
+-- ids are one text, and their histories one history
+pub one_output : (schema : DbSchema) (name : Bytes) (script : List Line) (out : Bytes) → AreKnown script → length script < commit_limit → (l : Legal schema (name ∷ []) (script ∷ []) out) → AllHaveIds l.replies → out ≡ output_text 1 (name ∷ []) (script ∷ []) ((alone schema script [] at_start).0 ∷ [])
+one_output schema name script out known few legal ids = of legal.replies ids legal.written legal.numbers legal.sessions
   where
     of : (rss : List (List Reply)) → AllHaveIds rss → out ≡ output_text 1 (name ∷ []) (script ∷ []) rss → IsPermutation (enumerate_from 1 (callers legal.history)) (all_printed 1 rss) → Sessions schema legal.history 1 (script ∷ []) rss → out ≡ output_text 1 (name ∷ []) (script ∷ []) ((alone schema script [] at_start).0 ∷ [])
     of [] have written numbers sessions = absurd sessions
-    of (rs ∷ []) have written numbers sessions = written ∙ ap (λ (p : List Reply × History). output_text 1 (name ∷ []) (script ∷ []) (p.0 ∷ [])) (sym (one_session schema legal.history script rs numbers few sessions.0 (with_ids schema legal.history 1 at_start script rs sessions.0.0 sessions.0.1 have.0)))
+    of (rs ∷ []) have written numbers sessions = written ∙ ap (λ (p : List Reply × History). output_text 1 (name ∷ []) (script ∷ []) (p.0 ∷ [])) (sym (one_session schema legal.history script rs numbers few sessions.0 (with_ids schema legal.history 1 at_start script rs sessions.0.0 sessions.0.1 known have.0)))
     of (rs ∷ rs' ∷ rss) have written numbers sessions = absurd sessions.1

@@ -18,14 +18,15 @@ use Rattle.mdb_schema.specs.Write.{Write, put, remove, step}
 use Rattle.mdb_schema.specs.History.{Commit, History}
 use Rattle.mdb_schema.specs.Schema.{DbSchema}
 use Rattle.mdb_schema.specs.Tests.{◌>>=◌, needed, passed}
-use Rattle.client_script.proofs.LongerHistory.{IsWithin, next_within, turn_longer, start_within}
-use Rattle.client_script.proofs.OneClient.{insert_prints, snapshot_prints, writing_is, StandsFrom, all_rise, above_each, told_rises, Rises, numbered, self_le}
+use Rattle.client_script.proofs.LongerHistory.{IsWithin, aside_within, next_within, turn_longer, start_within}
+use Rattle.client_script.proofs.OneClient.{insert_prints, snapshot_prints, writing_is, StandsFrom, all_rise, above_each, answered_rises, Rises, numbered, self_le}
 use Rattle.client_script.specs.Client.{Sight, Writing, Transaction, reading, writing, Client, at_start, state_seen, snapshot_named, none_open, some_open, read_open, write_open, sight_of, Judged}
 use Rattle.client_script.specs.Legal.{Legal, printed, number_printed, all_printed, callers}
-use Rattle.client_script.specs.Reply.{Reply, read_at, write_at, ended, committed, aborted, inserted, replaced, deleted, wiped, deferred, answered, kept_at, kept_within, refused}
-use Rattle.client_script.specs.Session.{IsEntry, Answers, Runs, Sessions}
+use Rattle.client_script.specs.Reply.{Reply, read_at, write_at, ended, committed, aborted, inserted, replaced, deleted, wiped, deferred, answered, kept_at, kept_within, quiet_at, fired_at, sized, woken_by, stopped_at, refused}
+use Rattle.client_script.specs.Session.{IsEntry, IsAnswered, of_rows, of_watches, Answers, Runs, Sessions}
 use Rattle.client_script.specs.Spent.{IsTold, by_turn, without_ids}
 use Rattle.client_script.proofs.SpentIds.{told_so, refused_stays}
+use Rattle.client_script.proofs.WatchLines.{aside, prints_none, watch_next, watch_word}
 use Rattle.client_script.specs.Turn.{Turn, turn, write_turn, wipe_turn, question_turn, outcome, stepped, asked, indexes_of, with_writes, insert_reply, commit_limit, with_transaction, after_commit}
 use Rattle.client_script.specs.declared.command.Command.{Command}
 use Rattle.client_script.specs.declared.command.Command.TheVariants as command
@@ -127,6 +128,11 @@ number_told deferred m within = absurd (Contains-nil m within)
 number_told (answered a) m within = absurd (Contains-nil m within)
 number_told (kept_at n) m within = absurd (Contains-nil m within)
 number_told (kept_within n) m within = absurd (Contains-nil m within)
+number_told (quiet_at n) m within = absurd (Contains-nil m within)
+number_told (fired_at n) m within = absurd (Contains-nil m within)
+number_told (sized k) m within = absurd (Contains-nil m within)
+number_told (woken_by name n) m within = absurd (Contains-nil m within)
+number_told (stopped_at n) m within = absurd (Contains-nil m within)
 number_told (refused rule) m within = absurd (Contains-nil m within)
 
 -- ---- the same client in two histories
@@ -197,7 +203,11 @@ commits_of schema H now v (command.WaitUntil set until) = commits_none v (refuse
 -- so a line that was answered with the number of a commit ended that transaction
 pub commit_told : (schema : DbSchema) (H : History) (client : ℕ) (v next : Client) (c : Command) (r : Reply) (m : ℕ) → Answers schema H client v c r next → Contains (number_printed r) m → (t : Writing) × (v.transaction ≡ writing t) × (t.number + 1 ≡ m)
 unfolding Commits
-commit_told schema H client v next c r m a told = told_so (Commits v) schema H a.now v c r next a.says (commits_of schema H a.now v c) (λ rule. commits_none v (refused rule, v) refl) m told
+commit_told schema H client v next c r m a told = of a.says
+  where
+    of : IsAnswered schema H client a.now v c r next → (t : Writing) × (v.transaction ≡ writing t) × (t.number + 1 ≡ m)
+    of (of_rows known says) = told_so (Commits v) schema H a.now v c r next says (commits_of schema H a.now v c) (λ rule. commits_none v (refused rule, v) refl) m told
+    of (of_watches says) = commits_none v (r, next) (prints_none r (aside a.now v schema H client c r next says).reply) m told
 
 module _ (schema : DbSchema) (H H' : History) (client : ℕ) where
   first_k : (k : ℕ) → k ≤ length H → k ≤ length H' → take k H ≡ take k H' → (now : ℕ) (v : Client) (c : Command) → IsWithin k v → turn schema H now v c ≡ turn schema H' now v c
@@ -210,7 +220,7 @@ module _ (schema : DbSchema) (H H' : History) (client : ℕ) where
 
   next_same : (k : ℕ) → k ≤ length H → k ≤ length H' → take k H ≡ take k H' → (v : Client) (c : Command) (r : Reply) (next next' : Client) → IsWithin k v → Answers schema H client v c r next → Answers schema H' client v c r next' → next ≡ next'
   unfolding Agree
-  next_same k there there' same v c r next next' within a a' = both a.says a'.says
+  next_same k there there' same v c r next next' within a a' = answers a.says a'.says
     where
       turns : outcome v (turn schema H a.now v c) ≡ (r, next) → outcome v (turn schema H' a'.now v c) ≡ (r, next') → next ≡ next'
       turns is is' =
@@ -224,6 +234,12 @@ module _ (schema : DbSchema) (H H' : History) (client : ℕ) where
       both (without_ids s) (by_turn is') = s.same ∙ sym (refused_stays schema H' a'.now v next' c r (codes "ids-spent") is' s.reply)
       both (without_ids s) (without_ids s') = s.same ∙ sym s'.same
 
+      answers : IsAnswered schema H client a.now v c r next → IsAnswered schema H' client a'.now v c r next' → next ≡ next'
+      answers (of_rows known says) (of_rows known' says') = both says says'
+      answers (of_rows known says) (of_watches says') = let word = watch_word schema H' client a'.now v c r next' says' in cc
+      answers (of_watches says) (of_rows known' says') = let word = watch_word schema H client a.now v c r next says in cc
+      answers (of_watches says) (of_watches says') = watch_next schema H H' client a.now a'.now v r next next' c says says'
+
   one_entry : (k : ℕ) (v : Client) (c : Command) (r : Reply) (next next' : Client) → Answers schema H client v c r next → Answers schema H' client v c r next' → Contains (number_printed r) (suc k) → slice_get H k ≡ slice_get H' k
   one_entry k v c r next next' a a' here =
       let told = number_told r (suc k) here in
@@ -234,7 +250,11 @@ module _ (schema : DbSchema) (H H' : History) (client : ℕ) where
 
   within_next : (k : ℕ) (v : Client) (c : Command) (r : Reply) (next : Client) → IsWithin k v → Answers schema H client v c r next → next.last ≤ k → IsWithin k next
   unfolding Within
-  within_next k v c r next within a le = told_so (Within k v) schema H a.now v c r next a.says (next_within_told k schema H a.now v c within) (λ rule le'. within) le
+  within_next k v c r next within a le = of a.says
+    where
+      of : IsAnswered schema H client a.now v c r next → IsWithin k next
+      of (of_rows known says) = told_so (Within k v) schema H a.now v c r next says (next_within_told k schema H a.now v c within) (λ rule le'. within) le
+      of (of_watches says) = aside_within k a.now v r next (aside a.now v schema H client c r next says) within
 
   same_entry : (k : ℕ) → k ≤ length H → k ≤ length H' → take k H ≡ take k H' → (ls : List Line) (rs : List Reply) (v end end' : Client) → IsWithin k v → StandsFrom v.last v.transaction → Runs schema H client v ls rs end → Runs schema H' client v ls rs end' → Contains (printed rs) (suc k) → slice_get H k ≡ slice_get H' k
   same_entry k there there' same [] [] v end end' within from runs runs' told = absurd (Contains-nil (suc k) told)
@@ -243,7 +263,7 @@ module _ (schema : DbSchema) (H H' : History) (client : ℕ) where
   same_entry k there there' same (l ∷ ls) (r ∷ rs) v end end' within from (next, a, runs) (next', a', runs') told = elim (either (number_printed r) (printed rs) (suc k) told) [
     | inl here ↦ one_entry k v l.command r next next' a a' here
     | inr later ↦
-        let up : Rises v.last (r, next) = told_rises schema H a.now v l.command r next a.not_older from a.says in
+        let up : Rises v.last (r, next) = answered_rises schema H client a.now v l.command r next a.not_older from a.says in
         let above = above_each next.last (printed rs) (suc k) (all_rise schema H client next ls rs end runs up.stands) later in
         let within' : IsWithin k next = within_next k v l.command r next within a (omega arith) in
         let is : next ≡ next' = next_same k there there' same v l.command r next next' within a a' in

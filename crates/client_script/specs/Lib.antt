@@ -13,4 +13,5 @@ pub mod Script
 pub mod Session
 pub mod Spent
 pub mod Turn
+pub mod Watching
 pub mod worked

@@ -26,6 +26,15 @@ pub data Reply : Type 0 where
   -- transaction's writes so far as well
   kept_at : ℕ → Reply
   kept_within : ℕ → Reply
+  -- a watch is quiet, or has fired, after so many commits
+  quiet_at : ℕ → Reply
+  fired_at : ℕ → Reply
+  -- how many watches a set has
+  sized : ℕ → Reply
+  -- the name of a set's watch that has fired, after so many commits
+  woken_by : Bytes → ℕ → Reply
+  -- the watch that cancels a wait has fired, after so many commits
+  stopped_at : ℕ → Reply
   -- the name of the rule that the line breaks
   refused : Bytes → Reply
 
@@ -62,6 +71,11 @@ reply_text deferred = codes "deferred"
 reply_text (answered a) = answer_text a
 reply_text (kept_at n) = codes "snapshot @" ++ decimal n
 reply_text (kept_within n) = codes "snapshot @" ++ (decimal n ++ codes "+")
+reply_text (quiet_at n) = codes "quiet @" ++ decimal n
+reply_text (fired_at n) = codes "fired @" ++ decimal n
+reply_text (sized k) = codes "size " ++ decimal k
+reply_text (woken_by name n) = codes "fired " ++ (name ++ (codes " @" ++ decimal n))
+reply_text (stopped_at n) = codes "stopped @" ++ decimal n
 reply_text (refused rule) = codes "refused " ++ rule
 
 -- LINE: ANSWER

@@ -6,6 +6,7 @@ use Rattle.client_script.specs.Client.{Client, Transaction, closed, reading, wri
 use Rattle.client_script.specs.Reply.{Reply, committed}
 use Rattle.client_script.specs.Spent.{IsTold}
 use Rattle.client_script.specs.Turn.{is_of_watches}
+use Rattle.client_script.specs.Watching.{IsWatchTold}
 use Rattle.client_script.specs.declared.command.Command.{Command}
 use Rattle.client_script.specs.declared.line.Line.{Line}
 
@@ -27,14 +28,21 @@ abbrev pub AreKnown : List Line → Type 0
 AreKnown [] = ⊤
 AreKnown (l ∷ ls) = (is_of_watches l.command ≡ false) × AreKnown ls
 
+-- a line is told so after `now` commits
+pub data IsAnswered (schema : DbSchema) (H : History) (client now : ℕ) (v : Client) (c : Command)
+    (r : Reply) (next : Client) : Type 0 where
+  of_rows : is_of_watches c ≡ false → IsTold schema H now v c r next
+      → IsAnswered schema H client now v c r next
+  of_watches : IsWatchTold schema H client now v c r next
+      → IsAnswered schema H client now v c r next
+
 -- a line is answered so, after some number of commits: as many as the client was told of or more
 pub record Answers (schema : DbSchema) (H : History) (client : ℕ) (v : Client) (c : Command)
     (r : Reply) (next : Client) : Type 0 where
   pub now : ℕ
   pub not_older : v.last ≤ now
   pub there : now ≤ length H
-  pub known : is_of_watches c ≡ false
-  pub says : IsTold schema H now v c r next
+  pub says : IsAnswered schema H client now v c r next
   pub entry : IsEntry H client v.transaction r
 
 -- each line has its reply, which answers it; from what the client knows at first to what it knows

@@ -109,7 +109,7 @@ question_turn schema H v sight q = do
   Ok (answered a, v)
 
 -- A line's turn. `read` and `write` begin a transaction after `now` commits, `write` only where a
--- history can have one more. The six words of watches have no turn yet.
+-- history can have one more. What the lines of watches are told stands in `Watching`.
 abbrev pub turn : DbSchema → History → ℕ → Client → Command → Turn
 turn schema H now v command.Read = do
   free ← none_open v.transaction

@@ -3,3 +3,4 @@ pub mod WorkedCatalogue
 pub mod WorkedClients
 pub mod WorkedReplies
 pub mod WorkedSessions
+pub mod WorkedWatches

@@ -15,10 +15,12 @@ use Rattle.mdb_schema.specs.Wipe.{wipe, wipe_by_prefix}
 use Rattle.mdb_schema.specs.Write.{Write, put, remove, step}
 use Rattle.client_session.specs.Begun.{AreAmong, begun_numbers, number_begun}
 use Rattle.client_script.specs.Client.{Sight, Transaction, closed, reading, writing, Client, state_seen, snapshot_named, some_open, read_open, write_open, sight_of, Judged}
-use Rattle.client_script.specs.Reply.{Reply, deleted, wiped, answered}
+use Rattle.client_script.specs.Reply.{Reply, deleted, wiped, answered, quiet_at, fired_at, sized, woken_by, stopped_at, refused}
+use Rattle.client_script.specs.Session.{IsAnswered, of_rows, of_watches}
 use Rattle.client_script.specs.Turn.{Turn, turn, write_turn, wipe_turn, question_turn, outcome, stepped, asked, indexes_of, with_writes, with_snapshot, insert_reply, snapshot_reply}
 use Rattle.client_script.specs.Spent.{IsTold}
 use Rattle.client_script.proofs.SpentIds.{told_so}
+use Rattle.client_script.proofs.WatchLines.{IsWatchReply, aside, to_fired, to_question, to_quiet, to_refusal, to_set, to_stopped, to_woken}
 use Rattle.client_script.specs.declared.command.Command.{Command}
 use Rattle.client_script.specs.declared.command.Command.TheVariants as command
 use Rattle.client_session.specs.inner.DeskView.{IsRequest}
@@ -129,3 +131,16 @@ turn_none schema H now v (command.WaitUntil set until) is = refl
 
 pub starts_none : (schema : DbSchema) (H : History) (now : ℕ) (v next : Client) (c : Command) (r : Reply) (ms : List ℕ) → StartsNone c → IsTold schema H now v c r next → AreAmong (number_begun r) ms
 starts_none schema H now v next c r ms is says = among_none (number_begun r) ms (told_so (λ p. number_begun p.0 ≡ []) schema H now v c r next says (turn_none schema H now v c is) (λ rule. refl))
+
+watch_begins : (r : Reply) → IsWatchReply r → number_begun r ≡ []
+watch_begins _ (to_question a) = refl
+watch_begins _ (to_quiet n) = refl
+watch_begins _ (to_fired n) = refl
+watch_begins _ (to_set k) = refl
+watch_begins _ (to_woken name n) = refl
+watch_begins _ (to_stopped n) = refl
+watch_begins _ (to_refusal rule) = refl
+
+pub answered_none : (schema : DbSchema) (H : History) (client now : ℕ) (v next : Client) (c : Command) (r : Reply) (ms : List ℕ) → StartsNone c → IsAnswered schema H client now v c r next → AreAmong (number_begun r) ms
+answered_none schema H client now v next c r ms is (of_rows known says) = starts_none schema H now v next c r ms is says
+answered_none schema H client now v next c r ms is (of_watches says) = among_none (number_begun r) ms (watch_begins r (aside now v schema H client c r next says).reply)

@@ -17,7 +17,7 @@ use Rattle.mem_txn.specs.Database.{Caller, Reading, View}
 use Rattle.client_script.proofs.LongerHistory.{no_entry, IsWithin, StandsWithin, AllWithin, told_longer, answered_within}
 use Rattle.client_script.specs.Client.{Transaction, closed, reading, writing, Writing, Client, Sight, Snapshot, snapshot_named, state_seen, some_open}
 use Rattle.client_script.specs.Reply as said
-use Rattle.client_script.specs.Session.{IsEntry, Answers}
+use Rattle.client_script.specs.Session.{IsEntry, Answers, of_rows}
 use Rattle.client_script.specs.Legal.{number_printed}
 use Rattle.client_script.specs.RefusedWord.{question_word}
 use Rattle.client_script.specs.Spent.{IsTold, by_turn}
@@ -30,7 +30,7 @@ use Rattle.mdb_schema.specs.Refusals.{AnswersAsk, ask_error}
 use Rattle.mdb_schema.specs.declared.answer.Answer.{Answer}
 use Rattle.mdb_schema.specs.declared.ask_error.AskError.{AskError}
 use Rattle.client_session.specs.Steps.{HasNotLost}
-use Rattle.client_session.proofs.BegunNumbers.{StartsNone, starts_none}
+use Rattle.client_session.proofs.BegunNumbers.{answered_none, StartsNone, starts_none}
 use Rattle.client_session.proofs.OpenTurns.{looks_self}
 use Rattle.client_session.proofs.RequestTurns.{rule_of_question, name_of_question, none_numbered}
 use Rattle.client_session.specs.declared.rule.Rule.TheVariants as rules
@@ -67,6 +67,11 @@ entry_made H n x said.deferred stands = tt
 entry_made H n x (said.answered a) stands = tt
 entry_made H n x (said.kept_at n') stands = tt
 entry_made H n x (said.kept_within n') stands = tt
+entry_made H n x (said.quiet_at n') stands = tt
+entry_made H n x (said.fired_at n') stands = tt
+entry_made H n x (said.sized k) stands = tt
+entry_made H n x (said.woken_by name n') stands = tt
+entry_made H n x (said.stopped_at n') stands = tt
 entry_made H n x (said.refused rule) stands = tt
 
 none_told : (n : ℕ) (ms : List ℕ) → map {B = ℕ × ℕ} (λ m. (m, n)) ms ≡ [] → ms ≡ []
@@ -139,7 +144,7 @@ replies_at_once c d d' r starts stands replies = record {
   replies = replies;
   loads = λ v follows.
       let a = (replies.replied v follows).answers in
-      starts_none (caller_of d.«open»).schema (caller_of d'.«open»).seen a.now v (replies.replied v follows).next c r (looks_self d.«open» stands).read starts a.says;
+      answered_none (caller_of d.«open»).schema (caller_of d'.«open»).seen (caller_of d.«open»).number a.now v (replies.replied v follows).next c r (looks_self d.«open» stands).read starts a.says;
 }
 
 -- ---- a line's reply
@@ -172,8 +177,7 @@ module _ (c : Command) (d d' : Desk) (r : said.Reply) (known : is_of_watches c �
         now = length p.seen;
         not_older = follows.last;
         there = longer;
-        known = known;
-        says = subst (λ (H : History). IsTold p.schema H (length p.seen) v c r t.next) (sym seen_grown) (told_longer p.schema p.seen more (length p.seen) v c r t.next (search (arith)) follows.within t.says);
+        says = of_rows known (subst (λ (H : History). IsTold p.schema H (length p.seen) v c r t.next) (sym seen_grown) (told_longer p.schema p.seen more (length p.seen) v c r t.next (search (arith)) follows.within t.says));
         entry = subst (λ (H : History). IsEntry H p.number v.transaction r) (sym seen_grown) (subst (λ (x : Transaction). IsEntry (p.seen ++ more) p.number x r) (sym follows.transaction) (entry_of d.«open» r to.numbered));
       } in
       record {
@@ -252,8 +256,7 @@ kept_desk c d r known stands none makes says = record {
       now = length (caller_of d.«open»).seen;
       not_older = follows.last;
       there = search (arith);
-      known = known;
-      says = by_turn (says v follows);
+      says = of_rows known (by_turn (says v follows));
       entry = no_entry (caller_of d.«open»).seen (caller_of d.«open»).number v.transaction r none;
     };
     follows = follows;
@@ -366,8 +369,7 @@ keep_replies d d' name s view r opened caller same stands free kept sees reply =
         now = length (caller_of d.«open»).seen;
         not_older = follows.last;
         there = rw caller (search (arith));
-        known = refl;
-        says = by_turn (ap (λ (q : Caller). outcome v (turn (caller_of d.«open»).schema q.seen (length (caller_of d.«open»).seen) v (command.Snapshot name))) caller ∙ told ∙ ap (λ (x : said.Reply). (x, with_snapshot name s v)) (sym reply));
+        says = of_rows refl (by_turn (ap (λ (q : Caller). outcome v (turn (caller_of d.«open»).schema q.seen (length (caller_of d.«open»).seen) v (command.Snapshot name))) caller ∙ told ∙ ap (λ (x : said.Reply). (x, with_snapshot name s v)) (sym reply)));
         entry = no_entry (caller_of d'.«open»).seen (caller_of d.«open»).number v.transaction r (ap number_printed reply ∙ kept_prints (transaction_of d.«open») s);
       } in
       record {
@@ -393,7 +395,7 @@ keep_replies d d' name s view r opened caller same stands free kept sees reply =
 -- the two sorts of snapshots
 pub present_reading : (o : Open) (pass : Caller) (txn : Reading) (kept : View) (n : ℕ) → o ≡ opens.Reading pass txn → Stands o → kept ≡ txn.view → n ≡ txn.view.number → Presents o kept (said.kept_at n)
 present_reading o pass txn kept n is stands same number =
-    let s : Sight = record { number = txn.view.number; writes = [] } in
+    let s : Sight = record { number = txn.view.number; writes = []; uncommitted = false } in
     let here : Stands (opens.Reading pass txn) = subst Stands is stands in
     record {
       sight = s;
@@ -404,7 +406,7 @@ present_reading o pass txn kept n is stands same number =
 
 pub present_writing : (o : Open) (txn : WriteTxn Bytes) (kept : View) (n : ℕ) → o ≡ opens.Writing txn → Stands o → AnswersSnapshot (changes_of txn).spoiled (present_view (changes_of txn)) (Ok kept) → n ≡ length (changes_of txn).caller.seen → Presents o kept (said.kept_within n)
 present_writing o txn kept n is stands answers number =
-    let s : Sight = record { number = length (changes_of txn).caller.seen; writes = (changes_of txn).writes } in
+    let s : Sight = record { number = length (changes_of txn).caller.seen; writes = (changes_of txn).writes; uncommitted = true } in
     let sound : (changes_of txn).spoiled ≡ false = subst Stands is stands in
     let sees : kept ≡ present_view (changes_of txn) = subst (λ b. AnswersSnapshot b (present_view (changes_of txn)) (Ok kept)) sound answers in
     record {

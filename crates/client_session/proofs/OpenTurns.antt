@@ -36,7 +36,7 @@ no_more p = λ i. record p { seen = sym (append-nil p.seen) i; trees = sym (appe
 read_turns : (pass : Caller) → TurnsTo command.Read (opens.Nothing pass) (opens.Reading pass (reading_of pass)) (read_at (length pass.seen))
 read_turns pass = record {
   turns = λ v is le. record {
-    next = record { last = length pass.seen; transaction = reading (length pass.seen); snapshots = v.snapshots };
+    next = record { last = length pass.seen; transaction = reading (length pass.seen); snapshots = v.snapshots; watching = v.watching };
     says = by_turn (rw is refl);
     transaction = refl;
     snapshots = refl;
@@ -95,7 +95,7 @@ begun_read self old new txn n is seen read sees number = subst (λ (s : Open). L
 end_turns : (pass : Caller) (txn : Reading) → TurnsTo command.End (opens.Reading pass txn) (opens.Nothing pass) ended
 end_turns pass txn = record {
   turns = λ v is le. record {
-    next = record { last = v.last; transaction = closed; snapshots = v.snapshots };
+    next = record { last = v.last; transaction = closed; snapshots = v.snapshots; watching = v.watching };
     says = by_turn (rw is refl);
     transaction = refl;
     snapshots = refl;
@@ -117,7 +117,7 @@ write_turns : (old : Caller) (txn : WriteTxn Bytes) → length old.seen < 2 ^ 63
 unfolding new_writing
 write_turns old txn few changes items = record {
   turns = λ v is le. record {
-    next = record { last = length old.seen; transaction = new_writing (length old.seen); snapshots = v.snapshots };
+    next = record { last = length old.seen; transaction = new_writing (length old.seen); snapshots = v.snapshots; watching = v.watching };
     says = by_turn (rw (is, lt-ltb (length old.seen) commit_limit few) refl);
     transaction = sym (ap (λ (c : Changes). writing (record { number = length c.caller.seen; writes = c.writes; texts = items_of txn })) changes ∙ ap (λ (texts : List Bytes). writing (record { number = length old.seen; writes = []; texts = texts })) items);
     snapshots = refl;
@@ -175,7 +175,7 @@ won_from self old new is won = inr (subst (λ (s : Open). HasWon (caller_of s) n
 abort_turns : (pass : Caller) (txn : WriteTxn Bytes) → pass ≡ (changes_of txn).caller → TurnsTo command.Abort (opens.Writing txn) (opens.Nothing pass) aborted
 abort_turns pass txn same = record {
   turns = λ v is le. record {
-    next = record { last = v.last; transaction = closed; snapshots = v.snapshots };
+    next = record { last = v.last; transaction = closed; snapshots = v.snapshots; watching = v.watching };
     says = by_turn (rw is refl);
     transaction = refl;
     snapshots = refl;
@@ -192,7 +192,7 @@ aborted_turns self pass txn is same = subst (λ (s : Open). TurnsTo command.Abor
 commit_turns : (txn : WriteTxn Bytes) (c : Committed Bytes) → IsCommitted txn c → TurnsTo command.Commit (opens.Writing txn) (opens.Nothing c.pass) (committed c.receipt.number (deferred_items c.receipt.items))
 commit_turns txn c is_committed = record {
   turns = λ v is le. record {
-    next = record { last = length (changes_of txn).caller.seen + 1; transaction = closed; snapshots = v.snapshots };
+    next = record { last = length (changes_of txn).caller.seen + 1; transaction = closed; snapshots = v.snapshots; watching = v.watching };
     says = by_turn (rw (is, is_committed.number, is_committed.items) refl);
     transaction = refl;
     snapshots = refl;

@@ -541,18 +541,18 @@ defer_turns self txn txn' text item is copied changes items sound = subst (λ (s
 
 -- ---- questions of the open transaction
 
-of_reading : (pass : Caller) (txn : Reading) (q : Query) (told : Result Answer AskError) → txn.view ≡ view_at_commit pass txn.view.number → AnswersAsk (ask txn.view.schema txn.view.state q) told → AnswersAsk (ask pass.schema (state_seen pass.schema pass.seen (record { number = txn.view.number; writes = [] })) q) told
+of_reading : (pass : Caller) (txn : Reading) (q : Query) (told : Result Answer AskError) → txn.view ≡ view_at_commit pass txn.view.number → AnswersAsk (ask txn.view.schema txn.view.state q) told → AnswersAsk (ask pass.schema (state_seen pass.schema pass.seen (record { number = txn.view.number; writes = []; uncommitted = false })) q) told
 of_reading pass txn q told is answers = subst (λ (x : View). AnswersAsk (ask x.schema x.state q) told) is answers
 
 pub reading_answered : (self : Open) (pass : Caller) (txn : Reading) (q : Query) (a : Answer) → self ≡ opens.Reading pass txn → Stands (opens.Reading pass txn) → AnswersAsk (ask txn.view.schema txn.view.state q) (Ok a) → TurnsTo (command.Question q) self (opens.Reading pass txn) (said.answered a)
 reading_answered self pass txn q a is stands answers =
     subst (λ (s : Open). TurnsTo (command.Question q) s (opens.Reading pass txn) (said.answered a)) (sym is)
-    (answered_turns q (opens.Reading pass txn) (opens.Reading pass txn) (record { number = txn.view.number; writes = [] }) refl refl refl stands a (of_reading pass txn q (Ok a) stands.1 answers))
+    (answered_turns q (opens.Reading pass txn) (opens.Reading pass txn) (record { number = txn.view.number; writes = []; uncommitted = false }) refl refl refl stands a (of_reading pass txn q (Ok a) stands.1 answers))
 
 pub reading_refused : (self : Open) (pass : Caller) (txn : Reading) (q : Query) (e : AskError) (rule : Option rules.the_data) (result : Result replies.the_data AllocError) → self ≡ opens.Reading pass txn → Stands (opens.Reading pass txn) → AnswersAsk (ask txn.view.schema txn.view.state q) (Err e) → rule ≡ question_rule e → MatchOption rule (IsErr result) (λ r. result ≡ Ok (replies.Refused r)) → IfOk result (λ r. TurnsTo (command.Question q) self (opens.Reading pass txn) (reply_of (caller_of self).schema r))
 reading_refused self pass txn q e rule result is stands answers rule_is told =
     subst (λ (s : Open). IfOk result (λ r. TurnsTo (command.Question q) s (opens.Reading pass txn) (reply_of (caller_of s).schema r))) (sym is)
-    (refused_question q (opens.Reading pass txn) (opens.Reading pass txn) (record { number = txn.view.number; writes = [] }) refl refl refl stands e rule result (of_reading pass txn q (Err e) stands.1 answers) rule_is told)
+    (refused_question q (opens.Reading pass txn) (opens.Reading pass txn) (record { number = txn.view.number; writes = []; uncommitted = false }) refl refl refl stands e rule result (of_reading pass txn q (Err e) stands.1 answers) rule_is told)
 
 pub writing_same : (txn txn' : WriteTxn Bytes) → changes_of txn' ≡ changes_of txn → items_of txn' ≡ items_of txn → transaction_of (opens.Writing txn') ≡ transaction_of (opens.Writing txn)
 writing_same txn txn' changes items = ap (λ (t : Changes). writing (record { number = length t.caller.seen; writes = t.writes; texts = items_of txn' })) changes ∙ ap (λ (texts : List Bytes). writing (record { number = length (changes_of txn).caller.seen; writes = (changes_of txn).writes; texts = texts })) items
@@ -561,7 +561,7 @@ pub writing_answered : (self : Open) (txn txn' : WriteTxn Bytes) (q : Query) (a 
 unfolding next_changes
 writing_answered self txn txn' q a is sound answers changes items =
     subst (λ (s : Open). TurnsTo (command.Question q) s (opens.Writing txn') (said.answered a)) (sym is)
-    (answered_turns q (opens.Writing txn) (opens.Writing txn') (record { number = length (changes_of txn).caller.seen; writes = (changes_of txn).writes }) refl (ap (λ (t : Changes). t.caller) changes) (writing_same txn txn' changes items) (ap (λ (t : Changes). t.spoiled) changes ∙ sound) a (subst (λ b. AnswersTxnAsk b (ask (changes_of txn).caller.schema (present (changes_of txn)) q) (Ok a)) sound answers))
+    (answered_turns q (opens.Writing txn) (opens.Writing txn') (record { number = length (changes_of txn).caller.seen; writes = (changes_of txn).writes; uncommitted = true }) refl (ap (λ (t : Changes). t.caller) changes) (writing_same txn txn' changes items) (ap (λ (t : Changes). t.spoiled) changes ∙ sound) a (subst (λ b. AnswersTxnAsk b (ask (changes_of txn).caller.schema (present (changes_of txn)) q) (Ok a)) sound answers))
 
 pub writing_refused : (self : Open) (txn txn' : WriteTxn Bytes) (q : Query) (e : TxnAskError) (rule : Option rules.the_data) (result : Result replies.the_data AllocError) → self ≡ opens.Writing txn → (changes_of txn).spoiled ≡ false → AnswersTxnAsk (changes_of txn).spoiled (ask (changes_of txn).caller.schema (present (changes_of txn)) q) (Err e) → changes_of txn' ≡ changes_of txn → items_of txn' ≡ items_of txn → rule ≡ txn_question_rule e → MatchOption rule (IsErr result) (λ r. result ≡ Ok (replies.Refused r)) → IfOk result (λ r. TurnsTo (command.Question q) self (opens.Writing txn') (reply_of (caller_of self).schema r))
 writing_refused self txn txn' q e rule result is sound answers changes items rule_is told =
@@ -570,4 +570,4 @@ writing_refused self txn txn' q e rule result is sound answers changes items rul
   where
     of : (e : TxnAskError) → rule ≡ txn_question_rule e → AnswersTxnAsk false (ask (changes_of txn).caller.schema (present (changes_of txn)) q) (Err e) → IfOk result (λ r. TurnsTo (command.Question q) (opens.Writing txn) (opens.Writing txn') (reply_of (changes_of txn).caller.schema r))
     of ask_refused.Spoiled rule_is' answers' = absurd answers'
-    of (ask_refused.Refused x) rule_is' answers' = refused_question q (opens.Writing txn) (opens.Writing txn') (record { number = length (changes_of txn).caller.seen; writes = (changes_of txn).writes }) refl (ap (λ (t : Changes). t.caller) changes) (writing_same txn txn' changes items) (ap (λ (t : Changes). t.spoiled) changes ∙ sound) x rule result answers' rule_is' told
+    of (ask_refused.Refused x) rule_is' answers' = refused_question q (opens.Writing txn) (opens.Writing txn') (record { number = length (changes_of txn).caller.seen; writes = (changes_of txn).writes; uncommitted = true }) refl (ap (λ (t : Changes). t.caller) changes) (writing_same txn txn' changes items) (ap (λ (t : Changes). t.spoiled) changes ∙ sound) x rule result answers' rule_is' told

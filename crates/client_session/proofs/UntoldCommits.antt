@@ -16,9 +16,11 @@ use Rattle.mdb_schema.specs.Write.{Write, put, remove, step}
 use Rattle.mem_txn.specs.Database.{Caller}
 use Rattle.client_script.proofs.OneClient.{insert_prints, snapshot_prints}
 use Rattle.client_script.proofs.SpentIds.{told_so}
+use Rattle.client_script.proofs.WatchLines.{aside, prints_none}
 use Rattle.client_script.specs.Client.{Client, Judged, Sight, Transaction, closed, reading, writing, none_open, read_open, sight_of, snapshot_named, some_open, state_seen, write_open}
 use Rattle.client_script.specs.Legal.{number_printed}
 use Rattle.client_script.specs.Reply as said
+use Rattle.client_script.specs.Session.{IsAnswered, of_rows, of_watches}
 use Rattle.client_script.specs.Spent.{IsTold}
 use Rattle.client_script.specs.Turn.{Turn, turn, asked, commit_limit, indexes_of, insert_reply, outcome, question_turn, snapshot_reply, stepped, wipe_turn, with_snapshot, with_writes, write_turn}
 use Rattle.client_script.specs.declared.command.Command.{Command}
@@ -79,6 +81,10 @@ turn_commits schema H now v (command.WaitUntil set until) = inl refl
 told_commits : (schema : DbSchema) (H : History) (now : ℕ) (v next : Client) (c : Command) (r : said.Reply) → IsTold schema H now v c r next → IsCommits c r
 told_commits schema H now v next c r says = told_so (λ p. IsCommits c p.0) schema H now v c r next says (turn_commits schema H now v c) (λ rule. inl refl)
 
+answered_commits : (schema : DbSchema) (H : History) (client now : ℕ) (v next : Client) (c : Command) (r : said.Reply) → IsAnswered schema H client now v c r next → IsCommits c r
+answered_commits schema H client now v next c r (of_rows known says) = told_commits schema H now v next c r says
+answered_commits schema H client now v next c r (of_watches says) = inl (prints_none r (aside now v schema H client c r next says).reply)
+
 -- ---- so it alone makes one
 
 makes_one : (c : Command) (n : ℕ) (t : Transaction) (r : said.Reply) → IsCommits c r → IsOfCommit c (made n t r)
@@ -98,6 +104,11 @@ makes_one c n (writing t) said.deferred commits = tt
 makes_one c n (writing t) (said.answered a) commits = tt
 makes_one c n (writing t) (said.kept_at m) commits = tt
 makes_one c n (writing t) (said.kept_within m) commits = tt
+makes_one c n (writing t) (said.quiet_at m) commits = tt
+makes_one c n (writing t) (said.fired_at m) commits = tt
+makes_one c n (writing t) (said.sized k) commits = tt
+makes_one c n (writing t) (said.woken_by name m) commits = tt
+makes_one c n (writing t) (said.stopped_at m) commits = tt
 makes_one c n (writing t) (said.refused rule) commits = tt
 
 reply_makes : (l : Line) (old new : Desk) (r : said.Reply) → LooksAndReplies l.command old new r → StopsLine l old (caller_of new.«open»)
@@ -108,7 +119,7 @@ reply_makes l old new r told v follows =
     record {
       made = made p.number (transaction_of at.«open») r;
       own = ap (λ (q : Caller). q.own) told.replies.grows.1 ∙ ap (λ (cs : List Commit). cs ++ made p.number (transaction_of at.«open») r) told.looks.own;
-      one = makes_one l.command p.number (transaction_of at.«open») r (told_commits p.schema (caller_of new.«open»).seen step.answers.now v step.next l.command r step.answers.says);
+      one = makes_one l.command p.number (transaction_of at.«open») r (answered_commits p.schema (caller_of new.«open»).seen p.number step.answers.now v step.next l.command r step.answers.says);
     }
 
 none_made : (c : Command) (old new : Caller) → new.own ≡ old.own → Makes c old new

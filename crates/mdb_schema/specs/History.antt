@@ -1,5 +1,5 @@
 -- A history: the commits of a database, in order.
-use Rattle.std.specs.Prelude.{◌+◌, ℕ, List, [], ◌∷◌, length, take, Ok, Err}
+use Rattle.std.specs.Prelude.{◌≡◌, ◌<◌, ◌+◌, ◌-◌, ℕ, List, [], ◌∷◌, length, take, Some, Ok, Err, slice_get}
 use Rattle.mdb_schema.specs.Schema.{DbSchema}
 use Rattle.mdb_schema.specs.State.{State, empty_state}
 use Rattle.mdb_schema.specs.Write.{Write, Stepped, step}
@@ -33,3 +33,8 @@ state_at schema H n = after_commits schema (empty_state schema) (take n H)
 abbrev pub writes_in : History → ℕ
 writes_in [] = 0
 writes_in (c ∷ H) = length c.writes + writes_in H
+
+-- commit n, counted from 1, is this caller's
+abbrev pub IsMadeBy : History → ℕ → ℕ → Type 0
+IsMadeBy H caller n =
+    (0 < n) × (c : Commit) × (slice_get H (n - 1) ≡ Some c) × (c.caller ≡ caller)

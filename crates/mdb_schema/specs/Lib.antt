@@ -19,6 +19,7 @@ pub mod Shapes
 pub mod State
 pub mod Tests
 pub mod Touched
+pub mod Watchable
 pub mod Wipe
 pub mod Write
 pub mod inner

@@ -1,17 +1,15 @@
 -- Questions that are watched: which they are, and the cell that tells when an answer may have
 -- changed.
-use Rattle.std.specs.Prelude.{◌≡◌, ◌⊎◌, ◌&&◌, ℕ, List, Bool, true, false, if◌then◌else◌, map, Option, Some, option_map, slice_get}
+use Rattle.std.specs.Prelude.{◌≡◌, ◌⊎◌, ℕ, List, Bool, true, false, if◌then◌else◌, map, Option, Some, option_map, slice_get}
 use Rattle.std.specs.Prelude.{Result, Ok, Err, MatchResult}
 use Rattle.mdb_encode.specs.Bytes.{Bytes}
-use Rattle.mdb_schema.specs.Answer.{Asked, Lookup, ask_rows, is_exact, lookup_of}
+use Rattle.mdb_schema.specs.Answer.{Asked, Lookup, ask_rows, lookup_of}
 use Rattle.mdb_schema.specs.Entries.{entries}
 use Rattle.mdb_schema.specs.Query.{Query}
 use Rattle.mdb_schema.specs.Refusals.{ask_error}
-use Rattle.mdb_schema.specs.Schema.{IndexSchema}
 use Rattle.mdb_schema.specs.State.{AreLawfulRows}
+pub use Rattle.mdb_schema.specs.Watchable.{is_for_one, is_watchable, looks_up}
 use Rattle.mdb_schema.specs.declared.answer.Answer.{Answer}
-use Rattle.mdb_schema.specs.declared.ask.Ask.{Ask}
-use Rattle.mdb_schema.specs.declared.ask.Ask.TheVariants.{First, Last, Lower, ReverseLower, Longest}
 use Rattle.mdb_schema.specs.declared.ask_error.AskError.{AskError}
 use Rattle.mdb_schema.specs.declared.ask_error.AskError.TheVariants.{Memory, Unwatchable}
 use Rattle.radix_node.specs.Cells.{CellTree, plain_of}
@@ -21,24 +19,6 @@ use Rattle.watch_word.specs.Logs.{Cell}
 use Rattle.table_index.specs.Spot.{SpotOf}
 use Rattle.table_index.specs.Table.{TableChange, TableRows}
 use Rattle.table_index.specs.declared.watched.Watched.{Watched}
-
--- a question for bounds, or for the longest key, isn't watched
-abbrev pub is_watchable : Ask → Bool
-is_watchable Lower = false
-is_watchable ReverseLower = false
-is_watchable Longest = false
-is_watchable a = true
-
--- a question for one row, the first or the last
-abbrev pub is_for_one : Ask → Bool
-is_for_one First = true
-is_for_one Last = true
-is_for_one a = false
-
--- a question for one row looks up the entry of a very key where it names one; each other question
--- is for the entries whose keys begin with its key
-abbrev pub looks_up : IndexSchema → Query → Bool
-looks_up i q = is_for_one q.ask && is_exact i q
 
 -- the cell of a question in the tree of its index
 abbrev pub watch_in : Bool → Bytes → CellTree → Cell

@@ -7,7 +7,7 @@ use Rattle.mdb_schema.specs.worked.Sample.{sample}
 use Rattle.client_script.specs.Alone.{alone}
 use Rattle.client_script.specs.Client.{at_start}
 use Rattle.client_script.specs.Refusal.{ScriptRefusal}
-use Rattle.client_script.specs.Reply.{Reply, read_at, write_at, ended, committed, aborted, inserted, replaced, deleted, wiped, deferred, answered, kept_at, kept_within, refused}
+use Rattle.client_script.specs.Reply.{Reply, read_at, write_at, ended, committed, aborted, inserted, replaced, deleted, wiped, deferred, answered, kept_at, kept_within, quiet_at, fired_at, sized, woken_by, stopped_at, refused}
 use Rattle.client_script.specs.Script.{script_in}
 use Rattle.client_script.specs.declared.line.Line.{Line}
 
@@ -41,6 +41,11 @@ code_of deferred = 9 ∷ []
 code_of (answered a) = 10 ∷ asked_code (Ok a)
 code_of (kept_at n) = 11 ∷ n ∷ []
 code_of (kept_within n) = 12 ∷ n ∷ []
+code_of (quiet_at n) = 14 ∷ n ∷ []
+code_of (fired_at n) = 15 ∷ n ∷ []
+code_of (sized k) = 16 ∷ k ∷ []
+code_of (woken_by name n) = 17 ∷ n ∷ name
+code_of (stopped_at n) = 18 ∷ n ∷ []
 code_of (refused rule) = 13 ∷ rule
 
 abbrev pub reply_code : Option Reply → Bytes

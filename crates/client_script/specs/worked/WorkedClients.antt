@@ -13,8 +13,9 @@ use Rattle.mdb_schema.specs.worked.Sample.{sample, user, put_user, query}
 use Rattle.client_script.specs.Client.{Client, writing, at_start}
 use Rattle.client_script.specs.Legal.{Legal, all_printed, callers}
 use Rattle.client_script.specs.Reply.{Reply, read_at, write_at, committed, inserted, replaced, answered, output_text}
-use Rattle.client_script.specs.Session.{IsEntry, Answers, Runs, Session, Sessions}
-use Rattle.client_script.specs.Spent.{IsTold, by_turn, without_ids, is_write}
+use Rattle.client_script.specs.Session.{IsEntry, IsAnswered, of_rows, of_watches, Answers, Runs, Session, Sessions}
+use Rattle.client_script.specs.Spent.{by_turn, without_ids, is_write}
+use Rattle.client_script.specs.Watching.{IsWatchTold}
 use Rattle.client_script.specs.Turn.{turn, outcome, is_of_watches, commit_limit, with_transaction}
 use Rattle.client_script.specs.declared.command.Command.{Command}
 use Rattle.client_script.specs.declared.command.Command.TheVariants as command
@@ -62,8 +63,7 @@ runs_of H client v (l ∷ ls) ((now, r) ∷ ps) (not_older, there, known, says, 
           now = now;
           not_older = not_older;
           there = there;
-          known = known;
-          says = by_turn (ap (λ (x : Reply). (x, (outcome v (turn sample H now v l.command)).1)) says);
+          says = of_rows known (by_turn (ap (λ (x : Reply). (x, (outcome v (turn sample H now v l.command)).1)) says));
           entry = entry;
         },
         rest.1,
@@ -192,12 +192,13 @@ begins_at now true next says =
 begins_at now false next says = absurd (other_number 1 2 (lit< tt) (sym (ap (λ (p : Reply × Client). write_told p.0) says)))
 
 -- a line that writes no rows is told its turn
-told_turn : (H : History) (now : ℕ) (v : Client) (c : Command) (r : Reply) (next : Client) → is_write c ≡ false → IsTold sample H now v c r next → outcome v (turn sample H now v c) ≡ (r, next)
-told_turn H now v c r next other (by_turn is) = is
-told_turn H now v c r next other (without_ids s) = let same = s.write in cc
+told_turn : (H : History) (client now : ℕ) (v : Client) (c : Command) (r : Reply) (next : Client) → is_write c ≡ false → (IsWatchTold sample H client now v c r next → ⊥) → IsAnswered sample H client now v c r next → outcome v (turn sample H now v c) ≡ (r, next)
+told_turn H client now v c r next other known (of_rows known' (by_turn is)) = is
+told_turn H client now v c r next other known (of_rows known' (without_ids s)) = let same = s.write in cc
+told_turn H client now v c r next other known (of_watches says) = absurd (known says)
 
 begins : (H : History) (next : Client) → Answers sample H 1 at_start command.Write (write_at 0) next → next ≡ begun
-begins H next a = begins_at a.now (nat_lt a.now commit_limit) next (told_turn H a.now at_start command.Write (write_at 0) next refl a.says)
+begins H next a = begins_at a.now (nat_lt a.now commit_limit) next (told_turn H 1 a.now at_start command.Write (write_at 0) next refl (λ none. none) a.says)
 
 -- a client that reads an older commit than it was told of
 abbrev commit_and_read : List Line
@@ -212,9 +213,9 @@ no_older_commit out l is = of l.history (subst (λ (rss : List (List Reply)). Se
     of : (H : History) → Session sample H 1 commit_and_read (write_at 0 ∷ committed 1 [] ∷ read_at 0 ∷ []) → ⊥
     of H (end, (v1, a1, (v2, a2, (v3, a3, done)))) =
         let second = subst (λ (v : Client). Answers sample H 1 v command.Commit (committed 1 []) v2) (begins H v1 a1) a2 in
-        let told : (outcome begun (turn sample H second.now begun command.Commit)).1 ≡ v2 = ap (λ (p : Reply × Client). p.1) (told_turn H second.now begun command.Commit (committed 1 []) v2 refl second.says) in
+        let told : (outcome begun (turn sample H second.now begun command.Commit)).1 ≡ v2 = ap (λ (p : Reply × Client). p.1) (told_turn H 1 second.now begun command.Commit (committed 1 []) v2 refl (λ none. none) second.says) in
         let third = subst (λ (v : Client). Answers sample H 1 v command.Read (read_at 0) v3) (sym told) a3 in
-        let now : third.now ≡ 0 = ap (λ (p : Reply × Client). number_written p.0) (told_turn H third.now _ command.Read (read_at 0) v3 refl third.says) in
+        let now : third.now ≡ 0 = ap (λ (p : Reply × Client). number_written p.0) (told_turn H 1 third.now _ command.Read (read_at 0) v3 refl (λ none. none) third.says) in
         let le : 1 ≤ third.now = third.not_older in
         omega (arith, now, le)
 
@@ -228,4 +229,4 @@ no_other_number out l is = of l.history (subst (λ (rss : List (List Reply)). Se
     of : (H : History) → Session sample H 1 one_commit (write_at 0 ∷ committed 2 [] ∷ []) → ⊥
     of H (end, (v1, a1, (v2, a2, done))) =
         let second = subst (λ (v : Client). Answers sample H 1 v command.Commit (committed 2 []) v2) (begins H v1 a1) a2 in
-        other_number 1 2 (lit< tt) (ap (λ (p : Reply × Client). number_written p.0) (told_turn H second.now begun command.Commit (committed 2 []) v2 refl second.says))
+        other_number 1 2 (lit< tt) (ap (λ (p : Reply × Client). number_written p.0) (told_turn H 1 second.now begun command.Commit (committed 2 []) v2 refl (λ none. none) second.says))

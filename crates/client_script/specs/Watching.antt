@@ -1,0 +1,216 @@
+-- What the lines of watches are told: `watch`, `check`, `add`, `add-limit`, `size` and `wait`.
+use Rattle.std.specs.Prelude.{◌≡◌, ◌⊎◌, ◌+◌, ◌++◌, ℕ, Bool, true, false, not, nat_lt, List, [], ◌∷◌, length, take, Contains, Option, Some, None, is_some, Ok, Err, slice_get, codes, if◌then◌else◌, ⊤}
+use Rattle.std.specs.Str.{bytes_eq}
+use Rattle.mdb_datum.specs.Bytes.{Bytes}
+use Rattle.mdb_schema.specs.Answer.{Asked, ask, own_name, unknown_table}
+use Rattle.mdb_schema.specs.Guarded.{IsUnchanged}
+use Rattle.mdb_schema.specs.History.{History}
+use Rattle.mdb_schema.specs.Query.{Query}
+use Rattle.mdb_schema.specs.Schema.{DbSchema}
+use Rattle.mdb_schema.specs.Tests.{◌>>=◌, needed, passed}
+use Rattle.mdb_schema.specs.Watchable.{IsTouched, is_watchable}
+use Rattle.mdb_schema.specs.declared.answer.Answer.{Answer}
+use Rattle.client_script.specs.Client.{Client, Judged, Sight, Watch, WatchSet, no_write_open, set_named, snapshot_named, some_open, state_seen, watch_named}
+use Rattle.client_script.specs.RefusedWord.{question_word}
+use Rattle.client_script.specs.Reply.{Reply, answered, fired_at, quiet_at, refused, sized, stopped_at, woken_by}
+use Rattle.client_script.specs.Turn.{Turn, asked, outcome}
+use Rattle.client_script.specs.declared.command.Command.{Command}
+use Rattle.client_script.specs.declared.command.Command.TheVariants as command
+
+-- ---- quiet and fired
+
+-- a watch may be told to be quiet after n commits
+abbrev pub IsQuiet : DbSchema → History → ℕ → Watch → ℕ → Type 0
+IsQuiet schema H client w n = IsUnchanged schema H client w.query w.number n
+
+abbrev pub AreQuiet : DbSchema → History → ℕ → List Watch → ℕ → Type 0
+AreQuiet schema H client [] n = ⊤
+AreQuiet schema H client (w ∷ ws) n =
+    IsQuiet schema H client w n × AreQuiet schema H client ws n
+
+-- A watch may be told to have fired after n commits where one of the commits since its question was
+-- asked touched what the question looks at. The answer need not have changed.
+abbrev pub HasFired : DbSchema → History → Watch → ℕ → Type 0
+HasFired schema H w n = IsTouched schema H w.query w.number n
+
+-- ---- what the client knows then
+
+-- it was told this number of commits
+abbrev pub told_number : ℕ → Client → Client
+told_number now v = record v { last = now }
+
+-- it has a further watch
+abbrev pub with_watch : Bytes → Query → ℕ → Client → Client
+with_watch name q number v = record v {
+  watching = record {
+    watches = v.watching.watches ++ record { name = name; query = q; number = number } ∷ [];
+    sets = v.watching.sets;
+  };
+}
+
+-- the sets with this one in the place of the one of its name, or at the end
+abbrev pub put_set : WatchSet → List WatchSet → List WatchSet
+put_set s [] = s ∷ []
+put_set s (x ∷ xs) = if bytes_eq x.name s.name then s ∷ xs else x ∷ put_set s xs
+
+abbrev pub with_set : WatchSet → Client → Client
+with_set s v = record v {
+  watching = record { watches = v.watching.watches; sets = put_set s v.watching.sets };
+}
+
+abbrev pub set_or_new : Bytes → Option WatchSet → WatchSet
+set_or_new name None = record { name = name; members = []; added = [] }
+set_or_new name (Some s) = s
+
+-- the set of a name, at first without watches
+abbrev pub set_for : Bytes → Client → WatchSet
+set_for name v = set_or_new name (set_named name v.watching.sets)
+
+-- ---- rules
+
+-- the watch, the set of a name
+abbrev pub watch_called : Bytes → Client → Judged Watch
+watch_called name v = needed (codes "unknown-name") (watch_named name v.watching.watches)
+
+abbrev pub set_called : Bytes → Client → Judged WatchSet
+set_called name v = needed (codes "unknown-name") (set_named name v.watching.sets)
+
+-- what a question gives that is asked with a watch: that its table isn't there is told first, and
+-- then that it isn't watched
+abbrev pub asked_watched : Bool → Asked Answer → Judged Answer
+asked_watched watchable (Err unknown_table) = Err (question_word unknown_table)
+asked_watched false a = Err (codes "unwatchable")
+asked_watched true a = asked a
+
+-- ---- turns
+
+-- a question of the rows that are seen, which are committed, whose watch is kept under a new name
+abbrev pub watch_turn : DbSchema → History → Client → Judged Sight → Bytes → Query → Turn
+watch_turn schema H v sight name q = do
+  s ← sight
+  free ← passed (codes "name-taken") (not (is_some (watch_named name v.watching.watches)))
+  committed ← passed (codes "uncommitted") (not s.uncommitted)
+  a ← asked_watched (is_watchable q.ask) (ask schema (state_seen schema H s) q)
+  Ok (answered a, with_watch name q s.number v)
+
+abbrev pub size_turn : Client → Bytes → Turn
+size_turn v name = do
+  s ← set_called name v
+  Ok (sized (length s.members), v)
+
+-- no write transaction is open, and there is a watch of this name
+abbrev pub check_judged : Client → Bytes → Judged Watch
+check_judged v name = do
+  free ← no_write_open v.transaction
+  watch_called name v
+
+-- the one watch while the set has fewer members than the limit, else the other
+abbrev pub limited : Bytes → ℕ → Watch → Watch → Client → Watch
+limited set limit w other v =
+    if nat_lt (length (set_for set v).members) limit then w else other
+
+abbrev pub limit_judged : Client → Bytes → ℕ → Bytes → Bytes → Judged Watch
+limit_judged v set limit name other = do
+  w ← watch_called name v
+  o ← watch_called other v
+  Ok (limited set limit w o v)
+
+abbrev pub wait_judged : Client → Bytes → Judged WatchSet
+wait_judged v set = do
+  free ← no_write_open v.transaction
+  set_called set v
+
+abbrev pub until_judged : Client → Bytes → Bytes → Judged (WatchSet × Watch)
+until_judged v set until = do
+  s ← wait_judged v set
+  w ← watch_called until v
+  Ok (s, w)
+
+-- a line that breaks a rule is answered with its name and changes nothing; else it is told as said
+abbrev pub IsJudged : {A : Type 0} → Client → Judged A → Reply → Client → (A → Type 0) → Type 0
+IsJudged v (Err rule) r next said = (r ≡ refused rule) × (next ≡ v)
+IsJudged v (Ok a) r next said = said a
+
+-- a check finds the watch quiet or fired, after `now` commits
+abbrev pub IsChecked : DbSchema → History → ℕ → ℕ → Watch → Reply → Type 0
+IsChecked schema H client now w r =
+    ((r ≡ quiet_at now) × IsQuiet schema H client w now)
+    ⊎ ((r ≡ fired_at now) × HasFired schema H w now)
+
+-- two questions are of one index
+abbrev pub AreOfOneIndex : Query → Query → Type 0
+AreOfOneIndex q r = (q.table ≡ r.table) × (own_name q.index ≡ own_name r.index)
+
+-- a watch of the same question, asked after the same commit, is in the list
+pub record IsAmong (w : Watch) (ws : List Watch) : Type 0 where
+  pub like : Watch
+  pub there : Contains ws like
+  pub query : like.query ≡ w.query
+  pub number : like.number ≡ w.number
+
+-- The set has one more member: neither this watch nor one like it was added to it before.
+pub record IsMember (set : Bytes) (w : Watch) (v : Client) (r : Reply) (next : Client) : Type 0 where
+  pub new : IsAmong w (set_for set v).added → ⊥
+  pub reply : r ≡ sized (length (set_for set v).members + 1)
+  pub kept : next ≡ with_set (record {
+    name = set;
+    members = (set_for set v).members ++ w ∷ [];
+    added = (set_for set v).added ++ w ∷ [];
+  }) v
+
+-- The set has the watch's cell already: a member watches the same index.
+pub record IsDouble (set : Bytes) (w : Watch) (v : Client) (r : Reply) (next : Client) : Type 0 where
+  pub member : Watch
+  pub there : Contains (set_for set v).members member
+  pub index : AreOfOneIndex member.query w.query
+  pub reply : r ≡ sized (length (set_for set v).members)
+  pub kept : next ≡ with_set (record {
+    name = set;
+    members = (set_for set v).members;
+    added = (set_for set v).added ++ w ∷ [];
+  }) v
+
+abbrev pub IsAdded : Bytes → Watch → Client → Reply → Client → Type 0
+IsAdded set w v r next = IsMember set w v r next ⊎ IsDouble set w v r next
+
+-- a member of the set has fired, and those before it were quiet after as many commits as the client
+-- had been told
+pub record IsWoken (schema : DbSchema) (H : History) (client now : ℕ) (v : Client) (s : WatchSet)
+    (r : Reply) : Type 0 where
+  pub place : ℕ
+  pub member : Watch
+  pub there : slice_get s.members place ≡ Some member
+  pub fired : HasFired schema H member now
+  pub quiet : AreQuiet schema H client (take place s.members) v.last
+  pub reply : r ≡ woken_by member.name now
+
+-- the watch that cancels has fired, and all members were quiet
+pub record IsStopped (schema : DbSchema) (H : History) (client now : ℕ) (v : Client) (s : WatchSet)
+    (until : Watch) (r : Reply) : Type 0 where
+  pub fired : HasFired schema H until now
+  pub quiet : AreQuiet schema H client s.members v.last
+  pub reply : r ≡ stopped_at now
+
+-- A line of watches is told so, after `now` commits. A check and a wait tell that number.
+abbrev pub IsWatchTold : DbSchema → History → ℕ → ℕ → Client → Command → Reply → Client → Type 0
+IsWatchTold schema H client now v (command.Watch name q) r next =
+    outcome v (watch_turn schema H v (some_open v.transaction) name q) ≡ (r, next)
+IsWatchTold schema H client now v (command.WatchIn name snapshot q) r next =
+    let sight = needed (codes "unknown-name") (snapshot_named snapshot v.snapshots) in
+    outcome v (watch_turn schema H v sight name q) ≡ (r, next)
+IsWatchTold schema H client now v (command.Check name) r next =
+    IsJudged v (check_judged v name) r next
+    (λ w. IsChecked schema H client now w r × (next ≡ told_number now v))
+IsWatchTold schema H client now v (command.Add set name) r next =
+    IsJudged v (watch_called name v) r next (λ w. IsAdded set w v r next)
+IsWatchTold schema H client now v (command.AddLimit set limit name other) r next =
+    IsJudged v (limit_judged v set limit name other) r next (λ w. IsAdded set w v r next)
+IsWatchTold schema H client now v (command.Size set) r next = outcome v (size_turn v set) ≡ (r, next)
+IsWatchTold schema H client now v (command.Wait set) r next =
+    IsJudged v (wait_judged v set) r next
+    (λ s. IsWoken schema H client now v s r × (next ≡ told_number now v))
+IsWatchTold schema H client now v (command.WaitUntil set until) r next =
+    IsJudged v (until_judged v set until) r next
+    (λ p. (IsWoken schema H client now v p.0 r ⊎ IsStopped schema H client now v p.0 p.1 r)
+    × (next ≡ told_number now v))
+IsWatchTold schema H client now v c r next = ⊥
