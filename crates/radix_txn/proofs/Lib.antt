@@ -33,3 +33,4 @@ pub mod TreeWrites
 pub mod WriteEnds
 pub mod Writes
 pub mod WrittenOnce
+pub mod Results

@@ -41,7 +41,7 @@ impl Cells {
         ensures drawn { OnOk result (self.new ≡ one_drawn self.old) }
         ensures begun { self.old.first ≤ self.old.next }
     {
-        Ok(self.ids.draw(alloc, &self.front)?)
+        self.ids.draw(alloc, &self.front)
     }
 
     /// A cell is in the tree no longer.
@@ -49,7 +49,7 @@ impl Cells {
         ensures left { OnOk result (self.new ≡ one_left (arc_value cell.now) self.old) }
         ensures begun { self.old.first ≤ self.old.next }
     {
-        Ok(push_cell(self.first, cell, &mut self.left)?)
+        push_cell(self.first, cell, &mut self.left)
     }
 
     /// The cell of a node's leaf, if it has one, is in the tree no longer.
@@ -58,7 +58,7 @@ impl Cells {
             OnOk result (self.new ≡ leaf_left n.leaf self.old) }
         ensures begun { self.old.first ≤ self.old.next }
     {
-        Ok(node.push_leaf(self.first, &mut self.left)?)
+        node.push_leaf(self.first, &mut self.left)
     }
 
     /// The cells of a node and of all under it are in the tree no longer.
@@ -66,6 +66,6 @@ impl Cells {
         ensures left { OnOk result (self.new ≡ many_left (all_cells (cell_node node.now)) self.old) }
         ensures begun { self.old.first ≤ self.old.next }
     {
-        Ok(node.push_cells(self.first, &mut self.left)?)
+        node.push_cells(self.first, &mut self.left)
     }
 }

@@ -102,24 +102,59 @@ fn insert(
     ensures onward { OnOk result (IsOnward cells.old cells.new) }
 {
     let Some((first, after)) = rest.split_first() else {
-        return Ok(replace_leaf(node, leaf, cells)?);
+        return replace_leaf(node, leaf, cells);
     };
     let (at, edge) = match node.edges().find_edge(*first) {
         Ok(found) => found,
-        Err(at) => {
-            let node = add_edge(node, at, *first, after, leaf, cells)?;
-            return Ok(Inserted { node, old: None });
-        }
+        Err(at) => return add_edge(node, at, *first, after, leaf, cells),
     };
     let child = edge.node();
     let shared = child.common_prefix_len(after);
     if shared < child.prefix().len() {
         let child = split(child, shared, after, leaf, cells)?;
-        let node = with_child(node, at, *first, child, cells)?;
-        return Ok(Inserted { node, old: None });
+        let below = Inserted {
+            node: child,
+            old: None,
+        };
+        return above(node, at, *first, below, cells);
     }
-    let Inserted { node: child, old } = insert(child, &after[shared..], leaf, cells)?;
-    let node = with_child(node, at, *first, child, cells)?;
+    let below = insert(child, &after[shared..], leaf, cells)?;
+    above(node, at, *first, below, cells)
+}
+
+/// The node with a node made anew at its edge at a place, which has this label.
+fn above(
+    node: &Node,
+    at: usize,
+    label: u8,
+    below: Inserted,
+    cells: &mut Cells,
+) -> Result<Inserted, AllocError>
+    requires in_range { let n = plain_node node.now in at < length (nodes_list n.under) }
+    requires left { cells.old.next < 2 ^ 63 }
+
+    ensures node { let n = plain_node node.now in let es = nodes_list n.under in
+        let k = node_of below.node in
+        let e : PlainNode = record { prefix = label ∷ k.prefix; leaf = k.leaf; under = k.under } in
+        IfOk result (λ r. node_of r.node ≡ record {
+          prefix = n.prefix;
+          leaf = n.leaf;
+          under = nodes_in (take at es ++ e ∷ drop (at + 1) es);
+        }) }
+    ensures old { IfOk result (λ r. r.old ≡ below.old) }
+
+    ensures cells { let n = cell_node node.now in let es = cells_list n.under in
+        IfOk result (λ r. (c : Cell) × IsNextOf cells.old c × (cell_ref r.node ≡ record {
+          cell = c;
+          prefix = n.prefix;
+          leaf = n.leaf;
+          under = cells_in (take at es ++ led (label ∷ []) (cell_ref below.node) ∷ drop (at + 1) es);
+        })) }
+    ensures left { let n = cell_node node.now in
+        OnOk result (cells.new ≡ one_left n.cell (one_drawn cells.old)) }
+{
+    let Inserted { node: child, old } = below;
+    let node = with_child(node, at, label, child, cells)?;
     Ok(Inserted { node, old })
 }
 
@@ -183,22 +218,23 @@ fn add_edge(
     prefix: &[u8],
     leaf: Arc<Leaf, Global>,
     cells: &mut Cells,
-) -> Result<NodeRef, AllocError>
+) -> Result<Inserted, AllocError>
     requires in_range { let n = plain_node node.now in at ≤ length (nodes_list n.under) }
     requires left { cells.old.next + 2 ≤ 2 ^ 63 }
 
     ensures node { let n = plain_node node.now in let es = nodes_list n.under in
-        IfOk result (λ r. node_of r ≡ record {
+        IfOk result (λ r. node_of r.node ≡ record {
           prefix = n.prefix;
           leaf = n.leaf;
           under = nodes_in (take at es ++ leaf_node (label ∷ prefix.now) (leaf_pair leaf) ∷ drop at es);
         }) }
+    ensures old { IfOk result (λ r. r.old ≡ None) }
 
     ensures cells { IfOk result (λ r. (front : Bytes) → Steps
         (a_leaf (arc_value leaf) ∷ whole (led front (cell_node node.now))) cells.old
-        (whole (led front (cell_ref r))) cells.new) }
+        (whole (led front (cell_ref r.node))) cells.new) }
     ensures edge { let n = cell_node node.now in let es = cells_list n.under in
-        IfOk result (λ r. (c : Cell) × (cells.old.next ≤ c.id) × (e : CellNode) × (cell_ref r ≡ record {
+        IfOk result (λ r. (c : Cell) × (cells.old.next ≤ c.id) × (e : CellNode) × (cell_ref r.node ≡ record {
           cell = c;
           prefix = n.prefix;
           leaf = n.leaf;
@@ -209,7 +245,8 @@ fn add_edge(
 {
     let edge = leaf_edge(node.edges().allocator(), label, prefix, leaf, cells)?;
     let edges = node.edges().spliced(at, at, edge)?;
-    Ok(made::with_edges(node, edges, cells)?)
+    let node = made::with_edges(node, edges, cells)?;
+    Ok(Inserted { node, old: None })
 }
 
 /// The node with another node at its edge at a place, which has this label.
@@ -243,7 +280,7 @@ fn with_child(
         OnOk result (cells.new ≡ one_left n.cell (one_drawn cells.old)) }
 {
     let edges = node.edges().spliced(at, at + 1, Edge::of(label, child))?;
-    Ok(made::with_edges(node, edges, cells)?)
+    made::with_edges(node, edges, cells)
 }
 
 /// A node with the bytes that the node's prefix and the rest have in common, above a copy of the
@@ -273,9 +310,9 @@ fn split(
     let prefix = node.prefix();
     let lower = lower_edge(node, prefix[shared], &prefix[shared + 1..], cells)?;
     if shared == rest.len() {
-        return Ok(leaf_above(lower, rest, leaf, cells)?);
+        return leaf_above(lower, rest, leaf, cells);
     }
-    Ok(fork(lower, rest, shared, leaf, cells)?)
+    fork(lower, rest, shared, leaf, cells)
 }
 
 /// The edge of a byte to a copy of the node that has another prefix.
@@ -319,7 +356,7 @@ fn leaf_above(
 {
     let mut edges = Edges::new(edge.node().edges().allocator());
     edges.put(edge)?;
-    Ok(made::of(prefix, Some(leaf), edges, cells)?)
+    made::of(prefix, Some(leaf), edges, cells)
 }
 
 /// A node above two edges: this one, and one to a new node with the leaf. Its prefix is what the
@@ -358,7 +395,7 @@ fn fork(
     let alloc = edge.node().edges().allocator();
     let beside = leaf_edge(alloc, rest[at], &rest[at + 1..], leaf, cells)?;
     let edges = two_edges(alloc, edge, beside)?;
-    Ok(made::of(&rest[..at], None, edges, cells)?)
+    made::of(&rest[..at], None, edges, cells)
 }
 
 /// An edge, and another one in the place of its label.

@@ -29,7 +29,7 @@ pub fn new_leaf(
     ensures begun { cells.old.first ≤ cells.old.next }
 {
     let cell = cells.draw(alloc)?;
-    Ok(Leaf::of(alloc, key, row, cell)?)
+    Leaf::of(alloc, key, row, cell)
 }
 
 /// A node of these parts.
@@ -57,7 +57,7 @@ pub fn of(
 {
     let alloc = edges.allocator();
     let cell = cells.draw(alloc)?;
-    Ok(Node::of(alloc, prefix, leaf, edges, cell)?)
+    Node::of(alloc, prefix, leaf, edges, cell)
 }
 
 /// The node with another prefix.

@@ -116,8 +116,8 @@ impl Remains {
         ensures onward { OnOk result (IsOnward cells.old cells.new) }
     {
         match below.settled(edge.node().prefix(), cells)? {
-            None => Ok(Remains::without_edge(node, at)?),
-            Some(child) => Ok(Remains::with_edge(node, at, Edge::of(edge.label(), child))?),
+            None => Remains::without_edge(node, at),
+            Some(child) => Remains::with_edge(node, at, Edge::of(edge.label(), child)),
         }
     }
 
@@ -136,7 +136,7 @@ impl Remains {
         ensures begun { cells.old.first ≤ cells.old.next }
     {
         let Remains { leaf, edges } = self;
-        Ok(made::of(b"", leaf, edges, cells)?)
+        made::of(b"", leaf, edges, cells)
     }
 
     /// A node, not the root, with what is left: none, where that is nothing, and merged with the
@@ -158,7 +158,7 @@ impl Remains {
         if leaf.is_some() || edges.len() > 1 {
             return Ok(Some(kept(prefix, leaf, edges, cells)?));
         }
-        Ok(lone(prefix, &edges, cells)?)
+        lone(prefix, &edges, cells)
     }
 }
 
@@ -208,7 +208,7 @@ fn kept(
     ensures few { OnOk result (cells.new.next ≡ cells.old.next + 1) }
     ensures onward { OnOk result (IsOnward cells.old cells.new) }
 {
-    Ok(made::of(prefix, leaf, edges, cells)?)
+    made::of(prefix, leaf, edges, cells)
 }
 
 /// The node at an edge with a prefix and the edge's label before its own prefix: what a node of
@@ -228,7 +228,7 @@ fn merge_child(prefix: &[u8], edge: &Edge, cells: &mut Cells) -> Result<NodeRef,
     let child = edge.node();
     let alloc = child.edges().allocator();
     let joined = joined(alloc, prefix, edge.label(), child.prefix())?;
-    Ok(made::with_prefix(child, &joined, cells)?)
+    made::with_prefix(child, &joined, cells)
 }
 
 /// A prefix, a label and the prefix behind it.

@@ -111,7 +111,7 @@ fn remove(
     ensures there { OnErr result (LosesPairs target rest.now (below_prefix node.now)) }
 {
     let Some((first, after)) = rest.split_first() else {
-        return Ok(remove_here(node, target, cells)?);
+        return remove_here(node, target, cells);
     };
     let Ok((at, edge)) = node.edges().find_edge(*first) else {
         return Ok(None);
@@ -234,8 +234,8 @@ fn remove_here(
     ensures there { OnErr result (LosesPairs target [] (below_prefix node.now)) }
 {
     match target {
-        Target::Key => Ok(remove_leaf(node, cells)?),
-        Target::Prefix => Ok(remove_all(node, cells)?),
+        Target::Key => remove_leaf(node, cells),
+        Target::Prefix => remove_all(node, cells),
     }
 }
 
@@ -280,7 +280,7 @@ fn leafless(node: &Node, leaf: &Leaf, cells: &mut Cells) -> Result<Remains, Allo
 {
     cells.leave(leaf.cell())?;
     cells.leave(node.cell())?;
-    Ok(Remains::without_leaf(node)?)
+    Remains::without_leaf(node)
 }
 
 /// Nothing of the node, if there are leaves at it or under it.

@@ -1,12 +1,13 @@
 //! The beginning of a wipe: the rows that it lists, and the cut of their index.
-ghost use Rattle.std.specs.Prelude.{◌≡◌, ◌⊎◌, ◌+◌, ◌*◌, ◌<◌, ◌≤◌, ◌^◌, true, false, IfErr, IfOk, MatchResult, OnOk};
+ghost use Rattle.std.specs.Prelude.{◌≡◌, ◌⊎◌, ◌+◌, ◌*◌, ◌<◌, ◌≤◌, ◌^◌, true, false, IfErr, IfOk, MatchResult, Ok, OnOk};
 ghost use Rattle.std.specs.Prelude.{Contains, [], ◌∷◌, ◌++◌, if◌then◌else◌, length, map, slice_get};
 ghost use Rattle.mdb_datum.specs.Row.{Fields};
 ghost use Rattle.mdb_schema.specs.Wipe.{once};
-ghost use Rattle.mdb_schema.specs.Write.{is_among};
+ghost use Rattle.mdb_datum.specs.Bytes.{Bytes};
+ghost use Rattle.mdb_schema.specs.Write.{id_of, is_among};
 ghost use Rattle.radix_txn.specs.Txn.{txn_pairs};
 ghost use Rattle.table_index.specs.Table.{AreLeft, AreSpent};
-ghost use Rattle.table_index.specs.declared.wipe_error.WipeError.TheVariants.{Memory};
+ghost use Rattle.table_index.specs.declared.wipe_error.WipeError.TheVariants.{IdsSpent, Memory};
 ghost use Rattle.table_index.specs.inner.Drawn.{AreReady, HaveDrawn};
 ghost use Rattle.table_index.specs.inner.Held.{AreSound, AreTrees, nodes_of};
 ghost use Rattle.table_index.specs.inner.Wipes.{BeginsWipe, GivesUp, IsStored, cut_at, listed_from};
@@ -17,6 +18,7 @@ use crate::ids_left::has_ids;
 use crate::stored::stored_id;
 use crate::tree_edit::delete_prefix;
 use crate::wipe_error::WipeError;
+use mdb_datum::Row;
 use mdb_schema::TableDef;
 use radix_iter::{Walk, ascend};
 use radix_node::Ids;
@@ -49,17 +51,40 @@ pub(crate) fn cut_listed(
     ensures written { OnOk result
         (TreesWrote (IsCutAt place key.now txns.old) txns.old txns.new) }
 {
-    let listed = walk_at(alloc, txns, place, key)?;
+    let listed = checked_walk(alloc, def, txns, ids, place, key)?;
     let count = listed.len();
-    let enough = are_enough(alloc, def, txns, ids, place, key, count)?;
-    if !enough {
-        return Err(WipeError::IdsSpent);
-    }
     if count == 0 {
         return Ok(None);
     }
     cut_at(txns, front, ids, place, key)?;
     Ok(Some(listed))
+}
+
+/// A walk over the rows that the index at a place lists under a key, if there are ids for them.
+fn checked_walk(
+    alloc: Global,
+    def: &TableDef,
+    txns: &mut [TreeTxn],
+    ids: &Ids,
+    place: usize,
+    key: &[u8],
+) -> Result<Walk, WipeError>
+    requires place { place < length txns.old }
+    requires sound { AreSound txns.old }
+    requires held { AreTrees def.now (nodes_of txns.old) }
+    ensures answers { let rows = length (once def.now (listed_from key.now (slice_get txns.old place))) in
+        MatchResult result
+        (λ w. (w ≡ listed_from key.now (slice_get txns.old place)) × AreLeft ids.now.next rows)
+        (λ e. (e ≡ Memory) ⊎ (AreSpent ids.now.next rows × (e ≡ IdsSpent))) }
+    ensures unchanged { txns.new ≡ txns.old }
+{
+    let listed = walk_at(alloc, txns, place, key)?;
+    let count = listed.len();
+    if are_enough(alloc, def, txns, ids, place, key, count)? {
+        Ok(listed)
+    } else {
+        Err(WipeError::IdsSpent)
+    }
 }
 
 /// A walk over the rows that the index at a place lists under a key.
@@ -143,10 +168,26 @@ fn count_once(alloc: Global, def: &TableDef, mut listed: Walk) -> Result<usize, 
 {
     let mut seen: Vec<IdKey> = Vec::new(alloc);
     'rows: while let Some(row) = listed.next()? {
-        let id = stored_id(alloc, def, &row)?;
-        add_once(&mut seen, id)?;
+        count_row(alloc, def, &row, &mut seen)?;
     }
     Ok(seen.len())
+}
+
+/// Adds the `id` key of a row that stands in the table to keys, if it isn't there yet.
+fn count_row(
+    alloc: Global,
+    def: &TableDef,
+    row: &Row,
+    seen: &mut Vec<IdKey>,
+) -> Result<(), WipeError>
+    requires { IsStored def.now row.now }
+    ensures { MatchResult result
+        (λ _. (id : Bytes) × (id_of def.now row.now ≡ Ok id) × (seen.new.items
+        ≡ (if is_among seen.old.items id then seen.old.items else seen.old.items ++ id ∷ [])))
+        (λ e. e ≡ Memory) }
+{
+    let id = stored_id(alloc, def, row)?;
+    Ok(add_once(seen, id)?)
 }
 
 /// Adds a key, if it isn't there yet.

@@ -105,16 +105,40 @@ fn write_row(
 {
     let count = def.len();
     prove!(0 < count);
+    let keys = match keys_to_write(alloc, def, txns, ids, row) {
+        Ok(keys) => keys,
+        Err(error) => return Err(error),
+    };
+    let PutKeys { new, old } = keys;
+    replace_each(txns, front, ids, new.lists(), old.keys.lists(), row)?;
+    Ok(old.there)
+}
+
+/// The full keys that a put takes out and puts in, if it isn't refused and there are ids for it.
+fn keys_to_write(
+    alloc: Global,
+    def: &TableDef,
+    txns: &[TreeTxn],
+    ids: &Ids,
+    row: &Row,
+) -> Result<PutKeys, WriteError>
+    requires sound { AreSound txns.now }
+    requires held { AreTrees def.now (nodes_of txns.now) }
+    ensures { let rows = rows_held def.now (nodes_of txns.now) in
+        MatchResult result
+        (λ keys. AreLeft ids.now.next 1
+        × IsAccepted def.now row.now rows keys.new keys.old.keys keys.old.there)
+        (λ e. IsRefused ids.now.next (put_row def.now row.now rows) e txns.now txns.now) }
+{
     let keys = match accepted_keys(alloc, def, txns, row) {
         Ok(keys) => keys,
         Err(error) => return Err(error),
     };
-    if !has_ids(ids, 1) {
-        return Err(WriteError::IdsSpent);
+    if has_ids(ids, 1) {
+        Ok(keys)
+    } else {
+        Err(WriteError::IdsSpent)
     }
-    let PutKeys { new, old } = keys;
-    replace_each(txns, front, ids, new.lists(), old.keys.lists(), row)?;
-    Ok(old.there)
 }
 
 /// The full keys that a put takes out and puts in, if it isn't refused.

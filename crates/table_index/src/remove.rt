@@ -3,7 +3,8 @@ ghost use Rattle.std.specs.Prelude.{◌≡◌, ◌⊎◌, ◌+◌, ◌*◌, ◌�
 ghost use Rattle.std.specs.Prelude.{IfErr, MatchResult, length, map};
 ghost use Rattle.mdb_schema.specs.State.{row_at};
 ghost use Rattle.mdb_schema.specs.Tests.{each};
-ghost use Rattle.mdb_schema.specs.Write.{indexes_of, remove_row};
+ghost use Rattle.mdb_encode.specs.Bytes.{Bytes};
+ghost use Rattle.mdb_schema.specs.Write.{id_of, indexes_of, remove_row};
 ghost use Rattle.mdb_schema.specs.declared.write_error.WriteError.TheVariants.{Memory, NotFound};
 ghost use Rattle.radix_txn.specs.Txn.{txn_pairs};
 ghost use Rattle.table_index.specs.Table.{AnswersRemove, AreAllBelow, AreAllOf, AreDrawn, AreLeft};
@@ -94,6 +95,31 @@ fn take_row(
 {
     let count = def.len();
     prove!(0 < count);
+    match row_to_take(alloc, def, txns, ids, row) {
+        Ok(stored) => delete_stored(txns, front, ids, stored),
+        Err(error) => Err(error),
+    }
+}
+
+/// The row of another's `id` key and its full keys, if it is there and there are ids for a write.
+fn row_to_take(
+    alloc: Global,
+    def: &TableDef,
+    txns: &[TreeTxn],
+    ids: &Ids,
+    row: &Row,
+) -> Result<StoredRow, WriteError>
+    requires sound { AreSound txns.now }
+    requires held { AreTrees def.now (nodes_of txns.now) }
+    ensures { let rows = rows_held def.now (nodes_of txns.now) in
+        MatchResult result
+        (λ stored. AreLeft ids.now.next 1 × (id : Bytes) × (id_of def.now row.now ≡ Ok id)
+        × (row_at def.now id rows ≡ Some stored.row)
+        × (each (full_keys_at id stored.row) (indexes_of def.now) ≡ Ok stored.keys))
+        (λ e. IsRefused ids.now.next (remove_row def.now row.now rows) e txns.now txns.now) }
+{
+    // The definition is lawful by its type.
+    let _ = def.len();
     let id = match id_key_of(alloc, def, row) {
         Ok(id) => id,
         Err(error) => return Err(error),
@@ -102,10 +128,11 @@ fn take_row(
         Ok(stored) => stored,
         Err(error) => return Err(error),
     };
-    if !has_ids(ids, 1) {
-        return Err(WriteError::IdsSpent);
+    if has_ids(ids, 1) {
+        Ok(stored)
+    } else {
+        Err(WriteError::IdsSpent)
     }
-    delete_stored(txns, front, ids, stored)
 }
 
 /// Takes the full keys of a row out of the trees, and gives the row. After an error some may be

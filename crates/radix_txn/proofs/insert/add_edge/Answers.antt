@@ -15,7 +15,7 @@ spliced-requires-clause-in_range c = subst (λ (es : List PlainNode). c.args.at 
 
 pub returns-clause-node : goal.returns-clause-node
 returns-clause-node c =
-    c.in_ok-with_edges.ensures.node
+    c.in_ok-node.ensures.node
     ∙ (λ i. record {
       prefix = (plain_node c.args.node.now).prefix;
       leaf = (plain_node c.args.node.now).leaf;
@@ -26,8 +26,8 @@ returns-clause-node c =
 pub returns-clause-cells : goal.returns-clause-cells
 returns-clause-cells c =
     let new = c.in_ok-edge.ensures.cells in
-    let made = c.in_ok-with_edges.ensures.cells in
-    gap_step (arc_value c.args.leaf) (cell_node c.args.node.now) (cell_ref c.in_ok-with_edges.field-0) (led_node c.in_ok-edge.edge) c.args.at new.0 made.0 c.args.cells.now c.leaf_edge.new.cells _ c.in_ok-edge.ensures.begun new.1 (c.args.label ∷ c.args.prefix.now) new.2 c.in_ok-edge.ensures.drawn made.1
+    let made = c.in_ok-node.ensures.cells in
+    gap_step (arc_value c.args.leaf) (cell_node c.args.node.now) (cell_ref c.in_ok-node.node) (led_node c.in_ok-edge.edge) c.args.at new.0 made.0 c.args.cells.now c.leaf_edge.new.cells _ c.in_ok-edge.ensures.begun new.1 (c.args.label ∷ c.args.prefix.now) new.2 c.in_ok-edge.ensures.drawn made.1
     (made.2
     ∙ (λ i. record {
       cell = made.0;
@@ -35,11 +35,11 @@ returns-clause-cells c =
       leaf = (cell_node c.args.node.now).leaf;
       under = cells_in ((c.in_ok-edges.ensures.cells ∙ ap (λ (es : List CellNode). take c.args.at es ++ led_node c.in_ok-edge.edge ∷ drop c.args.at es) (cells_list_of _ _ c.edges-2.ensures.cells)) i);
     }))
-    c.in_ok-with_edges.ensures.left
+    c.in_ok-node.ensures.left
 
 pub returns-clause-edge : goal.returns-clause-edge
 returns-clause-edge c =
-    let made = c.in_ok-with_edges.ensures.cells in (
+    let made = c.in_ok-node.ensures.cells in (
       made.0,
       omega (arith, made.1.0, ap (λ (l : Ledger). l.next) c.in_ok-edge.ensures.drawn),
       led_node c.in_ok-edge.edge,

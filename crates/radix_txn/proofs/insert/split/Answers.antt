@@ -14,6 +14,8 @@ use Rattle.radix_txn.specs.inner.Steps.{IsNextOf, Ledger, one_drawn}
 use Rattle.radix_txn.proofs.CellSplit.{parted_order, split_beside_step, split_end_step}
 use Rattle.radix_txn.proofs.EditStays.{lower_stays, lower_there}
 use Rattle.radix_txn.proofs.Split.{lower_node, not_over, rest_led, split_long, split_short}
+use Rattle.std.proofs.lemmas.Result.{IfOk-weaker}
+use Rattle.radix_txn.proofs.Results.{if_both}
 use Rattle.radix_txn.proofs.insert.split.Goals as goal
 
 pub returns-then-shared-rest-clause-node : goal.returns-then-shared-rest-clause-node
@@ -23,9 +25,8 @@ returns-then-shared-rest-clause-node c =
     let at = c.args.shared in
     let rest = rest_led p _ at (subst (λ (z : Bytes). at < length z) (sym c.prefix-prefix.ensures) c.requires.parted) (take_rest p (at + 1)) ∙ ap (drop at) c.prefix-prefix.ensures in
     let low : edge_node c.in_ok-lower.lower ≡ lower_node (drop at m.prefix) m = c.in_ok-lower.ensures.edge ∙ ap (λ (z : Bytes). lower_node z m) rest in
-    c.in_ok-leaf_above.ensures.node
-    ∙ (λ i. record { prefix = c.args.rest.now; leaf = Some (leaf_pair c.args.leaf); under = nodes_in (low i ∷ []) })
-    ∙ split_short (leaf_pair c.args.leaf) c.args.rest.now m at c.requires.shared c.requires.parted c.if-shared-rest.true (drop at m.prefix) refl
+    IfOk-weaker c.leaf_above.result _ _ (λ r e. e ∙ (λ i. record { prefix = c.args.rest.now; leaf = Some (leaf_pair c.args.leaf); under = nodes_in (low i ∷ []) })
+    ∙ split_short (leaf_pair c.args.leaf) c.args.rest.now m at c.requires.shared c.requires.parted c.if-shared-rest.true (drop at m.prefix) refl) c.leaf_above.ensures.node
 
 pub returns-clause-node : goal.returns-clause-node
 returns-clause-node c =
@@ -35,9 +36,8 @@ returns-clause-node c =
     let key = c.args.rest.now in
     let rest = rest_led p _ at (subst (λ (z : Bytes). at < length z) (sym c.prefix-prefix.ensures) c.requires.parted) (take_rest p (at + 1)) ∙ ap (drop at) c.prefix-prefix.ensures in
     let low : edge_node c.in_ok-lower.lower ≡ lower_node (drop at m.prefix) m = c.in_ok-lower.ensures.edge ∙ ap (λ (z : Bytes). lower_node z m) rest in
-    c.in_ok-fork.ensures.node
-    ∙ (λ i. record { prefix = take at key; leaf = None; under = nodes_in (edge_put (leaf_node (drop at key) (leaf_pair c.args.leaf)) (low i ∷ [])) })
-    ∙ split_long (leaf_pair c.args.leaf) key m at c.requires.shared c.requires.parted c.if-shared-rest.false (drop at m.prefix) (drop at key) (take at key) refl refl refl
+    IfOk-weaker c.fork.result _ _ (λ r e. e ∙ (λ i. record { prefix = take at key; leaf = None; under = nodes_in (edge_put (leaf_node (drop at key) (leaf_pair c.args.leaf)) (low i ∷ [])) })
+    ∙ split_long (leaf_pair c.args.leaf) key m at c.requires.shared c.requires.parted c.if-shared-rest.false (drop at m.prefix) (drop at key) (take at key) refl refl refl) c.fork.ensures.node
 
 pub fork-requires-clause-in_range : goal.fork-requires-clause-in_range
 fork-requires-clause-in_range c = let m = plain_node c.args.node.now in not_over m.prefix c.args.rest.now c.args.shared c.requires.shared c.if-shared-rest.false
@@ -49,15 +49,13 @@ returns-then-shared-rest-clause-cells c =
     let k = cell_node c.args.node.now in
     let a = c.args.cells.now in
     let lower = c.in_ok-lower.ensures.cells in
-    let r = cell_ref c.in_ok-leaf_above.field-0 in
-    let upper = c.in_ok-leaf_above.ensures.cells in
-    split_end_step (arc_value c.args.leaf) k r (led_node c.in_ok-lower.lower) a _ c.in_ok-lower.ensures.begun
+    if_both c.leaf_above.result _ _ _ (λ made upper drawn. let r = cell_ref made in split_end_step (arc_value c.args.leaf) k r (led_node c.in_ok-lower.lower) a _ c.in_ok-lower.ensures.begun
     (subst (λ (n : CellNode). IsNextOf a n.cell) (sym lower.2) lower.1)
     (ap inside lower.2)
     (subst (λ (l : Ledger). IsNextOf l r.cell) c.in_ok-lower.ensures.left (subst (λ (n : CellNode). IsNextOf c.lower_edge.new.cells n.cell) (sym upper.2) upper.1))
     (ap (λ (n : CellNode). n.leaf) upper.2)
     (ap (λ (n : CellNode). n.under) upper.2)
-    (c.in_ok-leaf_above.ensures.drawn ∙ ap one_drawn c.in_ok-lower.ensures.left)
+    (drawn ∙ ap one_drawn c.in_ok-lower.ensures.left)) c.leaf_above.ensures.cells c.leaf_above.ensures.drawn
 
 pub returns-clause-cells : goal.returns-clause-cells
 returns-clause-cells c =
@@ -70,8 +68,7 @@ returns-clause-cells c =
     let rest = rest_led p _ at (subst (λ (z : Bytes). at < length z) (sym c.prefix-prefix.ensures) c.requires.parted) (take_rest p (at + 1)) ∙ ap (drop at) c.prefix-prefix.ensures in
     let lower = c.in_ok-lower.ensures.cells in
     let low = led_node c.in_ok-lower.lower in
-    let r = cell_ref c.in_ok-fork.field-0 in
-    let upper = c.in_ok-fork.ensures.cells in
+    if_both c.fork.result _ _ _ (λ made upper drawn. let r = cell_ref made in
     let v = upper.0 in
     let order : first_order v.prefix low.prefix ≢ Equal =
     subst (λ (z : Bytes). first_order v.prefix z ≢ Equal) (sym (ap (λ (n : CellNode). n.prefix) lower.2 ∙ rest))
@@ -88,15 +85,15 @@ returns-clause-cells c =
     (ap (λ (n : CellNode). n.leaf) upper.5)
     order
     (ap (λ (n : CellNode). n.under) upper.5)
-    (c.in_ok-fork.ensures.drawn ∙ ap (λ (l : Ledger). one_drawn (one_drawn l)) c.in_ok-lower.ensures.left)
+    (drawn ∙ ap (λ (l : Ledger). one_drawn (one_drawn l)) c.in_ok-lower.ensures.left)) c.fork.ensures.cells c.fork.ensures.drawn
 
 -- ---- what stays
 
 pub returns-then-shared-rest-clause-stays : goal.returns-then-shared-rest-clause-stays
 returns-then-shared-rest-clause-stays c =
     let low = led_node c.in_ok-lower.lower in
-    lower_stays (cell_node c.args.node.now) (cell_ref c.in_ok-leaf_above.field-0) low (low ∷ []) (ap inside c.in_ok-lower.ensures.cells.2)
-    (ap (λ (n : CellNode). n.under) c.in_ok-leaf_above.ensures.cells.2) (inl refl)
+    IfOk-weaker c.leaf_above.result _ _ (λ r upper. lower_stays (cell_node c.args.node.now) (cell_ref r) low (low ∷ []) (ap inside c.in_ok-lower.ensures.cells.2)
+    (ap (λ (n : CellNode). n.under) upper.2) (inl refl)) c.leaf_above.ensures.cells
 
 pub returns-clause-stays : goal.returns-clause-stays
 returns-clause-stays c =
@@ -107,11 +104,10 @@ returns-clause-stays c =
     let rest = rest_led p _ at (subst (λ (z : Bytes). at < length z) (sym c.prefix-prefix.ensures) c.requires.parted) (take_rest p (at + 1)) ∙ ap (drop at) c.prefix-prefix.ensures in
     let lower = c.in_ok-lower.ensures.cells in
     let low = led_node c.in_ok-lower.lower in
-    let upper = c.in_ok-fork.ensures.cells in
-    let v = upper.0 in
+    IfOk-weaker c.fork.result _ _ (λ r upper. let v = upper.0 in
     let order : first_order v.prefix low.prefix ≢ Equal =
     subst (λ (z : Bytes). first_order v.prefix z ≢ Equal) (sym (ap (λ (n : CellNode). n.prefix) lower.2 ∙ rest))
     (subst (λ (z : Bytes). first_order z (drop at m.prefix) ≢ Equal) (sym (ap (λ (n : CellNode). n.prefix) upper.4))
     (parted_order m.prefix key at c.requires.shared c.requires.parted (not_over m.prefix key at c.requires.shared c.if-shared-rest.false))) in
-    lower_stays (cell_node c.args.node.now) (cell_ref c.in_ok-fork.field-0) low (cell_put v (low ∷ [])) (ap inside lower.2)
-    (ap (λ (n : CellNode). n.under) upper.5) (lower_there v low order)
+    lower_stays (cell_node c.args.node.now) (cell_ref r) low (cell_put v (low ∷ [])) (ap inside lower.2)
+    (ap (λ (n : CellNode). n.under) upper.5) (lower_there v low order)) c.fork.ensures.cells

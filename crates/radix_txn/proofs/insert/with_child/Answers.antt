@@ -6,6 +6,7 @@ use Rattle.radix_node.specs.Node.{PlainNode, labelled, nodes_in, edge_node, plai
 use Rattle.radix_txn.proofs.CellInserts.{cells_list_of, led_in}
 use Rattle.radix_txn.proofs.InsertSteps.{put_at}
 use Rattle.radix_txn.proofs.SettledNode.{list_of, next_fits}
+use Rattle.std.proofs.lemmas.Result.{IfOk-weaker}
 use Rattle.radix_txn.proofs.insert.with_child.Goals as goal
 
 pub overflow_add-at : goal.overflow_add-at
@@ -16,17 +17,16 @@ spliced-requires-clause-in_range c = let few = subst (λ (es : List PlainNode). 
 
 pub returns-clause-node : goal.returns-clause-node
 returns-clause-node c =
-    c.in_ok-with_edges.ensures.node
-    ∙ (λ i. record {
+    IfOk-weaker c.with_edges.result _ _ (λ r e. e ∙ (λ i. record {
       prefix = (plain_node c.args.node.now).prefix;
       leaf = (plain_node c.args.node.now).leaf;
       under = nodes_in ((c.in_ok-edges.ensures.edges ∙ ap (λ (es : List PlainNode). take c.args.at es ++ edge_node c.of.result ∷ drop (c.args.at + 1) es) (list_of _ _ c.edges.ensures.edges)) i);
     })
-    ∙ put_at (plain_node c.args.node.now) c.args.at (c.args.at + 1) (ap labelled c.of.ensures.edge)
+    ∙ put_at (plain_node c.args.node.now) c.args.at (c.args.at + 1) (ap labelled c.of.ensures.edge)) c.with_edges.ensures.node
 
 pub returns-clause-cells : goal.returns-clause-cells
 returns-clause-cells c =
-    let made = c.in_ok-with_edges.ensures.cells in (
+    IfOk-weaker c.with_edges.result _ _ (λ r made. (
       made.0,
       made.1,
       made.2
@@ -37,4 +37,4 @@ returns-clause-cells c =
             under = cells_in ((c.in_ok-edges.ensures.cells ∙ ap (λ (es : List CellNode). take c.args.at es ++ led_node c.of.result ∷ drop (c.args.at + 1) es) (cells_list_of _ _ c.edges.ensures.cells)) i);
           })
           ∙ led_in (cell_node c.args.node.now) c.args.at made.0 (ap edge_led c.of.ensures.cells),
-    )
+    )) c.with_edges.ensures.cells

@@ -5,12 +5,13 @@ use Rattle.radix_node.specs.CellNode.{cell_edges, cell_ref}
 use Rattle.radix_node.specs.Cells.{cells_in}
 use Rattle.radix_txn.specs.inner.Pieces.{inside}
 use Rattle.radix_txn.proofs.CellRemains.{kept_step}
+use Rattle.std.proofs.lemmas.Result.{IfOk-weaker}
+use Rattle.radix_txn.proofs.Results.{if_both}
 use Rattle.radix_txn.proofs.remains.kept.Goals as goal
 
 pub returns-clause-cells : goal.returns-clause-cells
 returns-clause-cells c =
-    let made = c.in_ok-of.ensures.cells in
-    kept_step (option_map arc_value c.args.leaf) (cells_in (cell_edges c.args.edges)) c.args.prefix.now (cell_ref c.in_ok-of.field-0) made.0 c.args.cells.now c.of.new.cells c.in_ok-of.ensures.begun made.1 made.2 c.in_ok-of.ensures.drawn
+    if_both c.of.result _ _ _ (λ r made drawn. kept_step (option_map arc_value c.args.leaf) (cells_in (cell_edges c.args.edges)) c.args.prefix.now (cell_ref r) made.0 c.args.cells.now c.of.new.cells c.of.ensures.begun made.1 made.2 drawn) c.of.ensures.cells c.of.ensures.drawn
 
 pub returns-clause-stays : goal.returns-clause-stays
-returns-clause-stays c = ap inside c.in_ok-of.ensures.cells.2
+returns-clause-stays c = IfOk-weaker c.of.result _ _ (λ r made. ap inside made.2) c.of.ensures.cells

@@ -21,6 +21,7 @@ use Rattle.radix_txn.proofs.EditStays.{above_stays, covered_stays, no_bytes}
 use Rattle.radix_txn.proofs.Outside.{all_in_then}
 use Rattle.radix_txn.proofs.InsertSteps.{in_range, led_prefix, led_there, tree_of, with_at}
 use Rattle.radix_txn.proofs.RemoveSteps.{covered_loses, covered_removal, err_always, fewer, gap_missing, onward_loses, onward_missing, onward_removal, parted_missing, removal_loses}
+use Rattle.std.proofs.lemmas.Result.{IfOk-weaker}
 use Rattle.radix_txn.proofs.remove.+remove.Goals as goal
 
 pub find_edge-requires : goal.find_edge-requires
@@ -165,4 +166,4 @@ returns-in_ok-above-in-Some-2-clause-stays t c =
 
 pub returns-in_default-clause-stays : goal.returns-in_default-clause-stays
 returns-in_default-clause-stays t c =
-    subst (λ (z : Bytes). IfSome c.in_ok-remove_here.field-0 (λ (r : Removed). AllIn (outside_node c.args.target z (cell_node c.args.node.now)) (stays_left r.remains))) (sym (no_bytes c.args.rest.now c.in_default.ensures.cases)) c.in_ok-remove_here.ensures.stays
+    IfOk-weaker c.remove_here.result _ _ (λ o stays. subst (λ (z : Bytes). IfSome o (λ (r : Removed). AllIn (outside_node c.args.target z (cell_node c.args.node.now)) (stays_left r.remains))) (sym (no_bytes c.args.rest.now c.in_default.ensures.cases)) stays) c.remove_here.ensures.stays

@@ -1,5 +1,6 @@
-use Rattle.std.proofs.Common.{◌≡◌, ◌∙◌, ◌<◌, List, length, slice_get, Some, option_map, get_or, refl, sym, ap, subst, arith, MatchResult}
-use Rattle.std.proofs.lemmas.List.{length-map}
+use Rattle.std.proofs.Common.{◌≡◌, ◌∙◌, ◌<◌, false, set, List, length, slice_get, Some, option_map, get_or, refl, sym, ap, subst, arith, MatchResult}
+use Rattle.std.proofs.lemmas.List.{length-map, set-get_or}
+use Rattle.std.proofs.lemmas.List.Elements.{All-get_or}
 use Rattle.std.proofs.lemmas.Option.{get_or_from_slice_get, slice_get-map, slice_get_read}
 use Rattle.mdb_datum.specs.Row.{Pair}
 use Rattle.mdb_schema.specs.Answer.{answer, is_exact}
@@ -30,3 +31,19 @@ returns-in-Ok-clause-answers c =
     let pairs = pairs_there t (nodes_of txns) c.requires.held at.place at.index c.in-Ok.ensures.there tree is in
     answered t (nodes_of txns) _ refl c.ask.result q c.ask.ensures at c.answer_standing.result c.in-Ok.ensures.answers
     (subst (λ (es : List Pair). MatchResult c.answer_standing.result (λ a. a ≡ answer q.ask (is_exact at.index q) at.key es) (λ e. e ≡ Memory)) pairs c.answer_standing.ensures.answers)
+
+-- ---- the tree at the place
+
+pub bounds-txns-place : goal.bounds-txns-place
+bounds-txns-place c =
+    let less = place_there c.args.def.now (nodes_of c.args.txns.now) c.requires.held c.in-Ok.at.place c.in-Ok.at.index c.in-Ok.ensures.there in
+    omega (arith, less, length-map c.args.txns.now (λ (x : Txn). plain_of x.tree), c.place.ensures)
+
+pub answer_standing-requires : goal.answer_standing-requires
+answer_standing-requires c =
+    let less = place_there c.args.def.now (nodes_of c.args.txns.now) c.requires.held c.in-Ok.at.place c.in-Ok.at.index c.in-Ok.ensures.there in
+    let within : c.place.result < length c.args.txns.now = omega (arith, less, length-map c.args.txns.now (λ (x : Txn). plain_of x.tree), c.place.ensures) in
+    record { sound = All-get_or (λ (x : Txn). x.spoiled ≡ false) c.args.txns.now c.place.result c.index-txns-place.result within c.requires.sound }
+
+pub returns-in-Ok-clause-unchanged : goal.returns-in-Ok-clause-unchanged
+returns-in-Ok-clause-unchanged c = ap (set c.args.txns.now c.place.result) c.answer_standing.ensures.unchanged ∙ set-get_or c.args.txns.now c.place.result c.index-txns-place.result

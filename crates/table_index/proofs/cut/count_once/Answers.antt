@@ -6,16 +6,16 @@ use Rattle.table_index.proofs.cut.count_once.Goals as goal
 pub rows-init : goal.rows-init
 rows-init c = counts_first c.args.def.now c.args.listed c.new-seen.result.items c.new-seen.ensures.items c.requires
 
-pub stored_id-requires : goal.stored_id-requires
-stored_id-requires c =
+pub count_row-requires : goal.count_row-requires
+count_row-requires c =
     let first : first_item c.rows.listed ≡ Some c.in-Some.row = sym c.in_ok-row.ensures.next ∙ c.in-Some.is in
     counted_stored c.args.def.now c.args.listed c.rows.listed c.rows.seen.items c.in-Some.row first c.rows.invariant
 
 pub rows-preserved : goal.rows-preserved
 rows-preserved c =
     let first : first_item c.rows.listed ≡ Some c.in-Some.row = sym c.in_ok-row.ensures.next ∙ c.in-Some.is in
-    seen_next c.args.def.now c.args.listed c.rows.listed c.rows.seen.items c.in-Some.row first c.rows.invariant c.next.new.self c.in_ok-row.ensures.rest c.in_ok-id.id c.in_ok-id.ensures
-    c.add_once.new.keys.items c.in_ok-add_once.ensures
+    seen_next c.args.def.now c.args.listed c.rows.listed c.rows.seen.items c.in-Some.row first c.rows.invariant c.next.new.self c.in_ok-row.ensures.rest c.in_ok-count_row.ensures.0 c.in_ok-count_row.ensures.1
+    c.count_row.new.seen.items c.in_ok-count_row.ensures.2
 
 pub returns : goal.returns
 returns c =

@@ -1,4 +1,8 @@
-use Rattle.std.proofs.Common.{◌≡◌, ◌∙◌, List, Option, None, Some, sym, subst, slice_get}
+use Rattle.std.proofs.Common.{◌≡◌, ◌∙◌, List, Option, None, Some, length, sym, ap, subst, slice_get}
+use Rattle.std.proofs.lemmas.List.{length-map}
+use Rattle.radix_txn.specs.Txn.{Txn}
+use Rattle.table_index.proofs.DrawnIds.{ready_again}
+use Rattle.table_index.proofs.StoredRows.{same_count}
 use Rattle.mdb_datum.specs.Pairs.{first_item}
 use Rattle.mdb_datum.specs.Row.{Fields}
 use Rattle.table_index.specs.inner.Held.{nodes_of, rows_held}
@@ -126,3 +130,22 @@ returns-clause-written c =
     let cut : IsCut t c.args.place c.args.key.now c.in-Some.listed c.args.ids.now.next c.args.txns.now c.cut_listed.new.txns =
     subst (λ (o : Option (List Fields)). BeginsWipe t c.args.place c.args.key.now c.args.ids.now.next c.args.txns.now c.cut_listed.new.txns o) c.in-Some.is c.in-Ok.ensures.answers in
     once_wrote t c.len-indexes.ensures.lawful c.args.place c.args.key.now c.args.txns.now c.requires.held c.requires.place c.in-Some.listed cut.rows c.rows.txns c.rows.invariant.written
+
+-- ---- what the loop asks for
+
+pub move_listed-requires-clause-ready : goal.move_listed-requires-clause-ready
+move_listed-requires-clause-ready c =
+    ready_again c.args.front.now _ c.args.ids.now c.rows.ids c.args.txns.now c.rows.txns c.requires.ready.book c.rows.invariant.drawn c.rows.invariant.sound
+
+pub move_listed-requires-clause-both : goal.move_listed-requires-clause-both
+move_listed-requires-clause-both c =
+    sym (length-map c.rows.txns (λ (x : Txn). x.start)) ∙ ap length c.rows.invariant.drawn.start ∙ length-map c.args.txns.now (λ (x : Txn). x.start)
+    ∙ same_count c.args.def.now c.args.txns.now c.len-indexes.ensures.lawful c.requires.held
+
+pub returns-in_err-row-clause-drawn : goal.returns-in_err-row-clause-drawn
+returns-in_err-row-clause-drawn c =
+    let t = c.args.def.now in
+    let cut : IsCut t c.args.place c.args.key.now c.in-Some.listed c.args.ids.now.next c.args.txns.now c.cut_listed.new.txns =
+    subst (λ (o : Option (List Fields)). BeginsWipe t c.args.place c.args.key.now c.args.ids.now.next c.args.txns.now c.cut_listed.new.txns o) c.in-Some.is c.in-Ok.ensures.answers in
+    drawn_last t c.len-indexes.ensures.lawful c.args.place c.args.key.now c.args.txns.now c.requires.held c.requires.place c.in-Some.listed c.args.ids.now.next c.cut_listed.new.txns cut c.rows.gone c.rows.listed c.rows.txns
+    c.args.front.now c.args.ids.now c.rows.ids c.rows.invariant.stands c.rows.invariant.drawn

@@ -11,6 +11,7 @@ use Rattle.radix_txn.specs.inner.Pieces.{inside_of, ref_list}
 use Rattle.radix_txn.specs.inner.Steps.{Steps}
 use Rattle.radix_txn.proofs.EditStays.{kept_stays}
 use Rattle.radix_txn.proofs.SettledNode.{none_map, settled_leaf, settled_wide, some_map}
+use Rattle.std.proofs.lemmas.Result.{IfOk-weaker}
 use Rattle.radix_txn.proofs.remains.Remains.settled.Goals as goal
 use Rattle.radix_txn.proofs.remains.Remains.settled.Goals.{then-is_some-via-then-is_some, then-is_some-via-else-is_some+then-len-gt1}
 
@@ -27,13 +28,12 @@ lone-requires-clause-few c = omega (arith, c.len.ensures, c.if-len-gt1.false)
 
 pub returns-clause-plain : goal.returns-clause-plain
 returns-clause-plain c =
-    c.in_ok-lone.ensures.plain
-    ∙ sym (ap (λ (o : Option Pair). settled_node c.args.prefix.now o (nodes_in (edges_of c.args.self.edges))) (none_map leaf_pair c.args.self.leaf c.if-is_some.ensures))
+    IfOk-weaker c.lone.result _ _ (λ n plain. plain ∙ sym (ap (λ (o : Option Pair). settled_node c.args.prefix.now o (nodes_in (edges_of c.args.self.edges))) (none_map leaf_pair c.args.self.leaf c.if-is_some.ensures))) c.lone.ensures.plain
 
 pub returns-clause-cells : goal.returns-clause-cells
-returns-clause-cells c front =
-    subst (λ (o : Option CellLeaf). Steps (inside_of o (cells_in (cell_edges c.args.self.edges))) c.args.cells.now (node_pieces (cells_in (ref_list front c.in_ok-lone.field-0))) c.lone.new.cells) (sym (none_map arc_value c.args.self.leaf c.if-is_some.ensures))
-    (c.in_ok-lone.ensures.cells front)
+returns-clause-cells c =
+    IfOk-weaker c.lone.result _ _ (λ n cells front. subst (λ (o : Option CellLeaf). Steps (inside_of o (cells_in (cell_edges c.args.self.edges))) c.args.cells.now (node_pieces (cells_in (ref_list front n))) c.lone.new.cells) (sym (none_map arc_value c.args.self.leaf c.if-is_some.ensures))
+    (cells front)) c.lone.ensures.cells
 
 -- ---- what stays
 
@@ -43,5 +43,5 @@ returns-then-is_some-clause-stays c =
 
 pub returns-clause-stays : goal.returns-clause-stays
 returns-clause-stays c =
-    subst (λ (o : Option CellLeaf). AllIn (below_pieces o (cells_in (cell_edges c.args.self.edges))) (inner_pieces (cells_in (ref_list [] c.in_ok-lone.field-0)))) (sym (none_map arc_value c.args.self.leaf c.if-is_some.ensures))
-    c.in_ok-lone.ensures.stays
+    IfOk-weaker c.lone.result _ _ (λ n stays. subst (λ (o : Option CellLeaf). AllIn (below_pieces o (cells_in (cell_edges c.args.self.edges))) (inner_pieces (cells_in (ref_list [] n)))) (sym (none_map arc_value c.args.self.leaf c.if-is_some.ensures))
+    stays) c.lone.ensures.stays
