@@ -12,40 +12,74 @@ fn file_bytes(alloc: Global, length: usize) -> Result<Vec<u8>, AllocError> {
     Ok(bytes)
 }
 
-/// One file `a` of these bytes, and the call that fails, counted from 1: at 0 none does.
-fn one_file(alloc: Global, bytes: Vec<u8>, fails: u64) -> Result<MemFiles, AllocError> {
+/// The file `a` of these bytes.
+fn listed(alloc: Global, bytes: Vec<u8>) -> Result<FileList, AllocError> {
     let mut list = FileList::new(alloc);
     list.push((Text::of(alloc, "a")?, bytes))?;
-    let mut calls = CallList::new(alloc);
-    calls.push(fails)?;
-    Ok(MemFiles::of(list, calls))
+    Ok(list)
 }
 
-/// What the reading of a file of so many bytes comes to, where a call may fail.
-fn outcome(alloc: Global, length: usize, fails: u64) -> Result<&'static str, AllocError> {
-    let bytes = file_bytes(alloc, length)?;
-    let mut files = one_file(alloc, file_bytes(alloc, length)?, fails)?;
+/// The call that fails, counted from 1: at 0 none does.
+fn failing(alloc: Global, call: u64) -> Result<CallList, AllocError> {
+    let mut calls = CallList::new(alloc);
+    calls.push(call)?;
+    Ok(calls)
+}
+
+/// One file `a` of so many bytes, where a call may fail.
+fn one_file(alloc: Global, length: usize, fails: u64) -> Result<MemFiles, AllocError> {
+    let list = listed(alloc, file_bytes(alloc, length)?)?;
+    Ok(MemFiles::of(list, failing(alloc, fails)?))
+}
+
+/// Reads the file `a` as file 3.
+fn read_one(alloc: Global, files: &mut MemFiles) -> Result<Vec<u8>, LoadError> {
     let mut piece = new_piece(alloc)?;
     let name = Text::of(alloc, "a")?;
-    match read_file(alloc, &mut files, 3, &name, &mut piece) {
-        Err(LoadError::Memory) => Err(AllocError),
-        found => Ok(word_of(found, &bytes)),
-    }
+    read_file(alloc, files, 3, &name, &mut piece)
+}
+
+/// Reads a file of so many bytes as file 3, where a call may fail.
+fn read_bytes(alloc: Global, length: usize, fails: u64) -> Result<Vec<u8>, LoadError> {
+    let mut files = one_file(alloc, length, fails)?;
+    read_one(alloc, &mut files)
+}
+
+/// What that reading comes to.
+fn outcome(alloc: Global, length: usize, fails: u64) -> Result<&'static str, AllocError> {
+    let bytes = file_bytes(alloc, length)?;
+    word_of(&read_bytes(alloc, length, fails), &bytes)
 }
 
 /// A word for what was read as file 3, beside the bytes that the file has.
-fn word_of(found: Result<Vec<u8>, LoadError>, bytes: &[u8]) -> &'static str {
+fn word_of(found: &Result<Vec<u8>, LoadError>, bytes: &[u8]) -> Result<&'static str, AllocError> {
     match found {
-        Ok(found) if found.as_slice() == bytes => "whole",
-        Ok(_found) => "other bytes",
-        Err(LoadError::Read { file: 3 }) => "unread",
-        Err(LoadError::TooLarge { file: 3 }) => "too large",
-        Err(_error) => "another error",
+        Ok(found) => Ok(bytes_word(found, bytes)),
+        Err(error) => error_word(error),
+    }
+}
+
+fn bytes_word(found: &[u8], bytes: &[u8]) -> &'static str {
+    if found == bytes {
+        "whole"
+    } else {
+        "other bytes"
+    }
+}
+
+fn error_word(error: &LoadError) -> Result<&'static str, AllocError> {
+    match error {
+        LoadError::Memory => Err(AllocError),
+        LoadError::Read { file: 3 } => Ok("unread"),
+        LoadError::TooLarge { file: 3 } => Ok("too large"),
+        _ => Ok("another error"),
     }
 }
 
 /// A file's length, the call that fails, and what its reading comes to.
-const CASES: [(usize, u64, &str); 17] = [
+type Case = (usize, u64, &'static str);
+
+const CASES: [Case; 17] = [
     (0, 0, "whole"),
     (1, 0, "whole"),
     (65_535, 0, "whole"),
@@ -65,11 +99,20 @@ const CASES: [(usize, u64, &str); 17] = [
     (1_048_577, 18, "too large"),
 ];
 
+/// How many cases come to what they say before the first that doesn't.
+fn count_held(alloc: Global, cases: &[Case]) -> Result<usize, AllocError> {
+    for at in 0..cases.len() {
+        let (length, fails, want) = cases[at];
+        if outcome(alloc, length, fails)? != want {
+            return Ok(at);
+        }
+    }
+    Ok(cases.len())
+}
+
 #[test]
 fn a_file_is_read_by_pieces_up_to_the_limit(rt: HostRuntime) -> Result<(), Fail> {
-    for (length, fails, want) in &CASES {
-        let found = outcome(rt.alloc(), *length, *fails)?;
-        assert!(rt; found == *want, "{length} bytes, call {fails}: {found}");
-    }
+    let count = count_held(rt.alloc(), &CASES)?;
+    assert!(rt; count == CASES.len(), "after {count}");
     Ok(())
 }

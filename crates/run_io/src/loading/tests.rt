@@ -20,39 +20,65 @@ fn list(alloc: Global, files: &mut FileList, name: &str, text: &str) -> Result<(
     ))
 }
 
-/// The files `S`, `c1` and `c2`, and the call that fails, counted from 1: at 0 none does.
+/// Lists the files `c1` and `c2`.
+fn list_clients(
+    alloc: Global,
+    files: &mut FileList,
+    first: &str,
+    second: &str,
+) -> Result<(), AllocError> {
+    list(alloc, files, "c1", first)?;
+    list(alloc, files, "c2", second)
+}
+
+/// The files `S`, `c1` and `c2`.
+fn listed(alloc: Global, texts: (&str, &str, &str)) -> Result<FileList, AllocError> {
+    let mut files = FileList::new(alloc);
+    list(alloc, &mut files, "S", texts.0)?;
+    list_clients(alloc, &mut files, texts.1, texts.2)?;
+    Ok(files)
+}
+
+/// The call that fails, counted from 1: at 0 none does.
+fn failing(alloc: Global, call: u64) -> Result<CallList, AllocError> {
+    let mut calls = CallList::new(alloc);
+    calls.push(call)?;
+    Ok(calls)
+}
+
+/// Those files, where a call may fail.
 fn three_files(
     alloc: Global,
     texts: (&str, &str, &str),
     fails: u64,
 ) -> Result<MemFiles, AllocError> {
-    let mut files = FileList::new(alloc);
-    list(alloc, &mut files, "S", texts.0)?;
-    list(alloc, &mut files, "c1", texts.1)?;
-    list(alloc, &mut files, "c2", texts.2)?;
-    let mut calls = CallList::new(alloc);
-    calls.push(fails)?;
-    Ok(MemFiles::of(files, calls))
+    let files = listed(alloc, texts)?;
+    Ok(MemFiles::of(files, failing(alloc, fails)?))
+}
+
+/// Adds a copy of a name.
+fn add_name(alloc: Global, name: &str, names: &mut Texts) -> Result<(), AllocError> {
+    names.push(Text::of(alloc, name)?)
 }
 
 /// The names of the clients, parted by blanks.
 fn named(alloc: Global, names: &str) -> Result<Texts, AllocError> {
     let mut texts = Texts::new(alloc);
     for name in names.split(' ') {
-        texts.push(Text::of(alloc, name)?)?;
+        add_name(alloc, name, &mut texts)?;
     }
     Ok(texts)
 }
 
 /// A word for what was loaded, with the number of the file or the client.
-fn word_of(found: &Result<Inputs, LoadError>) -> (&'static str, u32) {
+fn word_of(found: &Result<Inputs, LoadError>) -> Result<(&'static str, u32), AllocError> {
     match found {
-        Ok(inputs) => ("loaded", inputs.scripts.len().min(64) as u32),
-        Err(LoadError::Memory) => ("memory", 0),
-        Err(LoadError::Read { file }) => ("read", *file),
-        Err(LoadError::TooLarge { file }) => ("too large", *file),
-        Err(LoadError::Schema(error)) => (schema_word(error), 0),
-        Err(LoadError::Script { client, error }) => (script_word(error), *client),
+        Ok(inputs) => Ok(("loaded", inputs.scripts.len().min(64) as u32)),
+        Err(LoadError::Memory) => Err(AllocError),
+        Err(LoadError::Read { file }) => Ok(("read", *file)),
+        Err(LoadError::TooLarge { file }) => Ok(("too large", *file)),
+        Err(LoadError::Schema(error)) => Ok((schema_word(error), 0)),
+        Err(LoadError::Script { client, error }) => Ok((script_word(error), *client)),
     }
 }
 
@@ -75,7 +101,16 @@ fn script_word(error: &ScriptError) -> &'static str {
 }
 
 /// Three files, the clients to load, the call that fails, and what the load comes to.
-const CASES: [(&str, &str, &str, &str, u64, (&str, u32)); 14] = [
+type Case = (
+    &'static str,
+    &'static str,
+    &'static str,
+    &'static str,
+    u64,
+    (&'static str, u32),
+);
+
+static CASES: [Case; 14] = [
     (SCHEMA, "read\n", "write\n", "c1 c2", 0, ("loaded", 2)),
     (SCHEMA, "read\n", "write\n", "c2 c2", 0, ("loaded", 2)),
     (SCHEMA, "read\n", "write\n", "c1 x", 0, ("read", 2)),
@@ -106,13 +141,26 @@ const CASES: [(&str, &str, &str, &str, u64, (&str, u32)); 14] = [
     (SCHEMA, "", "", "c1", 0, ("loaded", 1)),
 ];
 
+/// Whether the load comes to what the case says.
+fn comes(alloc: Global, case: &Case) -> Result<bool, AllocError> {
+    let found = outcome(alloc, (case.0, case.1, case.2), case.3, case.4)?;
+    Ok(found == case.5)
+}
+
+/// How many cases come to what they say before the first that doesn't.
+fn count_held(alloc: Global, cases: &[Case]) -> Result<usize, AllocError> {
+    for at in 0..cases.len() {
+        if !comes(alloc, &cases[at])? {
+            return Ok(at);
+        }
+    }
+    Ok(cases.len())
+}
+
 #[test]
 fn files_load_in_order(rt: HostRuntime) -> Result<(), Fail> {
-    for (schema, first, second, clients, fails, want) in &CASES {
-        let texts = (*schema, *first, *second);
-        let found = outcome(rt.alloc(), texts, clients, *fails)?;
-        assert!(rt; found == *want, "{clients}, call {fails}: {}", found.0);
-    }
+    let count = count_held(rt.alloc(), &CASES)?;
+    assert!(rt; count == CASES.len(), "after {count}");
     Ok(())
 }
 
@@ -123,13 +171,25 @@ fn outcome(
     clients: &str,
     fails: u64,
 ) -> Result<(&'static str, u32), AllocError> {
+    word_of(&load_all(alloc, texts, clients, fails))
+}
+
+/// Loads these files, where a call may fail.
+fn load_all(
+    alloc: Global,
+    texts: (&str, &str, &str),
+    clients: &str,
+    fails: u64,
+) -> Result<Inputs, LoadError> {
     let mut files = three_files(alloc, texts, fails)?;
+    load_named(alloc, &mut files, clients)
+}
+
+/// Loads the schema `S` and the clients of these names, parted by blanks.
+fn load_named(alloc: Global, files: &mut MemFiles, clients: &str) -> Result<Inputs, LoadError> {
     let clients = named(alloc, clients)?;
     let schema = Text::of(alloc, "S")?;
-    match load(alloc, &mut files, &schema, &clients) {
-        Err(LoadError::Memory) => Err(AllocError),
-        found => Ok(word_of(&found)),
-    }
+    load(alloc, files, &schema, &clients)
 }
 
 /// What the load of a schema and one client of so many bytes comes to.
@@ -138,11 +198,19 @@ fn long(alloc: Global, length: usize) -> Result<(&'static str, u32), AllocError>
     outcome(alloc, (SCHEMA, text.as_str(), "x"), "c1", 0)
 }
 
+/// Whether that is so.
+fn is_long(alloc: Global, length: usize, want: (&str, u32)) -> Result<bool, AllocError> {
+    Ok(long(alloc, length)? == want)
+}
+
+/// Whether a file at the limit is loaded, and one past it is told.
+fn are_limited(alloc: Global) -> Result<bool, AllocError> {
+    let at = is_long(alloc, 1_048_576, ("loaded", 1))?;
+    Ok(at && is_long(alloc, 1_048_577, ("too large", 1))?)
+}
+
 #[test]
 fn a_client_file_has_at_most_1048576_bytes(rt: HostRuntime) -> Result<(), Fail> {
-    let fits = long(rt.alloc(), 1_048_576)? == ("loaded", 1);
-    assert!(rt; fits);
-    let past = long(rt.alloc(), 1_048_577)? == ("too large", 1);
-    assert!(rt; past);
+    assert!(rt; are_limited(rt.alloc())?);
     Ok(())
 }

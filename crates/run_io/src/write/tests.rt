@@ -1,11 +1,13 @@
 //! That a text can be written whole, and in how many calls.
 use super::*;
 use mdb_ports::{CallList, MemSink};
-use std::alloc::Global;
+use std::alloc::{AllocError, Global};
 use std::test::Fail;
 
 /// A text, the sink's room, the call that fails, and how many bytes the sink then holds.
-const CASES: [(&str, usize, u64, usize); 9] = [
+type Case = (&'static str, usize, u64, usize);
+
+const CASES: [Case; 9] = [
     ("", 0, 1, 0),
     ("abc", 99, 0, 3),
     ("abcdefg", 7, 2, 7),
@@ -17,26 +19,38 @@ const CASES: [(&str, usize, u64, usize); 9] = [
     ("abcdefghijklmnopqrst", 10, 0, 10),
 ];
 
-/// Whether a sink that takes 7 bytes a call holds so many bytes of a text, and all only after
-/// success.
-fn holds(alloc: Global, text: &[u8], room: usize, fails: u64, held: usize) -> Result<bool, Fail> {
+/// A sink that takes 7 bytes a call.
+fn sink(alloc: Global, room: usize, fails: u64) -> Result<MemSink, AllocError> {
     let mut calls = CallList::new(alloc);
     calls.push(fails)?;
-    let mut sink = MemSink::of(alloc, room, 7, calls)?;
-    let written = write_all(&mut sink, text);
-    let told = if held == text.len() {
-        Ok(())
-    } else {
-        Err(Failed)
-    };
-    Ok(written == told && Some(sink.bytes()) == text.get(..held))
+    MemSink::of(alloc, room, 7, calls)
+}
+
+/// Whether a sink takes so many bytes of a text, and all only after success.
+fn takes(sink: &mut MemSink, text: &[u8], held: usize) -> bool {
+    let whole = write_all(sink, text).is_ok();
+    whole == (held == text.len()) && Some(sink.bytes()) == text.get(..held)
+}
+
+/// Whether that is so of the case's.
+fn holds(alloc: Global, case: &Case) -> Result<bool, AllocError> {
+    let mut sink = sink(alloc, case.1, case.2)?;
+    Ok(takes(&mut sink, case.0.as_bytes(), case.3))
+}
+
+/// How many cases hold before the first that doesn't.
+fn count_held(alloc: Global, cases: &[Case]) -> Result<usize, AllocError> {
+    for at in 0..cases.len() {
+        if !holds(alloc, &cases[at])? {
+            return Ok(at);
+        }
+    }
+    Ok(cases.len())
 }
 
 #[test]
 fn a_sink_holds_the_front_of_a_text(rt: HostRuntime) -> Result<(), Fail> {
-    for (text, room, fails, held) in &CASES {
-        let found = holds(rt.alloc(), text.as_bytes(), *room, *fails, *held)?;
-        assert!(rt; found, "room {room}, call {fails}");
-    }
+    let count = count_held(rt.alloc(), &CASES)?;
+    assert!(rt; count == CASES.len(), "after {count}");
     Ok(())
 }
