@@ -25,7 +25,7 @@ use Rattle.mem_txn.proofs.ValuesAlong.{cells_in, step_after}
 -- ---- one table
 
 -- a question with a cell may be watched
-watched_if : (b : Bool) (x : Option Cell) (c : Cell) → (if b then x else None) ≡ Some c → (b ≡ true) × (x ≡ Some c)
+pub watched_if : (b : Bool) (x : Option Cell) (c : Cell) → (if b then x else None) ≡ Some c → (b ≡ true) × (x ≡ Some c)
 watched_if true x c e = (refl, e)
 watched_if false x c e = cc
 

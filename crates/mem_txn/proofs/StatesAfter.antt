@@ -1,5 +1,5 @@
 -- The state after the commits of a list with one more.
-use Rattle.std.proofs.Common.{◌≡◌, ◌∙◌, ◌+◌, ◌++◌, ℕ, [], ◌∷◌, length, sym, ap, refl, arith}
+use Rattle.std.proofs.Common.{◌≡◌, ◌∙◌, ◌++◌, [], ◌∷◌, length, sym, ap, refl, arith}
 use Rattle.std.proofs.lemmas.List.{take_all}
 use Rattle.mdb_schema.specs.History.{Commit, History, after_commits, after_writes, state_at}
 use Rattle.mdb_schema.specs.Schema.{DbSchema}

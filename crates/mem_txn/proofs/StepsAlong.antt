@@ -179,8 +179,8 @@ log_of n (e ∷ es) log begun has = let first : HasFired (e ∷ []) log = has 0 
 trees_at : (h : Versions) (n : ℕ) (x : ℕ × Version) → slice_get h n ≡ Some x → forest_or_none (slice_get (trees_in h) n) ≡ x.1.trees
 trees_at h n x there = ap forest_or_none (slice_get-map (λ (y : ℕ × Version). y.1.trees) h n ∙ ap (option_map (λ (y : ℕ × Version). y.1.trees)) there)
 
--- it has what the commits of a caller fire
-pub firings_seen : (k : Known Version) (n : ℕ) (log : Log) → n + 1 ≡ length k.seen → front.HasFirings HasFired n k.seen log → cells.HasFirings (cells_seen (caller_of k)) n log
+-- it has what the commits of a caller fire, as far as its list has them
+pub firings_seen : (k : Known Version) (n : ℕ) (log : Log) → n + 1 ≤ length k.seen → front.HasFirings HasFired n k.seen log → cells.HasFirings (cells_seen (caller_of k)) n log
 firings_seen k n log count has j less c fires =
     let h = k.seen in
     let e = there_is h j (omega (arith, less, count)) in
@@ -283,7 +283,7 @@ same_book [] a b of of' = absurd of
 same_book (e ∷ es) a b of of' = of ∙ sym of'
 
 -- it is the book that callers see
-book_is : (h : Versions) (b : Book) → IsBookOf h b → b ≡ book_in h
+pub book_is : (h : Versions) (b : Book) → IsBookOf h b → b ≡ book_in h
 book_is [] b of = absurd of
 book_is (e ∷ es) b of = of
 
@@ -326,7 +326,7 @@ module _ (k : Known Version) (base v : Version) (stands : StandsFor k.seen base)
     turn_fires_seen =
         let count = history_length k'.seen begun_so in
         let n : length k'.seen - 1 ≡ length (history_in k'.seen) = omega (arith, count) in
-        firings_seen k' (length (history_in k'.seen)) new count (subst (λ (m : ℕ). front.HasFirings HasFired m k'.seen new) n turn_fires)
+        firings_seen k' (length (history_in k'.seen)) new (omega (arith, count)) (subst (λ (m : ℕ). front.HasFirings HasFired m k'.seen new) n turn_fires)
 
     -- the log is of the caller's book
     pub turn_book : new.book ≡ book_in k'.seen

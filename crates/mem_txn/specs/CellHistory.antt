@@ -1,5 +1,5 @@
 -- A history with its trees, and the cells that questions watch in them.
-use Rattle.std.specs.Prelude.{◌≡◌, ◌≤◌, ◌<◌, ℕ, suc, List, [], ◌∷◌, if◌then◌else◌, true, length, slice_get}
+use Rattle.std.specs.Prelude.{◌≡◌, ◌≤◌, ◌<◌, ℕ, suc, List, [], if◌then◌else◌, true, length, slice_get}
 use Rattle.std.specs.Prelude.{Option, Some, None, Ok, Err}
 use Rattle.mdb_encode.specs.Bytes.{Bytes}
 use Rattle.mdb_schema.specs.Answer.{Asked, Lookup, lookup_of}

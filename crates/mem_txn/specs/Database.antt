@@ -1,5 +1,5 @@
 -- A database and its callers, as contracts see them.
-use Rattle.std.specs.Prelude.{◌≡◌, ◌==◌, ◌⊎◌, ◌+◌, ◌++◌, ◌<◌, ◌≤◌, ◌^◌, ℕ, zero, suc, List, [], ◌∷◌, filter, length}
+use Rattle.std.specs.Prelude.{◌≡◌, ◌==◌, ◌⊎◌, ◌++◌, ◌<◌, ◌≤◌, ◌^◌, ℕ, zero, suc, List, [], ◌∷◌, filter, length}
 use mathlib.Core.List.{IsPrefix}
 use Rattle.db_front.specs.Passes.{FrontId}
 use Rattle.mdb_schema.specs.History.{Commit, History, state_at}

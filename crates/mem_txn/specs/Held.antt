@@ -1,6 +1,6 @@
 -- Held watches, as contracts see them.
 use Rattle.std.specs.Prelude.{◌≡◌, ℕ, Bool, true, false, Option, Some, None, Result, Ok, Err, MatchResult}
-use Rattle.mdb_schema.specs.Answer.{Asked}
+use Rattle.mdb_schema.specs.Answer.{Asked, unknown_table}
 use Rattle.mdb_schema.specs.Query.{Query}
 use Rattle.mdb_schema.specs.Refusals.{ask_error}
 use Rattle.mdb_schema.specs.declared.answer.Answer.{Answer}
@@ -35,8 +35,14 @@ pub record IsHeldOf (r : Reading) (q : Query) (h : HeldWatch) : Type 0 where
       let cell = spot.watch in
       cell.book ≡ r.book
 
--- the answer to a question that is answered so or refused, with a held watch, where it may be
--- watched or not
+-- whether a question is told its own answer: where it may be watched, and where its table isn't
+-- there, which is told before that it can't be
+abbrev pub tells_own : {A : Type 0} → Asked A → Bool → Bool
+tells_own (Err unknown_table) watchable = true
+tells_own told watchable = watchable
+
+-- the answer to a question that is answered so or refused, with a held watch; or that it can't be
+-- watched
 abbrev pub AnswersHeld : Bool → Asked Answer → Result (Answer × HeldWatch) AskError → Type 0
 AnswersHeld false told result = result ≡ Err Unwatchable
 AnswersHeld true (Ok a) result = MatchResult result (λ r. r.0 ≡ a) (λ e. e ≡ Memory)

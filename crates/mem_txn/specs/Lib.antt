@@ -1,5 +1,6 @@
 pub mod CellHistory
 pub mod Changes
+pub mod Checked
 pub mod Database
 pub mod Held
 pub mod Transactions

@@ -5,6 +5,7 @@ pub mod EmptyTables
 pub mod Ended
 pub mod Firing
 pub mod HeldView
+pub mod Looks
 pub mod Steps
 pub mod Stored
 pub mod StoredHeld

@@ -93,11 +93,25 @@ impl Held {
         &self.watching.query
     }
 
+    /// The place of the question's index in the table, counted from 0.
+    pub fn index(&self) -> u32
+        ensures { let spot = self.now.spot in result ≡ spot.index }
+    {
+        self.watching.spot.index()
+    }
+
     /// The id of its cell.
     pub fn id(&self) -> u64
         ensures { let spot = self.now.spot in result ≡ spot.watch.id }
     {
         self.watch().id()
+    }
+
+    /// Where the question was looked up.
+    pub(crate) fn spot(&self) -> &Spot
+        ensures { result.now ≡ self.now.spot }
+    {
+        &self.watching.spot
     }
 
     /// The watch.

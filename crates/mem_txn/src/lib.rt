@@ -14,7 +14,8 @@
 //! A commit shows its value, and then fires the cells that are gone from the trees. A question of a
 //! read transaction may be asked with the watch of its answer ([`ReadTxn::ask_watch`]). The log
 //! that a commit gives has the cell of each watched question whose answer has changed; what no
-//! commit fires guards its answer ([`pass_laws`]).
+//! commit fires guards its answer ([`pass_laws`]). [`Db::check`] looks once whether a held watch
+//! has fired, and tells the number up to which it is quiet or at which it fired.
 //!
 //! All commits are one list, of which each pass has seen a beginning, as `db_front` has it. What
 //! the clauses say of a pass stands in `specs/Database.antt`, and of a transaction in
@@ -26,11 +27,13 @@
 mod accepted;
 mod begin;
 mod changes;
+mod check;
 mod commit;
 mod db;
 mod deferred;
 mod firing;
 mod held;
+mod look;
 mod outcome;
 mod pass;
 pub mod pass_laws;
@@ -51,6 +54,7 @@ mod write_txn;
 pub use db::Db;
 pub use deferred::DeferredList;
 pub use held::Held;
+pub use look::Look;
 pub use outcome::{BeginRefused, CommitRefused, Committed, DeferRefused, Receipt, Tried};
 pub use pass::Pass;
 pub use passes::Passes;

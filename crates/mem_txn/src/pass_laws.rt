@@ -1,6 +1,7 @@
 //! What is known of every pass, as laws of the definitions. The functions do nothing: their
 //! contracts are the laws.
 ghost use Rattle.mem_txn.specs.CellHistory.{AreComplete, KeepUntouched, StayAway, WatchesHold};
+ghost use Rattle.mem_txn.specs.Checked.{AskedIsHeld, HeldLonger, HeldStays};
 ghost use Rattle.mem_txn.specs.Database.{cells_seen};
 
 use crate::pass::Pass;
@@ -30,6 +31,27 @@ pub fn cells_stay_away(pass: &Pass)
 /// It has seen the trees at the opening and after each commit.
 pub fn trees_are_complete(pass: &Pass)
     ensures { AreComplete (cells_seen pass.now) }
+{
+    let _ = pass.token.number();
+}
+
+/// A watch that was held by a pass that had seen less is held by this one.
+pub fn held_watches_stay(pass: &Pass)
+    ensures { HeldStays pass.now }
+{
+    let _ = pass.token.number();
+}
+
+/// So is one that was held before commits of the pass itself.
+pub fn held_watches_outlast_commits(pass: &Pass)
+    ensures { HeldLonger pass.now }
+{
+    let _ = pass.token.number();
+}
+
+/// A watch that was asked of the state after the commits that a pass has seen is held by it.
+pub fn asked_watches_are_held(pass: &Pass)
+    ensures { AskedIsHeld pass.now }
 {
     let _ = pass.token.number();
 }

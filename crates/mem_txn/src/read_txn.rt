@@ -3,7 +3,7 @@ ghost use Rattle.std.specs.Prelude.{◌≡◌, All, IfOk};
 ghost use Rattle.std.specs.Arc.{arc_value};
 ghost use Rattle.mdb_schema.specs.Answer.{ask};
 ghost use Rattle.mdb_schema.specs.Refusals.{AnswersAsk};
-ghost use Rattle.mem_txn.specs.Held.{AnswersHeld, IsHeldOf};
+ghost use Rattle.mem_txn.specs.Held.{AnswersHeld, IsHeldOf, tells_own};
 ghost use Rattle.mem_txn.specs.inner.VersionTables.{AreWithin};
 ghost use Rattle.table_index.specs.Watched.{is_watchable};
 
@@ -74,12 +74,13 @@ impl ReadTxn {
     }
 
     /// What [`ReadTxn::ask`] answers, with the watch of the answer. Questions for bounds, or for
-    /// the longest key, are refused before any other rule. It takes memory as [`ReadTxn::ask`]
+    /// the longest key, are refused before any other rule but that the table isn't there. It takes
+    /// memory as [`ReadTxn::ask`]
     /// does, and may be refused as for want of memory where the cell or the question has 2^63 - 1
     /// owners.
     pub fn ask_watch(&self, query: &Query) -> Result<(Answer, Held), AskError>
-        ensures answers { AnswersHeld (is_watchable query.now.ask)
-            (ask self.now.view.schema self.now.view.state query.now) result }
+        ensures answers { let told = ask self.now.view.schema self.now.view.state query.now in
+            AnswersHeld (tells_own told (is_watchable query.now.ask)) told result }
         ensures held { IfOk result (λ r. IsHeldOf self.now query.now r.1) }
     {
         let view = self.version.view();

@@ -3,6 +3,7 @@ ghost use Rattle.std.specs.Prelude.{◌≡◌, [], IfOk};
 ghost use Rattle.mem_txn.specs.Database.{IsCaller};
 
 mod callers;
+mod checks;
 mod deferred;
 mod drawn;
 mod mixed;
@@ -14,11 +15,10 @@ mod without_memory;
 mod worked;
 
 use crate::{Db, Pass, Passes, ReadTxn};
-use mdb_datum::{Datum, Row, Text, read_doc};
+use mdb_datum::{Datum, Items, Row, Text, read_doc};
 use mdb_schema::{Answer, Ask, AskError, Query, Rows, Schema, read_schema};
-use std::alloc::Global;
+use std::alloc::{AllocError, Global};
 use std::sync::Wait;
-use std::test::Fail;
 
 const SCHEMA: &str = r#"{"memdb":1,"tables":{
     "notes":{"indexes":{"id":{"unique":true,"indexer":{"kind":"text","field":"name"}}}},
@@ -28,15 +28,15 @@ const SCHEMA: &str = r#"{"memdb":1,"tables":{
     "tags":{"allow_missing":true,"indexer":{"kind":"text_list","field":"tags"}}}}}}"#;
 
 /// The schema of two tables.
-fn schema_of(alloc: Global) -> Result<Schema, Fail> {
+fn schema_of(alloc: Global) -> Result<Schema, AllocError> {
     match read_schema(alloc, SCHEMA.as_bytes()) {
         Ok(schema) => Ok(schema),
-        Err(_) => Err(Fail::from("no schema")),
+        Err(_) => Err(AllocError),
     }
 }
 
 /// A database without rows, the list of its passes without the first one, and that.
-fn opened(alloc: Global) -> Result<(Db, Passes, Pass), Fail>
+fn opened(alloc: Global) -> Result<(Db, Passes, Pass), AllocError>
     ensures own { IfOk result (λ made. IsCaller made.0 1 made.2) }
     ensures alone { IfOk result (λ made. made.0.callers ≡ 1) }
     ensures rest { IfOk result (λ made. made.1 ≡ record { passes = []; made = 1 }) }
@@ -58,45 +58,61 @@ fn closed<R: Wait>(rt: &R, db: Db, mut passes: Passes, pass: Pass) -> ReadTxn
     db.close(rt, passes)
 }
 
-/// A call that found no memory, or another error.
-fn failed<T>() -> Result<T, Fail> {
-    Err(Fail::from("no memory"))
+/// The row that a text is. Another text counts as want of memory, which ends a test.
+#[tactic(auto, using(mdb_datum::proofs::Variants::doc_of_members))]
+fn row_of(alloc: Global, text: &str) -> Result<Row, AllocError> {
+    match read_doc(alloc, text.as_bytes()) {
+        Ok(Datum::Members(members)) => Row::of(alloc, members),
+        _ => Err(AllocError),
+    }
 }
 
-/// The row that a text is.
-#[tactic(auto, using(mdb_datum::proofs::Variants::doc_of_members))]
-fn row_of(alloc: Global, text: &str) -> Result<Row, Fail> {
-    match read_doc(alloc, text.as_bytes())? {
-        Datum::Members(members) => Ok(Row::of(alloc, members)?),
-        _ => Err(Fail::from("no object")),
+/// The arguments that a text lists.
+fn args_of(alloc: Global, text: &str) -> Result<Items, AllocError> {
+    match read_doc(alloc, text.as_bytes()) {
+        Ok(Datum::Items(items)) => Ok(items),
+        _ => Err(AllocError),
     }
 }
 
 /// A question of an index of a table, with the arguments that a text lists.
-fn query_of(alloc: Global, ask: Ask, named: (&str, &str), args: &str) -> Result<Query, Fail> {
-    let Datum::Items(args) = read_doc(alloc, args.as_bytes())? else {
-        return Err(Fail::from("no list"));
-    };
-    let table = Text::of(alloc, named.0)?;
-    let index = Text::of(alloc, named.1)?;
-    Ok(Query::from_parts(alloc, ask, table, index, args)?)
+fn query_of(alloc: Global, ask: Ask, named: (&str, &str), args: &str) -> Result<Query, AllocError> {
+    let args = args_of(alloc, args)?;
+    Query::of(
+        alloc,
+        ask,
+        &Text::of(alloc, named.0)?,
+        &Text::of(alloc, named.1)?,
+        args,
+    )
+}
+
+/// Adds a line with a row's text.
+fn push_line(row: &Row, text: &mut Vec<u8>) -> Result<(), AllocError> {
+    row.append_doc(text)?;
+    text.push(b'\n')?;
+    Ok(())
 }
 
 /// The texts of rows, one a line.
-fn lines_of(alloc: Global, rows: &Rows) -> Result<Vec<u8>, Fail> {
+fn lines_of(alloc: Global, rows: &Rows) -> Result<Vec<u8>, AllocError> {
     let mut text = Vec::new(alloc);
     for row in rows.iter() {
-        row.append_doc(&mut text)?;
-        text.push(b'\n')?;
+        push_line(row, &mut text)?;
     }
     Ok(text)
 }
 
+/// Whether bytes are those of a text.
+fn is_text(bytes: Vec<u8>, expected: &str) -> bool {
+    bytes.as_slice() == expected.as_bytes()
+}
+
 /// Whether an answer is the rows of these lines, or this row.
-fn is_told(alloc: Global, answer: &Answer, expected: &str) -> Result<bool, Fail> {
+fn is_told(alloc: Global, answer: &Answer, expected: &str) -> Result<bool, AllocError> {
     match answer {
-        Answer::Many(rows) => Ok(lines_of(alloc, rows)?.as_slice() == expected.as_bytes()),
-        Answer::One(Some(row)) => Ok(row.doc()?.as_slice() == expected.as_bytes()),
+        Answer::Many(rows) => Ok(is_text(lines_of(alloc, rows)?, expected)),
+        Answer::One(Some(row)) => Ok(is_text(row.doc()?, expected)),
         Answer::One(None) => Ok(expected == "none"),
     }
 }

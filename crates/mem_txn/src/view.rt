@@ -1,5 +1,5 @@
 //! The state after a commit.
-ghost use Rattle.std.specs.Prelude.{◌≡◌, ◌≤◌, ◌+◌, ◌^◌, ◌++◌, ◌∷◌, [], All, IfOk, OnOk, Some, if◌then◌else◌, map};
+ghost use Rattle.std.specs.Prelude.{◌≡◌, ◌≤◌, ◌+◌, ◌^◌, ◌++◌, ◌∷◌, [], All, IfOk, OnOk, Some, map};
 ghost use Rattle.std.specs.Arc.{arc_value};
 ghost use Rattle.mdb_schema.specs.Answer.{ask};
 ghost use Rattle.mdb_schema.specs.Refusals.{AnswersAsk};
@@ -9,18 +9,18 @@ ghost use Rattle.mem_txn.specs.inner.Steps.{tables_with};
 ghost use Rattle.mem_txn.specs.inner.VersionTables.{AreWithin, schemas_of, state_of, trees_of};
 ghost use Rattle.table_index.specs.Table.{TableRows};
 ghost use Rattle.table_index.specs.Watched.{AnswersWatch, HoldsRows, is_watchable};
-ghost use Rattle.mdb_schema.specs.declared.ask_error.AskError.TheVariants.{UnknownTable, Unwatchable};
 ghost use Rattle.mem_txn.specs.CellHistory.{question_cell, table_in};
-ghost use Rattle.mem_txn.specs.Held.{IsLookedUp};
+ghost use Rattle.mem_txn.specs.Held.{IsLookedUp, tells_own};
+ghost use Rattle.mem_txn.specs.inner.Looks.{IsAsked};
 
-use mdb_schema::{Answer, Ask, AskError, Query, Schema, TableDef};
+use mdb_schema::{Answer, AskError, Query, Schema, TableDef};
 use radix_node::Ids;
 use std::alloc::{AllocError, Global};
 use std::marker::Model;
 use std::sync::Arc;
 use table_index::table_laws::rows_are_held;
-use table_index::{Table, Watched};
-use watch_word::Front;
+use table_index::{Spot, Table, Watched};
+use watch_word::{Front, WatchCell};
 
 /// The tables after a commit, in the schema's order, seen as a `View` with the trees. It never
 /// changes.
@@ -135,8 +135,8 @@ impl View {
 
     /// What a question is answered, with its watch.
     pub(crate) fn ask_watch(&self, query: &Query) -> Result<Watched, AskError>
-        ensures answers { AnswersWatch (is_watchable query.now.ask)
-            (ask self.now.view.schema self.now.view.state query.now) result }
+        ensures answers { let told = ask self.now.view.schema self.now.view.state query.now in
+            AnswersWatch (tells_own told (is_watchable query.now.ask)) told result }
         ensures cell { IfOk result (λ w. let spot = w.spot in
             question_cell self.now.view.schema self.now.view.state self.now.trees query.now
             ≡ Some spot.watch) }
@@ -149,7 +149,7 @@ impl View {
                 let table = &self.tables[place];
                 table.ask_watch(query)
             }
-            None => Err(unknown_or_unwatchable(query.ask())),
+            None => Err(AskError::UnknownTable),
         }
     }
 
@@ -165,16 +165,18 @@ impl View {
             None => Err(AskError::UnknownTable),
         }
     }
-}
 
-/// Why a question of a table that isn't there can't be watched. That it isn't one for a watch is
-/// told before any other rule.
-fn unknown_or_unwatchable(ask: Ask) -> AskError
-    ensures { result ≡ (if is_watchable ask then UnknownTable else Unwatchable) }
-{
-    match ask {
-        Ask::Lower | Ask::ReverseLower | Ask::Longest => AskError::Unwatchable,
-        _ => AskError::UnknownTable,
+    /// The cell of a question here, whose spot was read from a state of the same schema.
+    pub(crate) fn cell_at(&self, query: &Query, spot: &Spot) -> &Arc<WatchCell>
+        requires { IsAsked self.now.view.schema query.now spot.now }
+        ensures { question_cell self.now.view.schema self.now.view.state self.now.trees query.now
+            ≡ Some (arc_value result.now) }
+    {
+        let Some(place) = self.schema.find(query.table().as_str()) else {
+            unreachable!();
+        };
+        let table = &self.tables[place];
+        table.cell_at(spot)
     }
 }
 

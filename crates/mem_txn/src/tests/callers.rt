@@ -7,15 +7,15 @@ use super::schema_of;
 use crate::{
     BeginRefused, CommitRefused, Committed, Db, Pass, Passes, ReadTxn, Snapshot, Tried, WriteTxn,
 };
-use mdb_datum::{Datum, Row, Text, read_doc};
-use mdb_schema::{Answer, Ask, Query, Rows};
+use mdb_datum::{Datum, Row};
+use mdb_schema::{Answer, Ask, Rows};
 use std::alloc::{AllocError, Global};
 use std::sync::Wait;
 use std::test::Fail;
 use std::thread::{Threads, join_mut};
 
 /// A database of two callers, the list of its passes without them, and they.
-pub(super) fn pair(alloc: Global) -> Result<(Db, Passes, Pass, Pass), Fail>
+pub(super) fn pair(alloc: Global) -> Result<(Db, Passes, Pass, Pass), AllocError>
     ensures one { IfOk result (λ made. IsCaller made.0 1 made.2) }
     ensures two { IfOk result (λ made. IsCaller made.0 2 made.3) }
     ensures both { IfOk result (λ made. made.0.callers ≡ 2) }
@@ -59,15 +59,19 @@ fn name_of(alloc: Global, letter: char, own: u64) -> Result<String, AllocError> 
 
 /// The row of a caller's commit, whose age is the number of commits before it and 1000.
 fn row_of(alloc: Global, letter: char, own: u64, before: u64) -> Result<Row, AllocError> {
+    let text = text_of(alloc, letter, own, before)?;
+    super::row_of(alloc, &text)
+}
+
+/// The text of that row.
+fn text_of(alloc: Global, letter: char, own: u64, before: u64) -> Result<String, AllocError> {
     let mut text = String::from_str(alloc, "{\"age\":10")?;
     push_digits(&mut text, before)?;
     text.push_str(",\"name\":\"")?;
-    text.push_str(&name_of(alloc, letter, own)?)?;
+    text.push(letter)?;
+    push_digits(&mut text, own)?;
     text.push_str("\"}")?;
-    match read_doc(alloc, text.as_bytes()) {
-        Ok(Datum::Members(members)) => Row::of(alloc, members),
-        _ => Err(AllocError),
-    }
+    Ok(text)
 }
 
 /// Inserts the row of a caller's commit.
@@ -160,19 +164,30 @@ pub(super) fn some_borrowed<R: Wait>(
     done
 }
 
+/// Whether a row has the next name of a caller.
+fn is_next(alloc: Global, row: &Row, letter: char, own: u64) -> Result<bool, AllocError> {
+    let name = name_of(alloc, letter, own)?;
+    Ok(matches!(row.get("name"), Some(Datum::Str(text)) if text.as_str() == name.as_str()))
+}
+
+/// Counts a row of the caller whose next name it has, if any.
+fn count_one(alloc: Global, row: &Row, counts: &mut (u64, u64)) -> Result<bool, AllocError> {
+    if is_next(alloc, row, 'a', counts.0)? {
+        counts.0 = counts.0.saturating_add(1);
+    } else if is_next(alloc, row, 'b', counts.1)? {
+        counts.1 = counts.1.saturating_add(1);
+    } else {
+        return Ok(false);
+    }
+    Ok(true)
+}
+
 /// How many users there are of each caller, by age, where each caller's are in the order of its
 /// own.
-fn in_order(alloc: Global, rows: &Rows) -> Result<Option<(u64, u64)>, Fail> {
+fn in_order(alloc: Global, rows: &Rows) -> Result<Option<(u64, u64)>, AllocError> {
     let mut counts = (0, 0);
     for row in rows.iter() {
-        let Some(Datum::Str(name)) = row.members().get("name") else {
-            return Ok(None);
-        };
-        if name.as_str() == name_of(alloc, 'a', counts.0)?.as_str() {
-            counts.0 = counts.0.saturating_add(1);
-        } else if name.as_str() == name_of(alloc, 'b', counts.1)?.as_str() {
-            counts.1 = counts.1.saturating_add(1);
-        } else {
+        if !count_one(alloc, row, &mut counts)? {
             return Ok(None);
         }
     }
@@ -184,22 +199,45 @@ pub(super) fn are_in_order(
     alloc: Global,
     read: &ReadTxn,
     counts: (u64, u64),
-) -> Result<bool, Fail> {
+) -> Result<bool, AllocError> {
     let query = super::query_of(alloc, Ask::Get, ("users", "age"), "[]")?;
-    match read.ask(&query)? {
-        Answer::Many(rows) => Ok(in_order(alloc, &rows)? == Some(counts)),
-        Answer::One(_) => Ok(false),
+    match read.ask(&query) {
+        Ok(Answer::Many(rows)) => Ok(in_order(alloc, &rows)? == Some(counts)),
+        Ok(Answer::One(_)) => Ok(false),
+        Err(_) => Err(AllocError),
     }
 }
 
-/// Whether both callers' commits in turn are all there, each caller's in order.
-fn are_made<R: Wait>(rt: &R, alloc: Global) -> Result<bool, Fail> {
+/// Fifty commits of each caller, and fifty transactions of the first that abort.
+fn turns<R: Wait>(
+    rt: &R,
+    alloc: Global,
+    db: &Db,
+    one: Pass,
+    two: Pass,
+) -> (Pass, Pass, Result<(), AllocError>)
+    requires one { IsCaller db.now 1 one }
+    requires two { IsCaller db.now 2 two }
+    ensures one { IsCaller db.now 1 result.0 }
+    ensures two { IsCaller db.now 2 result.1 }
+{
+    let (one, first) = some_txns(rt, alloc, db, one, 'a', 50, true);
+    let (two, second) = some_txns(rt, alloc, db, two, 'b', 50, true);
+    let (one, aborted) = some_txns(rt, alloc, db, one, 'a', 50, false);
+    (one, two, first.and(second).and(aborted))
+}
+
+/// The last state after them.
+fn after_turns<R: Wait>(rt: &R, alloc: Global) -> Result<ReadTxn, AllocError> {
     let (db, passes, one, two) = pair(alloc)?;
-    let (one, first) = some_txns(rt, alloc, &db, one, 'a', 50, true);
-    let (two, second) = some_txns(rt, alloc, &db, two, 'b', 50, true);
-    let (one, aborted) = some_txns(rt, alloc, &db, one, 'a', 50, false);
+    let (one, two, done) = turns(rt, alloc, &db, one, two);
     let last = closed(rt, db, passes, one, two);
-    first.and(second).and(aborted)?;
+    done.and(Ok(last))
+}
+
+/// Whether both callers' commits in turn are all there, each caller's in order.
+fn are_made<R: Wait>(rt: &R, alloc: Global) -> Result<bool, AllocError> {
+    let last = after_turns(rt, alloc)?;
     Ok(last.number() == 100 && are_in_order(alloc, &last, (50, 50))?)
 }
 
@@ -267,30 +305,23 @@ fn a_try_finds_a_transaction_taken_and_then_begins(rt: HostRuntime) -> Result<()
     Ok(())
 }
 
+/// Whether a state has no users.
+fn is_empty(alloc: Global, read: &ReadTxn) -> Result<bool, AllocError> {
+    let query = super::query_of(alloc, Ask::Get, ("users", "id"), "[]")?;
+    match read.ask(&query) {
+        Ok(Answer::Many(rows)) => Ok(rows.len() == 0),
+        _ => Err(AllocError),
+    }
+}
+
 /// Asks a state a hundred times, and tells whether it has no users each time.
 fn stays_empty(alloc: Global, read: &ReadTxn) -> Result<bool, AllocError> {
     for _ in 0..100 {
-        let query = all_users(alloc)?;
-        match read.ask(&query) {
-            Ok(Answer::Many(rows)) => {
-                if rows.len() != 0 {
-                    return Ok(false);
-                }
-            }
-            _ => return Err(AllocError),
+        if !is_empty(alloc, read)? {
+            return Ok(false);
         }
     }
     Ok(true)
-}
-
-/// The question for all users.
-fn all_users(alloc: Global) -> Result<Query, AllocError> {
-    let table = Text::of(alloc, "users")?;
-    let index = Text::of(alloc, "id")?;
-    match read_doc(alloc, b"[]") {
-        Ok(Datum::Items(args)) => Ok(Query::from_parts(alloc, Ask::Get, table, index, args)?),
-        _ => Err(AllocError),
-    }
 }
 
 /// Whether a state stays as it is while the caller makes a hundred commits on another thread.
@@ -325,7 +356,7 @@ fn snapshot_of<R: Wait>(rt: &R, db: &Db, pass: &mut Pass) -> Result<ReadTxn, All
 }
 
 /// The same of the first caller's snapshot, and the number of commits at the end.
-fn kept_long<R: Threads + Wait + Sync>(rt: &R, alloc: Global) -> Result<(bool, u64), Fail> {
+fn kept_long<R: Threads + Wait + Sync>(rt: &R, alloc: Global) -> Result<(bool, u64), AllocError> {
     let (db, passes, mut one, two) = pair(alloc)?;
     let read = snapshot_of(rt, &db, &mut one);
     let mut two = Some(two);

@@ -3,9 +3,9 @@ ghost use Rattle.std.specs.Prelude.{◌≡◌};
 ghost use Rattle.mem_txn.specs.Database.{IsCaller};
 ghost use Rattle.mem_txn.specs.Transactions.{changes_of};
 
-use super::{closed, failed, opened};
+use super::{closed, opened};
 use crate::{BeginRefused, CommitRefused, Committed, Db, DeferredList, Pass, WriteTxn};
-use std::alloc::Global;
+use std::alloc::{AllocError, Global};
 use std::sync::Wait;
 use std::test::Fail;
 
@@ -32,21 +32,21 @@ fn commit_all<R: Wait>(
     alloc: Global,
     db: &Db,
     pass: Pass,
-) -> (Pass, Result<DeferredList<String>, Fail>)
+) -> (Pass, Result<DeferredList<String>, AllocError>)
     requires own { IsCaller db.now 1 pass }
     ensures { IsCaller db.now 1 result.0 }
 {
     let txn = match db.write(rt, pass) {
         Ok(txn) => txn,
-        Err(BeginRefused { pass, cause: _ }) => return (pass, failed()),
+        Err(BeginRefused { pass, cause: _ }) => return (pass, Err(AllocError)),
     };
     let mut txn = txn;
     if !defer_all(alloc, &mut txn) {
-        return (txn.abort(db), failed());
+        return (txn.abort(db), Err(AllocError));
     }
     match txn.commit(rt, db) {
         Ok(Committed { pass, receipt }) => (pass, Ok(receipt.items)),
-        Err(CommitRefused { pass, cause: _ }) => (pass, failed()),
+        Err(CommitRefused { pass, cause: _ }) => (pass, Err(AllocError)),
     }
 }
 
@@ -73,7 +73,7 @@ fn are_placed(items: &DeferredList<String>) -> bool {
 }
 
 /// Whether a commit hands the items out.
-fn are_handed_out<R: Wait>(rt: &R, alloc: Global) -> Result<bool, Fail> {
+fn are_handed_out<R: Wait>(rt: &R, alloc: Global) -> Result<bool, AllocError> {
     let (db, passes, pass) = opened(alloc)?;
     let (pass, told) = commit_all(rt, alloc, &db, pass);
     drop(closed(rt, db, passes, pass));

@@ -3,8 +3,7 @@ ghost use Rattle.std.specs.Prelude.{◌<◌};
 
 use super::is_told;
 use mdb_schema::Answer;
-use std::alloc::Global;
-use std::test::Fail;
+use std::alloc::{AllocError, Global};
 
 /// Six names, each at three ages.
 const ROWS: [&str; 18] = [
@@ -115,16 +114,29 @@ pub fn wipe_plain(plain: &mut Plain, question: &Question) -> u64 {
     count
 }
 
+/// Adds the line of the row at a place, where a question lists it.
+fn add_asked(
+    lines: &mut String,
+    place: usize,
+    held: Option<usize>,
+    question: &Question,
+) -> Result<(), AllocError> {
+    match held {
+        Some(row) if is_asked(place, row, question) => add_line(lines, text_of(row)),
+        _ => Ok(()),
+    }
+}
+
+fn add_line(lines: &mut String, line: &str) -> Result<(), AllocError> {
+    lines.push_str(line)?;
+    lines.push('\n')
+}
+
 /// The lines of the rows that a question lists.
-fn listed(alloc: Global, plain: &Plain, question: &Question) -> Result<String, Fail> {
+fn listed(alloc: Global, plain: &Plain, question: &Question) -> Result<String, AllocError> {
     let mut lines = String::new(alloc);
     for (place, held) in plain.iter().enumerate() {
-        if let Some(row) = held {
-            if is_asked(place, *row, question) {
-                lines.push_str(text_of(*row))?;
-                lines.push('\n')?;
-            }
-        }
+        add_asked(&mut lines, place, *held, question)?;
     }
     Ok(lines)
 }
@@ -135,7 +147,7 @@ pub fn is_alike(
     answer: &Answer,
     plain: &Plain,
     question: &Question,
-) -> Result<bool, Fail> {
+) -> Result<bool, AllocError> {
     let lines = listed(alloc, plain, question)?;
     is_told(alloc, answer, &lines)
 }

@@ -4,13 +4,13 @@ ghost use Rattle.mem_txn.specs.Database.{IsCaller, IsOf};
 ghost use Rattle.mem_txn.specs.Transactions.{changes_of};
 
 use super::drawn::{Plain, QUESTIONS, Question, Random, is_alike, table_of, text_of, wipe_plain};
-use super::{closed, failed, opened, query_of, row_of};
+use super::{closed, opened, query_of, row_of};
 use crate::{
     BeginRefused, CommitRefused, Committed, Db, Pass, ReadTxn, Snapshot, TxnWriteError, WriteTxn,
 };
 use mdb_datum::Row;
-use mdb_schema::{Ask, Query, WriteError};
-use std::alloc::Global;
+use mdb_schema::{Answer, Ask, AskError, Query, WriteError};
+use std::alloc::{AllocError, Global};
 use std::sync::Wait;
 use std::test::Fail;
 
@@ -20,7 +20,7 @@ fn insert_both(
     random: &mut Random,
     txn: &mut WriteTxn<u8>,
     plain: &mut Plain,
-) -> Result<bool, Fail>
+) -> Result<bool, AllocError>
     ensures { (changes_of txn.new).caller ≡ (changes_of txn.old).caller }
 {
     let place = random.place();
@@ -29,12 +29,12 @@ fn insert_both(
     plain[place] = Some(row);
     match txn.insert(table_of(place), &row_of(alloc, text_of(row))?) {
         Ok(replaced) => Ok(replaced == held.is_some()),
-        Err(_) => Err(Fail::from("no memory")),
+        Err(_) => Err(AllocError),
     }
 }
 
 /// Whether a row is the one that was held.
-fn is_held(row: &Row, held: Option<usize>) -> Result<bool, Fail> {
+fn is_held(row: &Row, held: Option<usize>) -> Result<bool, AllocError> {
     let text = text_of(held.unwrap_or(18));
     Ok(row.doc()?.as_slice() == text.as_bytes())
 }
@@ -45,7 +45,7 @@ fn delete_both(
     random: &mut Random,
     txn: &mut WriteTxn<u8>,
     plain: &mut Plain,
-) -> Result<bool, Fail>
+) -> Result<bool, AllocError>
     ensures { (changes_of txn.new).caller ≡ (changes_of txn.old).caller }
 {
     let place = random.place();
@@ -55,7 +55,7 @@ fn delete_both(
     match txn.delete(table_of(place), &row_of(alloc, text_of(row))?) {
         Ok(old) => is_held(&old, held),
         Err(TxnWriteError::Refused(WriteError::NotFound)) => Ok(held.is_none()),
-        Err(_) => Err(Fail::from("no memory")),
+        Err(_) => Err(AllocError),
     }
 }
 
@@ -65,17 +65,17 @@ fn wipe_both(
     question: &Question,
     txn: &mut WriteTxn<u8>,
     plain: &mut Plain,
-) -> Result<bool, Fail>
+) -> Result<bool, AllocError>
     ensures { (changes_of txn.new).caller ≡ (changes_of txn.old).caller }
 {
     let count = wipe_plain(plain, question);
     match txn.delete_all(&asked(alloc, question)?) {
         Ok(told) => Ok(told == count),
-        Err(_) => Err(Fail::from("no memory")),
+        Err(_) => Err(AllocError),
     }
 }
 
-fn asked(alloc: Global, question: &Question) -> Result<Query, Fail> {
+fn asked(alloc: Global, question: &Question) -> Result<Query, AllocError> {
     query_of(alloc, Ask::Get, (question.0, question.1), question.2)
 }
 
@@ -85,12 +85,12 @@ fn ask_both(
     question: &Question,
     txn: &mut WriteTxn<u8>,
     plain: &Plain,
-) -> Result<bool, Fail>
+) -> Result<bool, AllocError>
     ensures { (changes_of txn.new).caller ≡ (changes_of txn.old).caller }
 {
     match txn.ask(&asked(alloc, question)?) {
         Ok(answer) => is_alike(alloc, &answer, plain, question),
-        Err(_) => Err(Fail::from("no memory")),
+        Err(_) => Err(AllocError),
     }
 }
 
@@ -100,12 +100,25 @@ fn snapshot_both(
     question: &Question,
     txn: &mut WriteTxn<u8>,
     plain: &Plain,
-) -> Result<bool, Fail>
+) -> Result<bool, AllocError>
     ensures { (changes_of txn.new).caller ≡ (changes_of txn.old).caller }
 {
     match txn.snapshot() {
         Ok(snapshot) => is_kept(alloc, &snapshot, plain, question),
-        Err(_) => Err(Fail::from("no memory")),
+        Err(_) => Err(AllocError),
+    }
+}
+
+/// Whether an answer to a question is alike. A refusal ends the test.
+fn is_answered(
+    alloc: Global,
+    answer: Result<Answer, AskError>,
+    plain: &Plain,
+    question: &Question,
+) -> Result<bool, AllocError> {
+    match answer {
+        Ok(answer) => is_alike(alloc, &answer, plain, question),
+        Err(_) => Err(AllocError),
     }
 }
 
@@ -114,9 +127,9 @@ fn is_kept(
     snapshot: &Snapshot,
     plain: &Plain,
     question: &Question,
-) -> Result<bool, Fail> {
-    let answer = snapshot.ask(&asked(alloc, question)?)?;
-    is_alike(alloc, &answer, plain, question)
+) -> Result<bool, AllocError> {
+    let query = asked(alloc, question)?;
+    is_answered(alloc, snapshot.ask(&query), plain, question)
 }
 
 /// Whether a read transaction answers a question alike.
@@ -125,13 +138,13 @@ fn is_read(
     read: &ReadTxn,
     plain: &Plain,
     question: &Question,
-) -> Result<bool, Fail> {
-    let answer = read.ask(&asked(alloc, question)?)?;
-    is_alike(alloc, &answer, plain, question)
+) -> Result<bool, AllocError> {
+    let query = asked(alloc, question)?;
+    is_answered(alloc, read.ask(&query), plain, question)
 }
 
 /// Whether a read transaction answers each question alike.
-pub fn are_read(alloc: Global, read: &ReadTxn, plain: &Plain) -> Result<bool, Fail> {
+pub fn are_read(alloc: Global, read: &ReadTxn, plain: &Plain) -> Result<bool, AllocError> {
     for question in &QUESTIONS {
         if !is_read(alloc, read, plain, question)? {
             return Ok(false);
@@ -146,7 +159,7 @@ fn operate(
     random: &mut Random,
     txn: &mut WriteTxn<u8>,
     plain: &mut Plain,
-) -> Result<bool, Fail>
+) -> Result<bool, AllocError>
     ensures { (changes_of txn.new).caller ≡ (changes_of txn.old).caller }
 {
     let question = random.question();
@@ -165,7 +178,7 @@ pub fn operate_often(
     random: &mut Random,
     txn: &mut WriteTxn<u8>,
     plain: &mut Plain,
-) -> Result<bool, Fail>
+) -> Result<bool, AllocError>
     ensures { (changes_of txn.new).caller ≡ (changes_of txn.old).caller }
 {
     for _ in 0..random.below(6) {
@@ -177,7 +190,12 @@ pub fn operate_often(
 }
 
 /// Ends a transaction by its commit or its abort.
-pub fn end<R: Wait>(rt: &R, commits: bool, db: &Db, txn: WriteTxn<u8>) -> (Pass, Result<bool, Fail>)
+pub fn end<R: Wait>(
+    rt: &R,
+    commits: bool,
+    db: &Db,
+    txn: WriteTxn<u8>,
+) -> (Pass, Result<bool, AllocError>)
     requires own { IsCaller db.now 1 (changes_of txn).caller }
     ensures { IsCaller db.now 1 result.0 }
 {
@@ -186,7 +204,7 @@ pub fn end<R: Wait>(rt: &R, commits: bool, db: &Db, txn: WriteTxn<u8>) -> (Pass,
     }
     match txn.commit(rt, db) {
         Ok(Committed { pass, receipt: _ }) => (pass, Ok(true)),
-        Err(CommitRefused { pass, cause: _ }) => (pass, failed()),
+        Err(CommitRefused { pass, cause: _ }) => (pass, Err(AllocError)),
     }
 }
 
@@ -198,7 +216,7 @@ fn run_begun<R: Wait>(
     db: &Db,
     txn: WriteTxn<u8>,
     plain: &mut Plain,
-) -> (Pass, Result<bool, Fail>)
+) -> (Pass, Result<bool, AllocError>)
     requires own { IsCaller db.now 1 (changes_of txn).caller }
     ensures { IsCaller db.now 1 result.0 }
 {
@@ -224,13 +242,13 @@ fn run_both<R: Wait>(
     db: &Db,
     pass: Pass,
     plain: &mut Plain,
-) -> (Pass, Result<bool, Fail>)
+) -> (Pass, Result<bool, AllocError>)
     requires own { IsCaller db.now 1 pass }
     ensures { IsCaller db.now 1 result.0 }
 {
     match db.write(rt, pass) {
         Ok(txn) => run_begun(rt, alloc, random, db, txn, plain),
-        Err(BeginRefused { pass, cause: _ }) => (pass, failed()),
+        Err(BeginRefused { pass, cause: _ }) => (pass, Err(AllocError)),
     }
 }
 
@@ -241,7 +259,7 @@ pub fn reads_alike<R: Wait>(
     db: &Db,
     pass: &mut Pass,
     plain: &Plain,
-) -> Result<bool, Fail>
+) -> Result<bool, AllocError>
     requires own { IsOf db.now pass.old }
     ensures own { IsOf db.now pass.new }
     ensures number { pass.new.number ≡ pass.old.number }
@@ -258,7 +276,7 @@ fn run_read<R: Wait>(
     db: &Db,
     pass: Pass,
     plain: &mut Plain,
-) -> (Pass, Result<bool, Fail>)
+) -> (Pass, Result<bool, AllocError>)
     requires own { IsCaller db.now 1 pass }
     ensures { IsCaller db.now 1 result.0 }
 {
@@ -279,7 +297,7 @@ fn run_often<R: Wait>(
     pass: Pass,
     plain: &mut Plain,
     count: u64,
-) -> (Pass, Result<bool, Fail>)
+) -> (Pass, Result<bool, AllocError>)
     requires own { IsCaller db.now 1 pass }
     ensures { IsCaller db.now 1 result.0 }
 {
@@ -295,17 +313,26 @@ fn run_often<R: Wait>(
     (pass, Ok(true))
 }
 
+fn second(read: &ReadTxn) -> Result<ReadTxn, AllocError> {
+    read.snapshot()
+}
+
 /// A snapshot of a snapshot.
-fn kept_of<R: Wait>(rt: &R, db: &Db, pass: &mut Pass) -> Result<ReadTxn, Fail>
+fn kept_of<R: Wait>(rt: &R, db: &Db, pass: &mut Pass) -> Result<ReadTxn, AllocError>
     requires own { IsCaller db.now 1 pass.old }
     ensures { IsCaller db.now 1 pass.new }
 {
     let read = db.read(rt, pass)?;
-    Ok(read.snapshot()?.snapshot()?)
+    second(&read.snapshot()?)
 }
 
 /// Runs transactions, and tells whether a snapshot stays as it is over the later ones.
-fn is_kept_long<R: Wait>(rt: &R, alloc: Global, db: &Db, pass: Pass) -> (Pass, Result<bool, Fail>)
+fn is_kept_long<R: Wait>(
+    rt: &R,
+    alloc: Global,
+    db: &Db,
+    pass: Pass,
+) -> (Pass, Result<bool, AllocError>)
     requires own { IsCaller db.now 1 pass }
     ensures { IsCaller db.now 1 result.0 }
 {
@@ -319,7 +346,7 @@ fn is_kept_long<R: Wait>(rt: &R, alloc: Global, db: &Db, pass: Pass) -> (Pass, R
     let before = plain;
     let kept = match kept_of(rt, db, &mut pass) {
         Ok(kept) => kept,
-        Err(fail) => return (pass, Err(fail)),
+        Err(_) => return (pass, Err(AllocError)),
     };
     let (pass, next) = run_often(rt, alloc, &mut random, db, pass, &mut plain, 4_000);
     match next {
@@ -329,7 +356,7 @@ fn is_kept_long<R: Wait>(rt: &R, alloc: Global, db: &Db, pass: Pass) -> (Pass, R
 }
 
 /// Whether a long run in a new database is as on plain lists.
-fn is_alike_long<R: Wait>(rt: &R, alloc: Global) -> Result<bool, Fail> {
+fn is_alike_long<R: Wait>(rt: &R, alloc: Global) -> Result<bool, AllocError> {
     let (db, passes, pass) = opened(alloc)?;
     let (pass, told) = is_kept_long(rt, alloc, &db, pass);
     drop(closed(rt, db, passes, pass));

@@ -43,7 +43,7 @@ fn last_after<R: Threads + Wait + Sync>(
     rt: &R,
     alloc: Global,
     commits: bool,
-) -> Result<ReadTxn, Fail> {
+) -> Result<ReadTxn, AllocError> {
     let (db, passes, one, two) = pair(alloc)?;
     let mut one = Some(one);
     let mut two = Some(two);
@@ -64,7 +64,7 @@ fn are_made<R: Threads + Wait + Sync>(
     alloc: Global,
     commits: bool,
     counts: (u64, u64),
-) -> Result<bool, Fail> {
+) -> Result<bool, AllocError> {
     let last = last_after(rt, alloc, commits)?;
     let all = counts.0.saturating_add(counts.1);
     Ok(last.number() == all && are_in_order(alloc, &last, counts)?)

@@ -6,11 +6,11 @@ ghost use Rattle.mem_txn.specs.Transactions.{changes_of};
 
 use super::drawn::{Plain, Random};
 use super::mixed::operate_often;
-use super::watches::{commit_of, write_and_read};
-use super::{closed, failed, lines_of, opened, query_of};
+use super::watches::{commit_of, watched_of, write_and_read};
+use super::{closed, lines_of, opened, query_of};
 use crate::{BeginRefused, Db, Held, Pass, ReadTxn, WriteTxn};
 use mdb_schema::{Answer, Ask, Query};
-use std::alloc::Global;
+use std::alloc::{AllocError, Global};
 use std::marker::Model;
 use std::sync::Wait;
 use std::test::Fail;
@@ -80,7 +80,7 @@ impl Kept {
 }
 
 /// The rows of an answer, one a line.
-fn text_of(alloc: Global, answer: &Answer) -> Result<Vec<u8>, Fail> {
+fn text_of(alloc: Global, answer: &Answer) -> Result<Vec<u8>, AllocError> {
     match answer {
         Answer::Many(rows) => lines_of(alloc, rows),
         Answer::One(Some(row)) => Ok(row.doc()?),
@@ -89,10 +89,10 @@ fn text_of(alloc: Global, answer: &Answer) -> Result<Vec<u8>, Fail> {
 }
 
 /// The watch of a question in a state, whose log is of the same book.
-fn watch_of(alloc: Global, read: &ReadTxn, log: &Front, query: &Query) -> Result<Kept, Fail>
+fn watch_of(alloc: Global, read: &ReadTxn, log: &Front, query: &Query) -> Result<Kept, AllocError>
     requires { log.now.book ≡ read.now.book }
 {
-    let (answer, held) = read.ask_watch(query)?;
+    let (answer, held) = watched_of(read, query)?;
     let told = text_of(alloc, &answer)?;
     Ok(Kept {
         held,
@@ -102,7 +102,12 @@ fn watch_of(alloc: Global, read: &ReadTxn, log: &Front, query: &Query) -> Result
 }
 
 /// The same of a question of the list.
-fn watch_asked(alloc: Global, read: &ReadTxn, log: &Front, asked: &Asked) -> Result<Kept, Fail>
+fn watch_asked(
+    alloc: Global,
+    read: &ReadTxn,
+    log: &Front,
+    asked: &Asked,
+) -> Result<Kept, AllocError>
     requires { log.now.book ≡ read.now.book }
 {
     let query = query_of(alloc, asked.0, asked.1, asked.2)?;
@@ -117,6 +122,24 @@ fn is_right(kept: &Kept, next: &Kept) -> bool {
         && (fired || next.told.as_slice() == kept.told.as_slice())
 }
 
+/// Whether a watch is right. One that has fired is held anew, and so is another where that is said.
+fn is_right_now(
+    alloc: Global,
+    kept: &mut Kept,
+    read: &ReadTxn,
+    log: &Front,
+    anew: bool,
+) -> Result<bool, AllocError>
+    requires { log.now.book ≡ read.now.book }
+{
+    let next = watch_of(alloc, read, log, kept.held.query())?;
+    let right = is_right(kept, &next);
+    if anew || next.held.id() != kept.held.id() {
+        *kept = next;
+    }
+    Ok(right)
+}
+
 /// Whether all watches are right. Those that have fired are held anew, and so is one more.
 fn are_right(
     alloc: Global,
@@ -124,23 +147,19 @@ fn are_right(
     read: &ReadTxn,
     log: &Front,
     turn: usize,
-) -> Result<bool, Fail>
+) -> Result<bool, AllocError>
     requires { log.now.book ≡ read.now.book }
 {
-    for at in 0..watches.len() {
-        let next = watch_of(alloc, read, log, watches[at].held.query())?;
-        if !is_right(&watches[at], &next) {
+    for (at, kept) in watches.iter_mut().enumerate() {
+        if !is_right_now(alloc, kept, read, log, at == turn)? {
             return Ok(false);
-        }
-        if at == turn || next.held.id() != watches[at].held.id() {
-            watches[at] = next;
         }
     }
     Ok(true)
 }
 
 /// The watches of a state, each question several times.
-fn all_kept(alloc: Global, read: &ReadTxn, log: &Front) -> Result<Vec<Kept>, Fail>
+fn all_kept(alloc: Global, read: &ReadTxn, log: &Front) -> Result<Vec<Kept>, AllocError>
     requires { log.now.book ≡ read.now.book }
 {
     let mut watches = Vec::with_capacity(alloc, WATCHES)?;
@@ -158,7 +177,7 @@ fn run_begun<R: Wait>(
     db: &Db,
     txn: WriteTxn<u8>,
     plain: &mut Plain,
-) -> (Pass, Result<Front, Fail>)
+) -> (Pass, Result<Front, AllocError>)
     requires own { IsCaller db.now 1 (changes_of txn).caller }
     ensures own { IsCaller db.now 1 result.0 }
     ensures same { let pass = result.0 in pass.book ≡ (changes_of txn).caller.book }
@@ -167,8 +186,8 @@ fn run_begun<R: Wait>(
     let mut txn = txn;
     match operate_often(alloc, random, &mut txn, plain) {
         Ok(true) => commit_of(rt, db, txn),
-        Ok(false) => (txn.abort(db), Err(Fail::from("another reply"))),
-        Err(fail) => (txn.abort(db), Err(fail)),
+        Ok(false) => (txn.abort(db), Err(AllocError)),
+        Err(_) => (txn.abort(db), Err(AllocError)),
     }
 }
 
@@ -180,7 +199,7 @@ fn run<R: Wait>(
     db: &Db,
     pass: Pass,
     plain: &mut Plain,
-) -> (Pass, Result<Front, Fail>)
+) -> (Pass, Result<Front, AllocError>)
     requires own { IsCaller db.now 1 pass }
     ensures own { IsCaller db.now 1 result.0 }
     ensures same { let after = result.0 in after.book ≡ pass.book }
@@ -188,7 +207,7 @@ fn run<R: Wait>(
 {
     match db.write(rt, pass) {
         Ok(txn) => run_begun(rt, alloc, random, db, txn, plain),
-        Err(BeginRefused { pass, cause: _ }) => (pass, Err(Fail::from("no memory"))),
+        Err(BeginRefused { pass, cause: _ }) => (pass, Err(AllocError)),
     }
 }
 
@@ -202,18 +221,18 @@ fn run_watched<R: Wait>(
     plain: &mut Plain,
     watches: &mut Vec<Kept>,
     turn: usize,
-) -> (Pass, Result<bool, Fail>)
+) -> (Pass, Result<bool, AllocError>)
     requires own { IsCaller db.now 1 pass }
     ensures { IsCaller db.now 1 result.0 }
 {
     let (mut pass, log) = run(rt, alloc, random, db, pass, plain);
     let log = match log {
         Ok(log) => log,
-        Err(fail) => return (pass, Err(fail)),
+        Err(_) => return (pass, Err(AllocError)),
     };
     let told = match db.read(rt, &mut pass) {
         Ok(read) => are_right(alloc, watches, &read, &log, turn),
-        Err(_) => failed(),
+        Err(_) => Err(AllocError),
     };
     (pass, told)
 }
@@ -225,7 +244,7 @@ fn run_often<R: Wait>(
     db: &Db,
     pass: Pass,
     watches: &mut Vec<Kept>,
-) -> (Pass, Result<bool, Fail>)
+) -> (Pass, Result<bool, AllocError>)
     requires own { IsCaller db.now 1 pass }
     ensures { IsCaller db.now 1 result.0 }
 {
@@ -250,19 +269,19 @@ fn first_watches<R: Wait>(
     alloc: Global,
     db: &Db,
     pass: Pass,
-) -> (Pass, Result<Vec<Kept>, Fail>)
+) -> (Pass, Result<Vec<Kept>, AllocError>)
     requires own { IsCaller db.now 1 pass }
     ensures { IsCaller db.now 1 result.0 }
 {
     let (pass, first) = write_and_read(rt, alloc, db, pass, &[]);
     match first {
         Ok((log, read)) => (pass, all_kept(alloc, &read, &log)),
-        Err(fail) => (pass, Err(fail)),
+        Err(_) => (pass, Err(AllocError)),
     }
 }
 
 /// The same in a new database, with watches of its first commit.
-fn are_always_right<R: Wait>(rt: &R, alloc: Global) -> Result<bool, Fail> {
+fn are_always_right<R: Wait>(rt: &R, alloc: Global) -> Result<bool, AllocError> {
     let (db, passes, pass) = opened(alloc)?;
     let (pass, watches) = first_watches(rt, alloc, &db, pass);
     let (pass, told) = match watches {
@@ -270,7 +289,7 @@ fn are_always_right<R: Wait>(rt: &R, alloc: Global) -> Result<bool, Fail> {
             let mut watches = watches;
             run_often(rt, alloc, &db, pass, &mut watches)
         }
-        Err(fail) => (pass, Err(fail)),
+        Err(_) => (pass, Err(AllocError)),
     };
     drop(closed(rt, db, passes, pass));
     told

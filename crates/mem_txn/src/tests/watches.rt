@@ -1,26 +1,25 @@
 //! Watches: a question's cell before a commit, and what the commit makes of it.
 ghost use Rattle.std.specs.Prelude.{◌≡◌, IfOk};
+ghost use Rattle.mdb_schema.specs.Query as query;
 ghost use Rattle.mem_txn.specs.Database.{IsCaller};
+ghost use Rattle.mem_txn.specs.Held.{IsHeldOf};
 ghost use Rattle.mem_txn.specs.Transactions.{changes_of};
 
-use super::worked::{Asked, Line, are_written};
+use super::worked::{Asked, IDS, Line, are_written};
 use super::{closed, is_told, opened, query_of};
 use crate::{BeginRefused, CommitRefused, Committed, Db, Held, Pass, ReadTxn, WriteTxn};
-use mdb_schema::Ask;
-use std::alloc::Global;
+use mdb_schema::{Answer, Ask, Query};
+use std::alloc::{AllocError, Global};
 use std::sync::Wait;
 use std::test::Fail;
 use watch_word::Front;
 
-/// What a commit writes after the first one, and a watch held before it.
-#[derive(Drop)]
-struct Run {
-    writes: &'static [Line],
-    watched: Asked,
-}
+/// What a commit writes after the first one, the question of a watch held before it, and whether the
+/// commit fires the watch.
+type Case = (&'static [Line], Asked, bool);
 
 /// Two users, whom commit 1 stores.
-const FIRST: [Line; 2] = [
+pub const FIRST: [Line; 2] = [
     ("insert", "users", r#"{"name":"foo","age":1}"#, "inserted"),
     (
         "insert",
@@ -30,12 +29,12 @@ const FIRST: [Line; 2] = [
     ),
 ];
 
-const FOO: &str = r#"{"age":1,"name":"foo"}"#;
+pub const FOO: &str = r#"{"age":1,"name":"foo"}"#;
 
 const BOTH: &str = "{\"age\":1,\"name\":\"foo\"}\n{\"age\":2,\"name\":\"football\"}\n";
 
 /// Commits the writes of a transaction, and gives the log of its receipt.
-pub fn commit_of<R: Wait>(rt: &R, db: &Db, txn: WriteTxn<u8>) -> (Pass, Result<Front, Fail>)
+pub fn commit_of<R: Wait>(rt: &R, db: &Db, txn: WriteTxn<u8>) -> (Pass, Result<Front, AllocError>)
     requires own { IsCaller db.now 1 (changes_of txn).caller }
     ensures own { IsCaller db.now 1 result.0 }
     ensures same { let pass = result.0 in pass.book ≡ (changes_of txn).caller.book }
@@ -43,7 +42,7 @@ pub fn commit_of<R: Wait>(rt: &R, db: &Db, txn: WriteTxn<u8>) -> (Pass, Result<F
 {
     match txn.commit(rt, db) {
         Ok(Committed { pass, receipt }) => (pass, Ok(receipt.log)),
-        Err(CommitRefused { pass, cause: _ }) => (pass, Err(Fail::from("no memory"))),
+        Err(CommitRefused { pass, cause: _ }) => (pass, Err(AllocError)),
     }
 }
 
@@ -54,7 +53,7 @@ fn write_begun<R: Wait>(
     db: &Db,
     txn: WriteTxn<u8>,
     lines: &[Line],
-) -> (Pass, Result<Front, Fail>)
+) -> (Pass, Result<Front, AllocError>)
     requires own { IsCaller db.now 1 (changes_of txn).caller }
     ensures own { IsCaller db.now 1 result.0 }
     ensures same { let pass = result.0 in pass.book ≡ (changes_of txn).caller.book }
@@ -63,8 +62,8 @@ fn write_begun<R: Wait>(
     let mut txn = txn;
     match are_written(alloc, &mut txn, lines) {
         Ok(true) => commit_of(rt, db, txn),
-        Ok(false) => (txn.abort(db), Err(Fail::from("another reply"))),
-        Err(fail) => (txn.abort(db), Err(fail)),
+        Ok(false) => (txn.abort(db), Err(AllocError)),
+        Err(_) => (txn.abort(db), Err(AllocError)),
     }
 }
 
@@ -75,7 +74,7 @@ fn write<R: Wait>(
     db: &Db,
     pass: Pass,
     lines: &[Line],
-) -> (Pass, Result<Front, Fail>)
+) -> (Pass, Result<Front, AllocError>)
     requires own { IsCaller db.now 1 pass }
     ensures own { IsCaller db.now 1 result.0 }
     ensures same { let after = result.0 in after.book ≡ pass.book }
@@ -83,21 +82,34 @@ fn write<R: Wait>(
 {
     match db.write(rt, pass) {
         Ok(txn) => write_begun(rt, alloc, db, txn, lines),
-        Err(BeginRefused { pass, cause: _ }) => (pass, Err(Fail::from("no memory"))),
+        Err(BeginRefused { pass, cause: _ }) => (pass, Err(AllocError)),
+    }
+}
+
+/// The answer to a question and its watch. A refusal ends a test.
+pub fn watched_of(read: &ReadTxn, query: &Query) -> Result<(Answer, Held), AllocError>
+    ensures held { IfOk result (λ made. IsHeldOf read.now query.now made.1) }
+    ensures book { IfOk result (λ made. let h = made.1 in let spot = h.spot in let cell = spot.watch in
+        cell.book ≡ read.now.book) }
+{
+    match read.ask_watch(query) {
+        Ok(made) => Ok(made),
+        Err(_) => Err(AllocError),
     }
 }
 
 /// The held watch of a question that has this answer.
-pub fn held(alloc: Global, read: &ReadTxn, asked: &Asked) -> Result<Held, Fail>
-    ensures { IfOk result (λ h. let spot = h.spot in let cell = spot.watch in
+pub fn held(alloc: Global, read: &ReadTxn, asked: &Asked) -> Result<Held, AllocError>
+    ensures held { IfOk result (λ h. (q : query.Query) × IsHeldOf read.now q h) }
+    ensures book { IfOk result (λ h. let spot = h.spot in let cell = spot.watch in
         cell.book ≡ read.now.book) }
 {
     let query = query_of(alloc, asked.0, asked.1, asked.2)?;
-    let (answer, held) = read.ask_watch(&query)?;
+    let (answer, held) = watched_of(read, &query)?;
     if is_told(alloc, &answer, asked.3)? {
         Ok(held)
     } else {
-        Err(Fail::from("another answer"))
+        Err(AllocError)
     }
 }
 
@@ -109,8 +121,8 @@ pub fn is_fired(held: &Held, log: &Front) -> bool
 }
 
 /// Whether its question has another cell in a later state.
-pub fn has_moved(held: &Held, read: &ReadTxn) -> Result<bool, Fail> {
-    let (_, again) = read.ask_watch(held.query())?;
+pub fn has_moved(held: &Held, read: &ReadTxn) -> Result<bool, AllocError> {
+    let (_, again) = watched_of(read, held.query())?;
     Ok(again.id() != held.id())
 }
 
@@ -121,7 +133,7 @@ pub fn write_and_read<R: Wait>(
     db: &Db,
     pass: Pass,
     lines: &[Line],
-) -> (Pass, Result<(Front, ReadTxn), Fail>)
+) -> (Pass, Result<(Front, ReadTxn), AllocError>)
     requires own { IsCaller db.now 1 pass }
     ensures own { IsCaller db.now 1 result.0 }
     ensures same { let after = result.0 in after.book ≡ pass.book }
@@ -131,11 +143,11 @@ pub fn write_and_read<R: Wait>(
     let (mut pass, log) = write(rt, alloc, db, pass, lines);
     let log = match log {
         Ok(log) => log,
-        Err(fail) => return (pass, Err(fail)),
+        Err(_) => return (pass, Err(AllocError)),
     };
     match db.read(rt, &mut pass) {
         Ok(read) => (pass, Ok((log, read))),
-        Err(_) => (pass, Err(Fail::from("no memory"))),
+        Err(_) => (pass, Err(AllocError)),
     }
 }
 
@@ -146,19 +158,19 @@ fn watched<R: Wait>(
     alloc: Global,
     db: &Db,
     pass: Pass,
-    run: &Run,
-) -> (Pass, Result<[bool; 3], Fail>)
+    run: &Case,
+) -> (Pass, Result<[bool; 3], AllocError>)
     requires own { IsCaller db.now 1 pass }
     ensures { IsCaller db.now 1 result.0 }
 {
     let (pass, first) = write_and_read(rt, alloc, db, pass, &FIRST);
     let (log, read) = match first {
         Ok(first) => first,
-        Err(fail) => return (pass, Err(fail)),
+        Err(_) => return (pass, Err(AllocError)),
     };
-    match held(alloc, &read, &run.watched) {
+    match held(alloc, &read, &run.1) {
         Ok(held) => watched_on(rt, alloc, db, pass, run, &held, &log),
-        Err(fail) => (pass, Err(fail)),
+        Err(_) => (pass, Err(AllocError)),
     }
 }
 
@@ -168,109 +180,102 @@ fn watched_on<R: Wait>(
     alloc: Global,
     db: &Db,
     pass: Pass,
-    run: &Run,
+    run: &Case,
     held: &Held,
     earlier: &Front,
-) -> (Pass, Result<[bool; 3], Fail>)
+) -> (Pass, Result<[bool; 3], AllocError>)
     requires own { IsCaller db.now 1 pass }
     requires held { let spot = held.now.spot in let cell = spot.watch in cell.book ≡ pass.book }
     requires log { earlier.now.book ≡ pass.book }
     ensures { IsCaller db.now 1 result.0 }
 {
     let before = is_fired(held, earlier);
-    let (pass, second) = write_and_read(rt, alloc, db, pass, run.writes);
+    let (pass, second) = write_and_read(rt, alloc, db, pass, run.0);
     let (log, read) = match second {
         Ok(second) => second,
-        Err(fail) => return (pass, Err(fail)),
+        Err(_) => return (pass, Err(AllocError)),
     };
     let after = is_fired(held, &log);
     match has_moved(held, &read) {
         Ok(moved) => (pass, Ok([before, after, moved])),
-        Err(fail) => (pass, Err(fail)),
+        Err(_) => (pass, Err(AllocError)),
     }
 }
 
 /// The same in a new database.
-fn watch<R: Wait>(rt: &R, alloc: Global, run: &Run) -> Result<[bool; 3], Fail> {
+fn watch<R: Wait>(rt: &R, alloc: Global, run: &Case) -> Result<[bool; 3], AllocError> {
     let (db, passes, pass) = opened(alloc)?;
     let (pass, told) = watched(rt, alloc, &db, pass, run);
     drop(closed(rt, db, passes, pass));
     told
 }
 
-/// Whether the second commit fires a watch, and only it does, and the question then has another
-/// cell.
-fn fires<R: Wait>(rt: &R, alloc: Global, run: &Run) -> Result<bool, Fail> {
-    Ok(watch(rt, alloc, run)? == [false, true, true])
+/// Whether the second commit alone fires a watch, and the question then has another cell; or, where
+/// that is said, no commit fires it, and the question keeps its cell.
+fn fires_so<R: Wait>(rt: &R, alloc: Global, run: &Case) -> Result<bool, AllocError> {
+    Ok(watch(rt, alloc, run)? == [false, run.2, run.2])
 }
 
-/// Whether no commit fires it, and the question keeps its cell.
-fn stays<R: Wait>(rt: &R, alloc: Global, run: &Run) -> Result<bool, Fail> {
-    Ok(watch(rt, alloc, run)? == [false, false, false])
-}
-
-/// The first user of a name that nobody has, or of one.
-const fn first(args: &'static str, answer: &'static str) -> Asked {
-    (Ask::First, ("users", "id"), args, answer)
+/// Whether each of some watches does.
+fn each_fires_so<R: Wait>(rt: &R, alloc: Global, runs: &[Case]) -> Result<bool, AllocError> {
+    for run in runs {
+        if !fires_so(rt, alloc, run)? {
+            return Ok(false);
+        }
+    }
+    Ok(true)
 }
 
 const FOOL: [Line; 1] = [("insert", "users", r#"{"name":"fool","age":3}"#, "inserted")];
 
+const MISSING: [Case; 2] = [
+    (&FOOL, (Ask::First, IDS, r#"["fool"]"#, "none"), true),
+    (&FOOL, (Ask::First, IDS, r#"["foo"]"#, FOO), false),
+];
+
 #[test]
 fn a_missing_key_fires_and_a_stored_one_stays(rt: HostRuntime) -> Result<(), Fail> {
-    let missing = Run {
-        writes: &FOOL,
-        watched: first(r#"["fool"]"#, "none"),
-    };
-    let stored = Run {
-        writes: &FOOL,
-        watched: first(r#"["foo"]"#, FOO),
-    };
-    assert!(rt; fires(&rt, rt.alloc(), &missing)? && stays(&rt, rt.alloc(), &stored)?);
+    assert!(rt; each_fires_so(&rt, rt.alloc(), &MISSING)?);
     Ok(())
 }
 
 const FOOT: [Line; 1] = [("insert", "users", r#"{"name":"foot","age":3}"#, "inserted")];
 
+const SPLIT: [Case; 2] = [
+    (&FOOT, (Ask::First, IDS, r#"["foot"]"#, "none"), true),
+    (&FOOT, (Ask::First, IDS, r#"["foo"]"#, FOO), false),
+];
+
 #[test]
 fn a_split_fires_the_child_and_a_stored_key_stays(rt: HostRuntime) -> Result<(), Fail> {
-    let missing = Run {
-        writes: &FOOT,
-        watched: first(r#"["foot"]"#, "none"),
-    };
-    let stored = Run {
-        writes: &FOOT,
-        watched: first(r#"["foo"]"#, FOO),
-    };
-    assert!(rt; fires(&rt, rt.alloc(), &missing)? && stays(&rt, rt.alloc(), &stored)?);
+    assert!(rt; each_fires_so(&rt, rt.alloc(), &SPLIT)?);
     Ok(())
 }
 
 const NO_FOOTBALL: [Line; 1] = [("delete", "users", r#"{"name":"football"}"#, "deleted")];
 
+const MERGE: [Case; 2] = [
+    (
+        &NO_FOOTBALL,
+        (Ask::Get, ("users", "id_prefix"), r#"["fo"]"#, BOTH),
+        true,
+    ),
+    (&NO_FOOTBALL, (Ask::First, IDS, r#"["foo"]"#, FOO), false),
+];
+
 #[test]
 fn a_merge_fires_what_begins_so_and_a_stored_key_stays(rt: HostRuntime) -> Result<(), Fail> {
-    let listed = Run {
-        writes: &NO_FOOTBALL,
-        watched: (Ask::Get, ("users", "id_prefix"), r#"["fo"]"#, BOTH),
-    };
-    let stored = Run {
-        writes: &NO_FOOTBALL,
-        watched: first(r#"["foo"]"#, FOO),
-    };
-    assert!(rt; fires(&rt, rt.alloc(), &listed)? && stays(&rt, rt.alloc(), &stored)?);
+    assert!(rt; each_fires_so(&rt, rt.alloc(), &MERGE)?);
     Ok(())
 }
 
 const A_NOTE: [Line; 1] = [("insert", "notes", r#"{"name":"n"}"#, "inserted")];
 
+const OTHER_TABLE: [Case; 1] = [(&A_NOTE, (Ask::First, IDS, r#"["fool"]"#, "none"), false)];
+
 #[test]
 fn another_table_fires_nothing(rt: HostRuntime) -> Result<(), Fail> {
-    let run = Run {
-        writes: &A_NOTE,
-        watched: first(r#"["fool"]"#, "none"),
-    };
-    assert!(rt; stays(&rt, rt.alloc(), &run)?);
+    assert!(rt; each_fires_so(&rt, rt.alloc(), &OTHER_TABLE)?);
     Ok(())
 }
 
@@ -278,45 +283,41 @@ const FOOP: [Line; 1] = [("insert", "users", r#"{"name":"foop","age":3}"#, "inse
 
 /// The node of the path `foo`, which guards `fool`, is copied; that of `football`, which guards
 /// `foot`, stays.
+const NEIGHBOUR: [Case; 2] = [
+    (&FOOP, (Ask::First, IDS, r#"["fool"]"#, "none"), true),
+    (&FOOP, (Ask::First, IDS, r#"["foot"]"#, "none"), false),
+];
+
 #[test]
 fn a_neighbour_fires_the_node_that_it_is_under(rt: HostRuntime) -> Result<(), Fail> {
-    let copied = Run {
-        writes: &FOOP,
-        watched: first(r#"["fool"]"#, "none"),
-    };
-    let stays_there = Run {
-        writes: &FOOP,
-        watched: first(r#"["foot"]"#, "none"),
-    };
-    assert!(rt; fires(&rt, rt.alloc(), &copied)? && stays(&rt, rt.alloc(), &stays_there)?);
+    assert!(rt; each_fires_so(&rt, rt.alloc(), &NEIGHBOUR)?);
     Ok(())
 }
+
+const NO_WRITES: [Case; 1] = [(&[], (Ask::First, IDS, r#"["fool"]"#, "none"), false)];
 
 #[test]
 fn a_commit_without_writes_fires_nothing(rt: HostRuntime) -> Result<(), Fail> {
-    let run = Run {
-        writes: &[],
-        watched: first(r#"["fool"]"#, "none"),
-    };
-    assert!(rt; stays(&rt, rt.alloc(), &run)?);
+    assert!(rt; each_fires_so(&rt, rt.alloc(), &NO_WRITES)?);
     Ok(())
 }
 
-const BOTH_TABLES: [Line; 2] = [
+const TWO_TABLES: [Line; 2] = [
     ("insert", "notes", r#"{"name":"n"}"#, "inserted"),
     ("insert", "users", r#"{"name":"fool","age":3}"#, "inserted"),
 ];
 
+const EACH_TABLE: [Case; 2] = [
+    (
+        &TWO_TABLES,
+        (Ask::First, ("notes", "id"), r#"["n"]"#, "none"),
+        true,
+    ),
+    (&TWO_TABLES, (Ask::First, IDS, r#"["fool"]"#, "none"), true),
+];
+
 #[test]
 fn each_table_that_is_written_fires(rt: HostRuntime) -> Result<(), Fail> {
-    let note = Run {
-        writes: &BOTH_TABLES,
-        watched: (Ask::First, ("notes", "id"), r#"["n"]"#, "none"),
-    };
-    let user = Run {
-        writes: &BOTH_TABLES,
-        watched: first(r#"["fool"]"#, "none"),
-    };
-    assert!(rt; fires(&rt, rt.alloc(), &note)? && fires(&rt, rt.alloc(), &user)?);
+    assert!(rt; each_fires_so(&rt, rt.alloc(), &EACH_TABLE)?);
     Ok(())
 }

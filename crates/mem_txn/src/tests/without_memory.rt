@@ -11,7 +11,7 @@ use super::row_of;
 use crate::{
     BeginError, BeginRefused, CommitError, CommitRefused, Committed, Db, Pass, SnapError, WriteTxn,
 };
-use std::alloc::Global;
+use std::alloc::{AllocError, Global};
 use std::sync::Wait;
 use std::test::Fail;
 
@@ -30,7 +30,7 @@ fn insert_some(
     random: &mut Random,
     txn: &mut WriteTxn<u8>,
     plain: &mut Plain,
-) -> Result<bool, Fail>
+) -> Result<bool, AllocError>
     ensures { (changes_of txn.new).caller ≡ (changes_of txn.old).caller }
 {
     for place in 4..8 {
@@ -88,7 +88,7 @@ fn try_begun<R: Wait>(
     db: &Db,
     txn: WriteTxn<u8>,
     plain: &Plain,
-) -> (Pass, Result<Outcome, Fail>)
+) -> (Pass, Result<Outcome, AllocError>)
     requires own { IsCaller db.now 1 (changes_of txn).caller }
     ensures { IsCaller db.now 1 result.0 }
 {
@@ -101,7 +101,7 @@ fn try_begun<R: Wait>(
             tried.right = tried.right && told;
             (pass, Ok(tried))
         }
-        Err(fail) => (txn.abort(db), Err(fail)),
+        Err(_) => (txn.abort(db), Err(AllocError)),
     }
 }
 
@@ -113,7 +113,7 @@ fn try_both<R: Wait>(
     db: &Db,
     pass: Pass,
     plain: &Plain,
-) -> (Pass, Result<Outcome, Fail>)
+) -> (Pass, Result<Outcome, AllocError>)
     requires own { IsCaller db.now 1 pass }
     ensures { IsCaller db.now 1 result.0 }
 {
@@ -139,7 +139,7 @@ fn try_read<R: Wait>(
     pass: Pass,
     other: &mut Pass,
     plain: &mut Plain,
-) -> (Pass, Result<bool, Fail>)
+) -> (Pass, Result<bool, AllocError>)
     requires own { IsCaller db.now 1 pass }
     requires other { IsCaller db.now 2 other.old }
     ensures own { IsCaller db.now 1 result.0 }
@@ -152,10 +152,10 @@ fn try_read<R: Wait>(
             *plain = after;
             match reads_alike(rt, alloc, db, other, plain) {
                 Ok(alike) => Ok(tried.right && alike),
-                Err(fail) => Err(fail),
+                Err(_) => Err(AllocError),
             }
         }
-        Err(fail) => Err(fail),
+        Err(_) => Err(AllocError),
     };
     (pass, told)
 }
@@ -167,7 +167,7 @@ fn are_tried<R: Wait>(
     db: &Db,
     pass: Pass,
     other: &mut Pass,
-) -> (Pass, Result<bool, Fail>)
+) -> (Pass, Result<bool, AllocError>)
     requires own { IsCaller db.now 1 pass }
     requires other { IsCaller db.now 2 other.old }
     ensures own { IsCaller db.now 1 result.0 }
@@ -188,7 +188,7 @@ fn are_tried<R: Wait>(
 }
 
 /// Whether they are in a new database.
-fn are_tried_anew<R: Wait>(rt: &R, alloc: Global) -> Result<bool, Fail> {
+fn are_tried_anew<R: Wait>(rt: &R, alloc: Global) -> Result<bool, AllocError> {
     let (db, passes, one, mut two) = pair(alloc)?;
     let (one, told) = are_tried(rt, alloc, &db, one, &mut two);
     drop(closed(rt, db, passes, one, two));

@@ -4,11 +4,11 @@ ghost use Rattle.mem_txn.specs.Database.{IsCaller};
 ghost use Rattle.mem_txn.specs.Transactions.{changes_of};
 
 use super::mixed::end;
-use super::{closed, failed, is_told, opened, query_of, row_of};
+use super::{closed, is_told, opened, query_of, row_of};
 use crate::{BeginRefused, Db, Pass, ReadTxn, Snapshot, TxnAskError, TxnWriteError, WriteTxn};
 use mdb_datum::Row;
 use mdb_schema::{Answer, Ask, AskError, WriteError};
-use std::alloc::Global;
+use std::alloc::{AllocError, Global};
 use std::sync::Wait;
 use std::test::Fail;
 
@@ -23,7 +23,8 @@ pub type Asked = (
     &'static str,
 );
 
-const IDS: (&str, &str) = ("users", "id");
+/// The users by their ids.
+pub const IDS: (&str, &str) = ("users", "id");
 
 const AGES: (&str, &str) = ("users", "age");
 
@@ -57,15 +58,15 @@ fn ask_word(error: AskError) -> &'static str {
 }
 
 /// Whether a refusal is told by this word. Want of memory is no answer, and ends the test.
-fn is_word(expected: &str, word: &str) -> Result<bool, Fail> {
+fn is_word(expected: &str, word: &str) -> Result<bool, AllocError> {
     if word == "memory" {
-        return failed();
+        return Err(AllocError);
     }
     Ok(expected == word)
 }
 
 /// Whether a delete is answered so.
-fn is_deleted(txn: &mut WriteTxn<u8>, line: &Line, row: &Row) -> Result<bool, Fail>
+fn is_deleted(txn: &mut WriteTxn<u8>, line: &Line, row: &Row) -> Result<bool, AllocError>
     ensures { (changes_of txn.new).caller ≡ (changes_of txn.old).caller }
 {
     match txn.delete(line.1, row) {
@@ -75,7 +76,7 @@ fn is_deleted(txn: &mut WriteTxn<u8>, line: &Line, row: &Row) -> Result<bool, Fa
 }
 
 /// Whether a write is answered so.
-fn is_written(alloc: Global, txn: &mut WriteTxn<u8>, line: &Line) -> Result<bool, Fail>
+fn is_written(alloc: Global, txn: &mut WriteTxn<u8>, line: &Line) -> Result<bool, AllocError>
     ensures { (changes_of txn.new).caller ≡ (changes_of txn.old).caller }
 {
     let row = row_of(alloc, line.2)?;
@@ -89,7 +90,11 @@ fn is_written(alloc: Global, txn: &mut WriteTxn<u8>, line: &Line) -> Result<bool
 }
 
 /// Whether each write is answered so.
-pub fn are_written(alloc: Global, txn: &mut WriteTxn<u8>, lines: &[Line]) -> Result<bool, Fail>
+pub fn are_written(
+    alloc: Global,
+    txn: &mut WriteTxn<u8>,
+    lines: &[Line],
+) -> Result<bool, AllocError>
     ensures { (changes_of txn.new).caller ≡ (changes_of txn.old).caller }
 {
     for line in lines {
@@ -105,7 +110,7 @@ fn is_answered(
     alloc: Global,
     answer: Result<Answer, AskError>,
     expected: &str,
-) -> Result<bool, Fail> {
+) -> Result<bool, AllocError> {
     match answer {
         Ok(answer) => is_told(alloc, &answer, expected),
         Err(error) => is_word(expected, ask_word(error)),
@@ -113,7 +118,7 @@ fn is_answered(
 }
 
 /// Whether a transaction answers a question so.
-fn is_own(alloc: Global, txn: &mut WriteTxn<u8>, asked: &Asked) -> Result<bool, Fail>
+fn is_own(alloc: Global, txn: &mut WriteTxn<u8>, asked: &Asked) -> Result<bool, AllocError>
     ensures { (changes_of txn.new).caller ≡ (changes_of txn.old).caller }
 {
     let query = query_of(alloc, asked.0, asked.1, asked.2)?;
@@ -124,11 +129,16 @@ fn is_own(alloc: Global, txn: &mut WriteTxn<u8>, asked: &Asked) -> Result<bool, 
     }
 }
 
+/// Whether a read transaction answers a question so.
+fn is_read_so(alloc: Global, read: &ReadTxn, asked: &Asked) -> Result<bool, AllocError> {
+    let query = query_of(alloc, asked.0, asked.1, asked.2)?;
+    is_answered(alloc, read.ask(&query), asked.3)
+}
+
 /// Whether a read transaction answers each question so.
-fn are_read(alloc: Global, read: &ReadTxn, questions: &[Asked]) -> Result<bool, Fail> {
+fn are_read(alloc: Global, read: &ReadTxn, questions: &[Asked]) -> Result<bool, AllocError> {
     for asked in questions {
-        let query = query_of(alloc, asked.0, asked.1, asked.2)?;
-        if !is_answered(alloc, read.ask(&query), asked.3)? {
+        if !is_read_so(alloc, read, asked)? {
             return Ok(false);
         }
     }
@@ -141,7 +151,7 @@ fn are_right(
     txn: &mut WriteTxn<u8>,
     lines: &[Line],
     asked: &Asked,
-) -> Result<bool, Fail>
+) -> Result<bool, AllocError>
     ensures { (changes_of txn.new).caller ≡ (changes_of txn.old).caller }
 {
     if !are_written(alloc, txn, lines)? {
@@ -158,7 +168,7 @@ fn play_begun<R: Wait>(
     txn: WriteTxn<u8>,
     lines: &[Line],
     asked: &Asked,
-) -> (Pass, Result<bool, Fail>)
+) -> (Pass, Result<bool, AllocError>)
     requires own { IsCaller db.now 1 (changes_of txn).caller }
     ensures { IsCaller db.now 1 result.0 }
 {
@@ -177,13 +187,13 @@ fn play<R: Wait>(
     pass: Pass,
     lines: &[Line],
     asked: &Asked,
-) -> (Pass, Result<bool, Fail>)
+) -> (Pass, Result<bool, AllocError>)
     requires own { IsCaller db.now 1 pass }
     ensures { IsCaller db.now 1 result.0 }
 {
     match db.write(rt, pass) {
         Ok(txn) => play_begun(rt, alloc, db, txn, lines, asked),
-        Err(BeginRefused { pass, cause: _ }) => (pass, failed()),
+        Err(BeginRefused { pass, cause: _ }) => (pass, Err(AllocError)),
     }
 }
 
@@ -194,7 +204,7 @@ fn play_two<R: Wait>(
     db: &Db,
     pass: Pass,
     script: &Script,
-) -> (Pass, Result<bool, Fail>)
+) -> (Pass, Result<bool, AllocError>)
     requires own { IsCaller db.now 1 pass }
     ensures { IsCaller db.now 1 result.0 }
 {
@@ -213,7 +223,7 @@ fn is_read<R: Wait>(
     pass: &mut Pass,
     number: u64,
     questions: &[Asked],
-) -> Result<bool, Fail>
+) -> Result<bool, AllocError>
     requires own { IsCaller db.now 1 pass.old }
     ensures { IsCaller db.now 1 pass.new }
 {
@@ -240,7 +250,7 @@ fn is_played_on<R: Wait>(
     db: &Db,
     pass: Pass,
     script: &Script,
-) -> (Pass, Result<bool, Fail>)
+) -> (Pass, Result<bool, AllocError>)
     requires own { IsCaller db.now 1 pass }
     ensures { IsCaller db.now 1 result.0 }
 {
@@ -253,7 +263,7 @@ fn is_played_on<R: Wait>(
 }
 
 /// Whether a script is answered so in a new database.
-fn is_played<R: Wait>(rt: &R, alloc: Global, script: &Script) -> Result<bool, Fail> {
+fn is_played<R: Wait>(rt: &R, alloc: Global, script: &Script) -> Result<bool, AllocError> {
     let (db, passes, pass) = opened(alloc)?;
     let (pass, told) = is_played_on(rt, alloc, &db, pass, script);
     drop(closed(rt, db, passes, pass));
@@ -397,18 +407,23 @@ fn transactions_are_answered(rt: HostRuntime) -> Result<(), Fail> {
 }
 
 /// Whether a wipe by a prefix takes out two users.
-fn is_wiped(alloc: Global, txn: &mut WriteTxn<u8>) -> Result<bool, Fail>
+fn is_wiped(alloc: Global, txn: &mut WriteTxn<u8>) -> Result<bool, AllocError>
     ensures { (changes_of txn.new).caller ≡ (changes_of txn.old).caller }
 {
     let query = query_of(alloc, Ask::Get, ("users", "id_prefix"), r#"["an"]"#)?;
     match txn.delete_prefix(&query) {
         Ok(2) => is_own(alloc, txn, &NOT_WIPED),
         Ok(_) => Ok(false),
-        Err(_) => failed(),
+        Err(_) => Err(AllocError),
     }
 }
 
-fn abort_wiped<R: Wait>(rt: &R, alloc: Global, db: &Db, pass: Pass) -> (Pass, Result<bool, Fail>)
+fn abort_wiped<R: Wait>(
+    rt: &R,
+    alloc: Global,
+    db: &Db,
+    pass: Pass,
+) -> (Pass, Result<bool, AllocError>)
     requires own { IsCaller db.now 1 pass }
     ensures { IsCaller db.now 1 result.0 }
 {
@@ -418,12 +433,17 @@ fn abort_wiped<R: Wait>(rt: &R, alloc: Global, db: &Db, pass: Pass) -> (Pass, Re
             let told = is_wiped(alloc, &mut txn);
             (txn.abort(db), told)
         }
-        Err(BeginRefused { pass, cause: _ }) => (pass, failed()),
+        Err(BeginRefused { pass, cause: _ }) => (pass, Err(AllocError)),
     }
 }
 
 /// Whether a wipe takes rows out of its transaction, and leaves those that were committed.
-fn is_undone_on<R: Wait>(rt: &R, alloc: Global, db: &Db, pass: Pass) -> (Pass, Result<bool, Fail>)
+fn is_undone_on<R: Wait>(
+    rt: &R,
+    alloc: Global,
+    db: &Db,
+    pass: Pass,
+) -> (Pass, Result<bool, AllocError>)
     requires own { IsCaller db.now 1 pass }
     ensures { IsCaller db.now 1 result.0 }
 {
@@ -441,7 +461,7 @@ fn is_undone_on<R: Wait>(rt: &R, alloc: Global, db: &Db, pass: Pass) -> (Pass, R
 }
 
 /// The same in a new database.
-fn is_undone<R: Wait>(rt: &R, alloc: Global) -> Result<bool, Fail> {
+fn is_undone<R: Wait>(rt: &R, alloc: Global) -> Result<bool, AllocError> {
     let (db, passes, pass) = opened(alloc)?;
     let (pass, told) = is_undone_on(rt, alloc, &db, pass);
     drop(closed(rt, db, passes, pass));
@@ -475,24 +495,46 @@ const GONE: [Line; 1] = [("delete", "users", r#"{"name":"a"}"#, "deleted")];
 
 const KEPT: Asked = (Ask::Get, IDS, "[]", "{\"age\":1,\"name\":\"a\"}\n");
 
-/// A snapshot between two writes.
-fn between(alloc: Global, txn: &mut WriteTxn<u8>) -> Result<Snapshot, Fail>
+/// A snapshot of a transaction.
+fn snapshot_of(txn: &mut WriteTxn<u8>) -> Result<Snapshot, AllocError>
     ensures { (changes_of txn.new).caller ≡ (changes_of txn.old).caller }
 {
-    let first = are_written(alloc, txn, &ONE)?;
-    let Ok(snapshot) = txn.snapshot() else {
-        return Err(Fail::from("no memory"));
-    };
-    let last = are_right(alloc, txn, &GONE, &NO_USERS)?;
-    if first && last {
+    match txn.snapshot() {
+        Ok(snapshot) => Ok(snapshot),
+        Err(_) => Err(AllocError),
+    }
+}
+
+/// A snapshot after a write.
+fn snapshot_after(alloc: Global, txn: &mut WriteTxn<u8>) -> Result<Snapshot, AllocError>
+    ensures { (changes_of txn.new).caller ≡ (changes_of txn.old).caller }
+{
+    if are_written(alloc, txn, &ONE)? {
+        snapshot_of(txn)
+    } else {
+        Err(AllocError)
+    }
+}
+
+/// A snapshot between two writes.
+fn between(alloc: Global, txn: &mut WriteTxn<u8>) -> Result<Snapshot, AllocError>
+    ensures { (changes_of txn.new).caller ≡ (changes_of txn.old).caller }
+{
+    let snapshot = snapshot_after(alloc, txn)?;
+    if are_right(alloc, txn, &GONE, &NO_USERS)? {
         Ok(snapshot)
     } else {
-        Err(Fail::from("another answer"))
+        Err(AllocError)
     }
 }
 
 /// The snapshot of a transaction that is aborted.
-fn outlived<R: Wait>(rt: &R, alloc: Global, db: &Db, pass: Pass) -> (Pass, Result<Snapshot, Fail>)
+fn outlived<R: Wait>(
+    rt: &R,
+    alloc: Global,
+    db: &Db,
+    pass: Pass,
+) -> (Pass, Result<Snapshot, AllocError>)
     requires own { IsCaller db.now 1 pass }
     ensures { IsCaller db.now 1 result.0 }
 {
@@ -502,19 +544,24 @@ fn outlived<R: Wait>(rt: &R, alloc: Global, db: &Db, pass: Pass) -> (Pass, Resul
             let kept = between(alloc, &mut txn);
             (txn.abort(db), kept)
         }
-        Err(BeginRefused { pass, cause: _ }) => (pass, failed()),
+        Err(BeginRefused { pass, cause: _ }) => (pass, Err(AllocError)),
     }
 }
 
 /// Whether a snapshot stays, and the database has nothing of the transaction.
-fn is_outlived_on<R: Wait>(rt: &R, alloc: Global, db: &Db, pass: Pass) -> (Pass, Result<bool, Fail>)
+fn is_outlived_on<R: Wait>(
+    rt: &R,
+    alloc: Global,
+    db: &Db,
+    pass: Pass,
+) -> (Pass, Result<bool, AllocError>)
     requires own { IsCaller db.now 1 pass }
     ensures { IsCaller db.now 1 result.0 }
 {
     let (mut pass, kept) = outlived(rt, alloc, db, pass);
     let kept = match kept {
         Ok(kept) => is_kept(alloc, &kept),
-        Err(fail) => Err(fail),
+        Err(_) => Err(AllocError),
     };
     let told = match kept {
         Ok(true) => is_read(rt, alloc, db, &mut pass, 0, &[NO_USERS]),
@@ -524,14 +571,14 @@ fn is_outlived_on<R: Wait>(rt: &R, alloc: Global, db: &Db, pass: Pass) -> (Pass,
 }
 
 /// The same in a new database.
-fn is_outlived<R: Wait>(rt: &R, alloc: Global) -> Result<bool, Fail> {
+fn is_outlived<R: Wait>(rt: &R, alloc: Global) -> Result<bool, AllocError> {
     let (db, passes, pass) = opened(alloc)?;
     let (pass, told) = is_outlived_on(rt, alloc, &db, pass);
     drop(closed(rt, db, passes, pass));
     told
 }
 
-fn is_kept(alloc: Global, kept: &Snapshot) -> Result<bool, Fail> {
+fn is_kept(alloc: Global, kept: &Snapshot) -> Result<bool, AllocError> {
     let query = query_of(alloc, KEPT.0, KEPT.1, KEPT.2)?;
     is_answered(alloc, kept.ask(&query), KEPT.3)
 }

@@ -1,4 +1,4 @@
-use Rattle.std.proofs.Common.{◌≡◌, ◌∙◌, [], ap, subst}
+use Rattle.std.proofs.Common.{◌∙◌, ap, subst}
 use Rattle.std.specs.Arc.{arc_value}
 use Rattle.db_front.specs.Passes.{Known}
 use Rattle.mem_txn.specs.Database.{Caller, HasSeen}

@@ -1,4 +1,4 @@
-use Rattle.std.proofs.Common.{◌≡◌, length, ap, sym, subst}
+use Rattle.std.proofs.Common.{length, ap, sym, subst}
 use Rattle.db_front.specs.Passes.{Known}
 use Rattle.mem_txn.specs.Database.{Caller, HasRead, HasSeen}
 use Rattle.mem_txn.specs.Transactions.{HasWonAtLast}

@@ -8,11 +8,20 @@ use Rattle.table_index.specs.Spot.{SpotOf}
 use Rattle.watch_word.specs.Logs.{Cell}
 use Rattle.mem_txn.specs.CellHistory.{Forest, question_cell}
 use Rattle.mem_txn.specs.Database.{Reading, View}
-use Rattle.mem_txn.specs.Held.{HeldWatch}
+use Rattle.mem_txn.specs.Held.{HeldWatch, tells_own}
 use Rattle.mem_txn.specs.inner.Versions.{Version}
 use Rattle.mem_txn.proofs.CellsWatched.{question_of_book}
-use Rattle.mem_txn.proofs.SpotsFound.{held_memory}
+use Rattle.mem_txn.proofs.SpotsFound.{held_memory, held_refused}
 use Rattle.mem_txn.proofs.read_txn.ReadTxn.ask_watch.Goals as goal
+
+pub returns-in_err-answer-clause-answers : goal.returns-in_err-answer-clause-answers
+returns-in_err-answer-clause-answers c =
+    let q = c.args.query.now in
+    let told : Asked Answer = ask c.args.self.now.view.schema c.args.self.now.view.state q in
+    let same : c.view-view.result.now.view ≡ c.args.self.now.view = search rules in
+    let refused : c.from_residual.result ≡ Err c.in_err-answer.field-0.0 = search rules in
+    held_refused (tells_own told (is_watchable q.ask)) told c.in_err-answer.field-0.0 c.from_residual.result
+    (subst (λ (v : View). AnswersWatch (tells_own (ask v.schema v.state q) (is_watchable q.ask)) (ask v.schema v.state q) (Err c.in_err-answer.field-0.0)) same c.in_err-answer.ensures.answers) refused
 
 pub returns-in_err-held-clause-answers : goal.returns-in_err-held-clause-answers
 returns-in_err-held-clause-answers c =
@@ -20,8 +29,8 @@ returns-in_err-held-clause-answers c =
     let told : Asked Answer = ask c.args.self.now.view.schema c.args.self.now.view.state q in
     let memory : c.from_residual-in_err-held.result ≡ Err Memory = search rules in
     let same : c.view-view.result.now.view ≡ c.args.self.now.view = search rules in
-    held_memory (is_watchable q.ask) told c.in_ok-answer.field-0 c.from_residual-in_err-held.result
-    (subst (λ (v : View). AnswersWatch (is_watchable q.ask) (ask v.schema v.state q) (Ok c.in_ok-answer.field-0)) same c.in_ok-answer.ensures.answers) memory
+    held_memory (tells_own told (is_watchable q.ask)) told c.in_ok-answer.field-0 c.from_residual-in_err-held.result
+    (subst (λ (v : View). AnswersWatch (tells_own (ask v.schema v.state q) (is_watchable q.ask)) (ask v.schema v.state q) (Ok c.in_ok-answer.field-0)) same c.in_ok-answer.ensures.answers) memory
 
 pub returns-clause-held : goal.returns-clause-held
 returns-clause-held c =

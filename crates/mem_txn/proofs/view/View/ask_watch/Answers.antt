@@ -6,7 +6,7 @@ use Rattle.mdb_schema.specs.Answer.{ask, ask_rows}
 use Rattle.mdb_schema.specs.Schema.{table_place}
 use Rattle.table_index.specs.Watched.{AnswersWatch, is_watchable}
 use Rattle.mem_txn.specs.CellHistory.{question_cell, table_in}
-use Rattle.mem_txn.specs.Held.{IsLookedUp}
+use Rattle.mem_txn.specs.Held.{IsLookedUp, tells_own}
 use Rattle.mem_txn.specs.inner.VersionTables.{state_of}
 use Rattle.mem_txn.specs.inner.Versions.{ViewWithTrees}
 use Rattle.mem_txn.proofs.SpotsFound.{looked_there, spotted, watch_answers}
@@ -36,7 +36,7 @@ returns-in-Some-clause-answers c =
     let there : slice_get items place ≡ Some c.index-table.result.now = slice_get_read items (length items) place c.index-table.result.now refl within c.index-table.ensures in
     let table = c.deref-in-Some.result.now in
     let shown : slice_get shared place ≡ Some table = slice_get-map arc_value items place ∙ ap (option_map arc_value) there ∙ ap Some (sym c.deref-in-Some.ensures) in
-    subst (λ (v : ViewWithTrees). AnswersWatch (is_watchable q.ask) (ask v.view.schema v.view.state q) c.ask_watch.result) c.self.view_is
+    subst (λ (v : ViewWithTrees). AnswersWatch (tells_own (ask v.view.schema v.view.state q) (is_watchable q.ask)) (ask v.view.schema v.view.state q) c.ask_watch.result) c.self.view_is
     (watch_answers shared schema (state_of shared) c.self.invariant.schemas refl q place found table shown c.ask_watch.result c.ask_watch.ensures.answers)
 
 pub returns-in-Some-clause-cell : goal.returns-in-Some-clause-cell

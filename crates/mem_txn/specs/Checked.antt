@@ -1,0 +1,81 @@
+-- Checks of held watches.
+use Rattle.std.specs.Prelude.{◌≡◌, ◌++◌, ◌-◌, ◌<◌, ◌≤◌, ℕ, List, [], ◌∷◌, length, false, Some, slice_get}
+use mathlib.Core.List.{IsPrefix}
+use Rattle.mdb_schema.specs.Guarded.{IsUnchanged}
+use Rattle.mdb_schema.specs.History.{IsMadeBy}
+use Rattle.mdb_schema.specs.Query.{Query}
+use Rattle.watch_word.specs.Logs.{Log, has_fired}
+use Rattle.mem_txn.specs.CellHistory.{HasFirings, IsUnfired, cell_at, state_after, table_in, trees_after}
+use Rattle.mem_txn.specs.Database.{Caller, HasSeen, cells_seen, reading_of}
+use Rattle.mem_txn.specs.Held.{HeldWatch, IsHeldOf, IsLookedUp}
+use Rattle.mem_txn.specs.declared.look.Look.{Look}
+use Rattle.mem_txn.specs.declared.look.Look.TheVariants as look
+
+-- The watch is one of this caller's database: it was asked after some of the commits that the
+-- caller has seen, and its cell is the cell of its question after these.
+pub record IsHeldBy (p : Caller) (h : HeldWatch) : Type 0 where
+  pub seen : h.number ≤ length p.seen
+  pub looked : let J = cells_seen p in
+      let t = table_in p.schema (state_after J h.number) (trees_after J h.number) h.query.table in
+      IsLookedUp t h.query h.spot
+  pub cell : let spot = h.spot in cell_at (cells_seen p) h.query h.number ≡ Some spot.watch
+  pub book : let spot = h.spot in
+      let cell = spot.watch in
+      cell.book ≡ p.book
+
+-- the number of the commits that the caller now has seen is a count that it read in this call, the
+-- last
+pub record HasLooked (old new : Caller) (at : ℕ) : Type 0 where
+  pub number : at ≡ length new.seen
+  pub read : List ℕ
+  pub counts : new.counts ≡ old.counts ++ (read ++ at ∷ [])
+
+-- The watch's cell wasn't in a log that has all that the commits before the last one fire, and what
+-- the last one fires where that is the caller's own. So the question's answer has not changed up to
+-- the commit before the last, and up to the last where that is the caller's own.
+pub record IsQuiet (p : Caller) (h : HeldWatch) (at : ℕ) : Type 0 where
+  pub log : Log
+  pub quiet : let spot = h.spot in has_fired spot.watch log ≡ false
+  pub fired : HasFirings (cells_seen p) (at - 1) log
+  pub fired_own : IsMadeBy p.seen p.number at → HasFirings (cells_seen p) at log
+  pub unchanged : IsUnchanged p.schema p.seen p.number h.query h.number at
+
+-- The question has another cell after all commits. So one of the commits since the question was
+-- asked has fired the watch's cell.
+pub record IsFired (p : Caller) (h : HeldWatch) (at : ℕ) : Type 0 where
+  pub later : h.number < at
+  pub other : let spot = h.spot in cell_at (cells_seen p) h.query at ≡ Some spot.watch → ⊥
+  pub fired : let spot = h.spot in IsUnfired (cells_seen p) spot.watch h.number at → ⊥
+
+-- what a check tells of the commits that the caller now has seen
+abbrev pub Tells : Caller → HeldWatch → Look → Type 0
+Tells p h (look.Quiet at) = IsQuiet p h at
+Tells p h (look.Fired at) = IsFired p h at
+
+abbrev pub number_of : Look → ℕ
+number_of (look.Quiet at) = at
+number_of (look.Fired at) = at
+
+-- a check of a watch, which tells of all commits that the caller then has seen
+abbrev pub AnswersCheck : Caller → Caller → HeldWatch → Look → Type 0
+AnswersCheck old new h l = HasLooked old new (number_of l) × Tells new h l
+
+-- what holds of every caller: a watch that was held in the beginning of what it has seen is held
+abbrev pub HeldStays : Caller → Type 0
+HeldStays p = (old : Caller) (h : HeldWatch) → HasSeen old p → IsHeldBy old h → IsHeldBy p h
+
+-- one caller has seen a beginning of what another has seen, of the same database: as before a commit
+-- of its own
+pub record IsBeginning (old new : Caller) : Type 0 where
+  pub schema : new.schema ≡ old.schema
+  pub book : new.book ≡ old.book
+  pub seen : IsPrefix old.seen new.seen
+  pub trees : IsPrefix old.trees new.trees
+
+-- so is one that was held by any caller that had seen such a beginning
+abbrev pub HeldLonger : Caller → Type 0
+HeldLonger p = (old : Caller) (h : HeldWatch) → IsBeginning old p → IsHeldBy old h → IsHeldBy p h
+
+-- and a watch that was asked of what it has seen is held by it
+abbrev pub AskedIsHeld : Caller → Type 0
+AskedIsHeld p = (q : Query) (h : HeldWatch) → IsHeldOf (reading_of p) q h → IsHeldBy p h
