@@ -1,0 +1,98 @@
+-- A chain of quiet checks guards the answer of each watch in the history that the pass has seen at its end.
+use Rattle.std.proofs.Common.{◌≡◌, ◌∙◌, ◌+◌, ◌-◌, ◌<◌, ◌≤◌, ◌++◌, ℕ, zero, suc, List, [], ◌∷◌, length, slice_get, append_assoc, append-nil, length-append, refl, sym, ap, subst, arith}
+use Rattle.std.proofs.lemmas.List.{take-append-le}
+use mathlib.Core.List.{IsPrefix}
+use Rattle.mdb_schema.specs.Answer.{ask}
+use Rattle.mdb_schema.specs.Guarded.{IsGuarded}
+use Rattle.mdb_schema.specs.History.{History, IsMadeBy, after_commits, state_at}
+use Rattle.mdb_schema.specs.Query.{Query}
+use Rattle.mdb_schema.specs.Schema.{DbSchema}
+use Rattle.mdb_schema.specs.State.{State, empty_state}
+use Rattle.mem_txn.specs.Checked.{IsQuiet}
+use Rattle.mem_txn.specs.Database.{Caller, HasSeen}
+use Rattle.mem_txn.specs.Held.{HeldWatch}
+use Rattle.watch_set.specs.Checks.{AreQuiet}
+use Rattle.watch_set.specs.GuardedLooks.{AreGuarded, IsGuardedBy, QuietIsGuarded}
+
+-- ---- a longer history
+
+within-longer : {X : Type 0} (xs ys : List X) → IsPrefix xs ys → length xs ≤ length ys
+within-longer xs ys p = let all : length ys ≡ length xs + length p.0 = ap length (sym p.1) ∙ length-append xs p.0 in omega (arith, all)
+
+state-longer : (schema : DbSchema) (old new : History) (n : ℕ) → IsPrefix old new → n ≤ length old → state_at schema new n ≡ state_at schema old n
+state-longer schema old new n p few =
+    ap (λ (H : History). state_at schema H n) (sym p.1) ∙ ap (after_commits schema (empty_state schema)) (take-append-le n old p.0 few)
+
+item-there : {X : Type 0} (xs more : List X) (n : ℕ) → n < length xs → slice_get (xs ++ more) n ≡ slice_get xs n
+item-there [] more n within = absurd (omega arith)
+item-there (x ∷ xs) more zero within = refl
+item-there (x ∷ xs) more (suc n) within = item-there xs more n (omega arith)
+
+-- ---- the caller at the end of a chain
+
+-- it has seen as much or more, and is the same caller
+record Follows (old new : Caller) : Type 0 where
+  seen : IsPrefix old.seen new.seen
+  schema : new.schema ≡ old.schema
+  number : new.number ≡ old.number
+
+follows-itself : (p : Caller) → Follows p p
+follows-itself p = record { seen = ([], append-nil p.seen); schema = refl; number = refl }
+
+follows-on : (old mid new : Caller) → HasSeen old mid → Follows mid new → Follows old new
+follows-on old mid new first then = record {
+  seen = (first.seen.0 ++ then.seen.0, sym (append_assoc old.seen first.seen.0 then.seen.0) ∙ ap (λ (H : History). H ++ then.seen.0) first.seen.1 ∙ then.seen.1);
+  schema = then.schema ∙ ap (λ (p : Caller). p.schema) first.others;
+  number = then.number ∙ ap (λ (p : Caller). p.number) first.others;
+}
+
+chain-follows : (old new : Caller) (hs : List HeldWatch) → AreQuiet old hs new → Follows old new
+chain-follows old new [] same = subst (λ (p : Caller). Follows old p) (sym same) (follows-itself old)
+chain-follows old new (h ∷ hs) (next, at, told, rest) = follows-on old next new told.0 (chain-follows next new hs rest)
+
+-- ---- what one check says, at the end of a chain
+
+guarded-longer : (mid new : Caller) (q : Query) (v n : ℕ) → Follows mid new → n ≤ length mid.seen → IsGuarded mid.schema mid.seen q v n → IsGuarded new.schema new.seen q v n
+guarded-longer mid new q v n more within guarded j low high =
+    let there = state-longer mid.schema mid.seen new.seen j more.seen (omega arith) in
+    let first = state-longer mid.schema mid.seen new.seen v more.seen (omega arith) in
+    subst (λ (s : DbSchema). ask s (state_at s new.seen j) q ≡ ask s (state_at s new.seen v) q) (sym more.schema)
+    (ap (λ (s : State). ask mid.schema s q) there ∙ guarded j low high ∙ sym (ap (λ (s : State). ask mid.schema s q) first))
+
+own-before : (mid new : Caller) (at : ℕ) → Follows mid new → at ≡ length mid.seen → IsMadeBy new.seen new.number at → IsMadeBy mid.seen mid.number at
+own-before mid new at more last own =
+    let counted = own.0 in (
+      own.0,
+      own.1,
+      sym (item-there mid.seen more.seen.0 (at - 1) (omega arith)) ∙ ap (λ (H : History). slice_get H (at - 1)) more.seen.1 ∙ own.2,
+      own.3 ∙ more.number,
+    )
+
+one-guarded : (old mid new : Caller) (h : HeldWatch) (at : ℕ) → HasSeen old mid → at ≡ length mid.seen → IsQuiet mid h at → Follows mid new → IsGuardedBy old new h
+one-guarded old mid new h at seen last told more =
+    let before = within-longer old.seen mid.seen seen.seen in
+    let after = within-longer mid.seen new.seen more.seen in
+    record {
+      at = at;
+      later = omega arith;
+      seen = omega arith;
+      unchanged = record {
+        before_last = guarded-longer mid new h.query h.number (at - 1) more (omega arith) told.unchanged.before_last;
+        own = λ own. guarded-longer mid new h.query h.number at more (omega arith) (told.unchanged.own (own-before mid new at more last own));
+      };
+    }
+
+guarded-sooner : (old mid new : Caller) (hs : List HeldWatch) → length old.seen ≤ length mid.seen → AreGuarded mid new hs → AreGuarded old new hs
+guarded-sooner old mid new [] less all = tt
+guarded-sooner old mid new (h ∷ hs) less all =
+    let later = all.0.later in (
+      record { at = all.0.at; later = omega arith; seen = all.0.seen; unchanged = all.0.unchanged },
+      guarded-sooner old mid new hs less all.1,
+    )
+
+pub quiet_is_guarded : QuietIsGuarded
+quiet_is_guarded old new [] same = tt
+quiet_is_guarded old new (h ∷ hs) (next, at, told, rest) = (
+  one-guarded old next new h at told.0 told.1.0.number told.1.1 (chain-follows next new hs rest),
+  guarded-sooner old next new hs (within-longer old.seen next.seen told.0.seen) (quiet_is_guarded next new hs rest),
+)

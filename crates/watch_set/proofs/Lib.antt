@@ -1,0 +1,3 @@
+pub mod CellsDiffer
+pub mod ChecksInTurn
+pub mod GuardedChains

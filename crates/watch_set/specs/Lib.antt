@@ -1,0 +1,4 @@
+pub mod Checks
+pub mod GuardedLooks
+pub mod Members
+pub mod inner

@@ -1,0 +1,49 @@
+//! The members of a set.
+ghost use Rattle.std.specs.Prelude.{◌≡◌};
+ghost use Rattle.watch_set.specs.Members.{cell_name, has_cell, names_eq};
+
+use mdb_datum::Text;
+use mem_txn::Held;
+use std::marker::Model;
+
+/// A watch under its name.
+#[derive(Drop)]
+pub(crate) struct Member {
+    pub(crate) name: Text,
+    pub(crate) held: Held,
+}
+
+impl Model for Member {
+    ghost use Rattle.watch_set.specs.Members.{Member};
+    ghost use Rattle.watch_set.specs.inner.SetView.{member_code};
+
+    ghost Value = { Member };
+
+    ghost coded = { member_code };
+
+    ghost view = { λ m. record { name = m.name; held = m.held } };
+}
+
+impl Member {
+    /// Whether it watches the cell of this watch. Ids are compared first, since they differ mostly.
+    fn watches(&self, held: &Held) -> bool
+        ensures { let own = self.now.held in
+            result ≡ names_eq (cell_name own) (cell_name held.now) }
+    {
+        self.held.id() == held.id()
+            && self.held.index() == held.index()
+            && self.held.query().table().as_str() == held.query().table().as_str()
+    }
+}
+
+/// Whether one of these watches the cell of this watch.
+pub(crate) fn are_watching(members: &[Member], held: &Held) -> bool
+    ensures { result ≡ has_cell (cell_name held.now) members.now }
+{
+    for member in members {
+        if member.watches(held) {
+            return true;
+        }
+    }
+    false
+}

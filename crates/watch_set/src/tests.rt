@@ -1,0 +1,361 @@
+//! What no clause says: that each call succeeds while there is memory, by a worked row.
+ghost use Rattle.std.specs.Prelude.{◌≡◌, [], IfOk};
+ghost use Rattle.mem_txn.specs.Checked.{IsHeldBy};
+ghost use Rattle.mem_txn.specs.Database.{Caller, IsCaller, reading_of};
+ghost use Rattle.mem_txn.specs.Transactions.{changes_of};
+ghost use Rattle.watch_set.specs.Checks.{KeepsHeld};
+ghost use Rattle.watch_set.specs.Members.{AreHeldBy, watches_of};
+
+use crate::{WatchSet, Woken};
+use mdb_datum::{Datum, Row, Text, read_doc};
+use mdb_schema::{Ask, Query, Schema, read_schema};
+use mem_txn::pass_laws::asked_watches_are_held;
+use mem_txn::{BeginRefused, CommitRefused, Committed, Db, Held, Pass, Passes, ReadTxn, WriteTxn};
+use std::alloc::{AllocError, Global};
+use std::sync::Wait;
+use std::test::Fail;
+
+const SCHEMA: &str = r#"{"memdb":1,"tables":{
+    "notes":{"indexes":{"id":{"unique":true,"indexer":{"kind":"text","field":"name"}}}},
+    "users":{"indexes":{"age":{"indexer":{"kind":"uint","field":"age","width":2}},
+    "id":{"unique":true,"indexer":{"kind":"text","field":"name"}}}}}}"#;
+
+/// What is asked, of which table and index, with which arguments.
+type Asked = (Ask, (&'static str, &'static str), &'static str);
+
+const ANN: Asked = (Ask::First, ("users", "id"), r#"["ann"]"#);
+
+const WITH_B: Asked = (Ask::Get, ("users", "id_prefix"), r#"["b"]"#);
+
+const NOTES: Asked = (Ask::Get, ("notes", "id"), "[]");
+
+/// A row of a table.
+type Line = (&'static str, &'static str);
+
+const INSERT_ANN: Line = ("users", r#"{"name":"ann","age":1}"#);
+
+const INSERT_BOB: Line = ("users", r#"{"name":"bob","age":2}"#);
+
+const INSERT_NOTE: Line = ("notes", r#"{"name":"n"}"#);
+
+/// A call that found no memory, or another error.
+fn failed<T>() -> Result<T, Fail> {
+    Err(Fail::from("no memory"))
+}
+
+fn schema_of(alloc: Global) -> Result<Schema, Fail> {
+    match read_schema(alloc, SCHEMA.as_bytes()) {
+        Ok(schema) => Ok(schema),
+        Err(_) => failed(),
+    }
+}
+
+/// The row that a text is.
+fn row_of(alloc: Global, text: &str) -> Result<Row, AllocError> {
+    match read_doc(alloc, text.as_bytes()) {
+        Ok(Datum::Members(members)) => Row::of(alloc, members),
+        _ => Err(AllocError),
+    }
+}
+
+fn query_of(alloc: Global, asked: &Asked) -> Result<Query, Fail> {
+    let Datum::Items(args) = read_doc(alloc, asked.2.as_bytes())? else {
+        return failed();
+    };
+    let table = Text::of(alloc, asked.1.0)?;
+    let index = Text::of(alloc, asked.1.1)?;
+    Ok(Query::from_parts(alloc, asked.0, table, index, args)?)
+}
+
+/// A database of two callers, the list of its passes without them, and they.
+fn pair(alloc: Global) -> Result<(Db, Passes, Pass, Pass), Fail>
+    ensures one { IfOk result (λ made. IsCaller made.0 1 made.2) }
+    ensures two { IfOk result (λ made. IsCaller made.0 2 made.3) }
+    ensures both { IfOk result (λ made. made.0.callers ≡ 2) }
+    ensures rest { IfOk result (λ made. made.1 ≡ record { passes = []; made = 2 }) }
+{
+    let (db, mut passes) = Db::create(alloc, schema_of(alloc)?, 2)?;
+    match (passes.take(), passes.take()) {
+        (Some(one), Some(two)) => Ok((db, passes, one, two)),
+        _ => unreachable!(),
+    }
+}
+
+/// The last state, when both passes are back.
+fn closed<R: Wait>(rt: &R, db: Db, mut passes: Passes, one: Pass, two: Pass) -> ReadTxn
+    requires one { IsCaller db 1 one }
+    requires two { IsCaller db 2 two }
+    requires both { db.callers ≡ 2 }
+    requires rest { passes ≡ record { passes = []; made = 2 } }
+{
+    passes.give(one);
+    passes.give(two);
+    db.close(rt, passes)
+}
+
+fn insert_row(alloc: Global, txn: &mut WriteTxn<u8>, line: &Line) -> Result<(), AllocError>
+    ensures { (changes_of txn.new).caller ≡ (changes_of txn.old).caller }
+{
+    let row = row_of(alloc, line.1)?;
+    match txn.insert(line.0, &row) {
+        Ok(_) => Ok(()),
+        Err(_) => Err(AllocError),
+    }
+}
+
+/// Makes the insert of a row a commit of the second caller.
+fn insert<R: Wait>(
+    rt: &R,
+    alloc: Global,
+    db: &Db,
+    pass: Pass,
+    line: &Line,
+) -> (Pass, Result<(), AllocError>)
+    requires own { IsCaller db.now 2 pass }
+    ensures { IsCaller db.now 2 result.0 }
+{
+    let mut txn = match db.write(rt, pass) {
+        Ok(txn) => txn,
+        Err(BeginRefused { pass, cause: _ }) => return (pass, Err(AllocError)),
+    };
+    let done = insert_row(alloc, &mut txn, line);
+    if done.is_err() {
+        return (txn.abort(db), done);
+    }
+    match txn.commit(rt, db) {
+        Ok(Committed { pass, receipt: _ }) => (pass, Ok(())),
+        Err(CommitRefused { pass, cause: _ }) => (pass, Err(AllocError)),
+    }
+}
+
+/// The watch of a question in the state that a caller has read.
+fn watch_of(alloc: Global, pass: &Pass, read: &ReadTxn, asked: &Asked) -> Result<Held, Fail>
+    requires { read.now ≡ reading_of pass.now }
+    ensures { IfOk result (λ h. IsHeldBy pass.now h) }
+{
+    asked_watches_are_held(pass);
+    let query = query_of(alloc, asked)?;
+    let (_, held) = read.ask_watch(&query)?;
+    Ok(held)
+}
+
+/// Adds the watches of `s` and tells whether each call answers as it should: the first cell is
+/// added once, and the other while there is room or without a limit.
+fn are_added(alloc: Global, set: &mut WatchSet, ann: &Held, with_b: &Held) -> Result<bool, Fail>
+    ensures { (p : Caller) → AreHeldBy p (watches_of set.old) → IsHeldBy p ann.now
+        → IsHeldBy p with_b.now → AreHeldBy p (watches_of set.new) }
+{
+    let first = Text::of(alloc, "a")?;
+    let second = Text::of(alloc, "b")?;
+    let one = set.add_with_limit(1, &first, ann, &second, with_b)?;
+    let none = set.add_with_limit(1, &second, with_b, &first, ann)?;
+    let size = set.len();
+    let again = set.add(&first, ann)?;
+    let two = set.add(&second, with_b)?;
+    Ok(one && !none && size == 1 && !again && two && set.len() == 2)
+}
+
+/// Whether the member at a place has this name.
+fn is_named(set: &WatchSet, place: usize, expected: &str) -> bool {
+    match set.name(place) {
+        Some(name) => name.as_str() == expected,
+        None => false,
+    }
+}
+
+/// What a caller watches: the sets `s` and `t`, and what cancels.
+#[derive(Drop)]
+struct Watched {
+    s: WatchSet,
+    t: WatchSet,
+    notes: Held,
+}
+
+/// The set `s`.
+fn set_of_two(alloc: Global, ann: &Held, with_b: &Held) -> Result<WatchSet, Fail>
+    ensures { IfOk result (λ s. (p : Caller) → IsHeldBy p ann.now → IsHeldBy p with_b.now
+        → AreHeldBy p (watches_of s)) }
+{
+    let mut s = WatchSet::new(alloc);
+    let right = are_added(alloc, &mut s, ann, with_b)?;
+    if right && is_named(&s, 0, "a") && is_named(&s, 1, "b") && s.name(2).is_none() {
+        Ok(s)
+    } else {
+        Err(Fail::from("another set"))
+    }
+}
+
+/// The set `t`.
+fn set_of_one(alloc: Global, ann: &Held) -> Result<WatchSet, Fail>
+    ensures { IfOk result (λ t. (p : Caller) → IsHeldBy p ann.now → AreHeldBy p (watches_of t)) }
+{
+    let mut t = WatchSet::new(alloc);
+    t.add(&Text::of(alloc, "a")?, ann)?;
+    Ok(t)
+}
+
+/// What a caller watches in the state that it has read.
+fn all_watched(alloc: Global, pass: &Pass, read: &ReadTxn) -> Result<Watched, Fail>
+    requires { read.now ≡ reading_of pass.now }
+    ensures s { IfOk result (λ w. AreHeldBy pass.now (watches_of w.s)) }
+    ensures t { IfOk result (λ w. AreHeldBy pass.now (watches_of w.t)) }
+    ensures notes { IfOk result (λ w. IsHeldBy pass.now w.notes) }
+{
+    let ann = watch_of(alloc, pass, read, &ANN)?;
+    let with_b = watch_of(alloc, pass, read, &WITH_B)?;
+    let notes = watch_of(alloc, pass, read, &NOTES)?;
+    let s = set_of_two(alloc, &ann, &with_b)?;
+    let t = set_of_one(alloc, &ann)?;
+    Ok(Watched { s, t, notes })
+}
+
+/// The same in the state after all commits.
+fn watched_now<R: Wait>(rt: &R, alloc: Global, db: &Db, pass: &mut Pass) -> Result<Watched, Fail>
+    requires own { IsCaller db.now 1 pass.old }
+    ensures own { IsCaller db.now 1 pass.new }
+    ensures s { IfOk result (λ w. AreHeldBy pass.new (watches_of w.s)) }
+    ensures t { IfOk result (λ w. AreHeldBy pass.new (watches_of w.t)) }
+    ensures notes { IfOk result (λ w. IsHeldBy pass.new w.notes) }
+{
+    let read = db.read(rt, pass)?;
+    all_watched(alloc, pass, &read)
+}
+
+const FIRED: Woken = Woken::Fired { place: 1, at: 2 };
+
+/// Looks at a set and waits by it.
+fn look_and_wait<R: Wait>(
+    rt: &R,
+    db: &Db,
+    pass: &mut Pass,
+    set: &WatchSet,
+) -> Result<(Option<Woken>, Woken), AllocError>
+    requires own { IsCaller db.now 1 pass.old }
+    requires held { AreHeldBy pass.old (watches_of set.now) }
+    ensures own { IsCaller db.now 1 pass.new }
+    ensures keeps { KeepsHeld pass.old pass.new }
+{
+    let found = set.look_once(rt, db, pass, None)?;
+    if set.len() == 0 {
+        return Err(AllocError);
+    }
+    Ok((found, set.wait(rt, db, pass, None)?))
+}
+
+/// What a set has before and after the commit of a row.
+fn found_of_s<R: Wait>(
+    rt: &R,
+    alloc: Global,
+    db: &Db,
+    one: &mut Pass,
+    two: Pass,
+    set: &WatchSet,
+) -> (Pass, Result<bool, Fail>)
+    requires one { IsCaller db.now 1 one.old }
+    requires two { IsCaller db.now 2 two }
+    requires held { AreHeldBy one.old (watches_of set.now) }
+    ensures one { IsCaller db.now 1 one.new }
+    ensures two { IsCaller db.now 2 result.0 }
+    ensures keeps { KeepsHeld one.old one.new }
+{
+    let before = set.look_once(rt, db, one, None);
+    let (two, bob) = insert(rt, alloc, db, two, &INSERT_BOB);
+    if bob.is_err() {
+        return (two, failed());
+    }
+    let after = look_and_wait(rt, db, one, set);
+    (two, is_found(before, after))
+}
+
+/// Whether the first look finds nothing, and the others the second member.
+fn is_found(
+    before: Result<Option<Woken>, AllocError>,
+    after: Result<(Option<Woken>, Woken), AllocError>,
+) -> Result<bool, Fail> {
+    Ok(before?.is_none() && after? == (Some(FIRED), FIRED))
+}
+
+/// Whether a look at a set finds what cancels after the commit of a row.
+fn is_stopped<R: Wait>(
+    rt: &R,
+    alloc: Global,
+    db: &Db,
+    one: &mut Pass,
+    two: Pass,
+    watched: &Watched,
+) -> (Pass, Result<bool, Fail>)
+    requires one { IsCaller db.now 1 one.old }
+    requires two { IsCaller db.now 2 two }
+    requires held { let set = watched.now.t in AreHeldBy one.old (watches_of set) }
+    requires notes { IsHeldBy one.old watched.now.notes }
+    ensures one { IsCaller db.now 1 one.new }
+    ensures two { IsCaller db.now 2 result.0 }
+{
+    let (two, note) = insert(rt, alloc, db, two, &INSERT_NOTE);
+    if note.is_err() {
+        return (two, failed());
+    }
+    match watched.t.look_once(rt, db, one, Some(&watched.notes)) {
+        Ok(found) => (two, Ok(found == Some(Woken::Stopped { at: 3 }))),
+        Err(_) => (two, failed()),
+    }
+}
+
+/// Both, of what is watched after the first commit.
+#[tactic(auto, using(crate::proofs::ChecksInTurn::all_kept))]
+fn are_found<R: Wait>(
+    rt: &R,
+    alloc: Global,
+    db: &Db,
+    one: &mut Pass,
+    two: Pass,
+) -> (Pass, Result<bool, Fail>)
+    requires one { IsCaller db.now 1 one.old }
+    requires two { IsCaller db.now 2 two }
+    ensures one { IsCaller db.now 1 one.new }
+    ensures two { IsCaller db.now 2 result.0 }
+{
+    let watched = match watched_now(rt, alloc, db, one) {
+        Ok(watched) => watched,
+        Err(fail) => return (two, Err(fail)),
+    };
+    let (two, first) = found_of_s(rt, alloc, db, one, two, &watched.s);
+    match first {
+        Ok(true) => is_stopped(rt, alloc, db, one, two, &watched),
+        other => (two, other),
+    }
+}
+
+/// The same, behind the first commit.
+fn row_by_row<R: Wait>(
+    rt: &R,
+    alloc: Global,
+    db: &Db,
+    one: &mut Pass,
+    two: Pass,
+) -> (Pass, Result<bool, Fail>)
+    requires one { IsCaller db.now 1 one.old }
+    requires two { IsCaller db.now 2 two }
+    ensures one { IsCaller db.now 1 one.new }
+    ensures two { IsCaller db.now 2 result.0 }
+{
+    let (two, ann) = insert(rt, alloc, db, two, &INSERT_ANN);
+    match ann {
+        Ok(()) => are_found(rt, alloc, db, one, two),
+        Err(AllocError) => (two, failed()),
+    }
+}
+
+/// The same in a new database.
+fn is_right<R: Wait>(rt: &R, alloc: Global) -> Result<bool, Fail> {
+    let (db, passes, mut one, two) = pair(alloc)?;
+    let (two, told) = row_by_row(rt, alloc, &db, &mut one, two);
+    drop(closed(rt, db, passes, one, two));
+    told
+}
+
+#[test]
+fn a_set_is_woken_by_its_first_member_that_fired(rt: HostRuntime) -> Result<(), Fail> {
+    assert!(rt; is_right(&rt, rt.alloc())?);
+    Ok(())
+}
