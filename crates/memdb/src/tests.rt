@@ -1,7 +1,7 @@
 //! The top call over files and a sink in memory: worked sessions, each status with its text, and a
 //! failure at each call and each allocation.
 use super::*;
-use mdb_ports::{CallList, FileList, MemFiles, MemSink};
+use mdb_ports::{CallList, FileList, Gate, MemFiles, MemSink};
 use std::sync::Wait;
 use std::test::Fail;
 use std::thread::Threads;
@@ -94,14 +94,16 @@ const NO_UUID_OUT: &str = r#"client 1 c1
 "#;
 
 /// Words that are no command.
-const NO_COMMANDS: [&str; 5] = ["", "run S", "run S c1 -x", "run -x c1", "make 1 65 3"];
+static NO_COMMANDS: [&str; 5] = ["", "run S", "run S c1 -x", "run -x c1", "make 1 65 3"];
 
 const ENDS: &str = "client 1 c1\n1: write @0\n2: commit @1\n3: read @1\n";
 
 const NO_LINES: &str = "client 1 c1\n";
 
 /// A schema and a script, and the status and the text of their run.
-const CASES: [(&str, &str, u8, &str); 15] = [
+type Case = (&'static str, &'static str, u8, &'static str);
+
+static CASES: [Case; 15] = [
     (SCHEMA, ANN, 0, ANN_OUT),
     (DEFAULTS, ANN, 0, ANN_OUT),
     (SCHEMA, TWICE, 0, TWICE_OUT),
@@ -131,19 +133,21 @@ const CASES: [(&str, &str, u8, &str); 15] = [
 
 const KEPT_NAMES: &str = "client 1 c1\n1: write @0\n2: deferred\n3: snapshot @0+\n4: rows 0\n";
 
-/// Scripts, and whether one of their lines has one of the words of watches as its first.
-const WATCHES: [(&str, u8, &str); 11] = [
-    ("watch w first t id\n", 8, "not yet\n"),
-    ("watch w in s first t id\n", 8, "not yet\n"),
-    ("check w\n", 8, "not yet\n"),
-    ("add s w\n", 8, "not yet\n"),
-    ("add-limit s 1 v w\n", 8, "not yet\n"),
-    ("size s\n", 8, "not yet\n"),
-    ("wait s\n", 8, "not yet\n"),
-    ("wait s until w", 8, "not yet\n"),
-    ("write\ncommit\n\n\tcheck w\nread\n", 8, "not yet\n"),
-    ("#watch\n# wait s\n", 0, NO_LINES),
+/// Scripts, and what their run comes to where one of their lines has one of the words of watches as
+/// its first, and where none has.
+static WATCHES: [Case; 11] = [
+    (SCHEMA, "watch w first t id\n", 8, "not yet\n"),
+    (SCHEMA, "watch w in s first t id\n", 8, "not yet\n"),
+    (SCHEMA, "check w\n", 8, "not yet\n"),
+    (SCHEMA, "add s w\n", 8, "not yet\n"),
+    (SCHEMA, "add-limit s 1 v w\n", 8, "not yet\n"),
+    (SCHEMA, "size s\n", 8, "not yet\n"),
+    (SCHEMA, "wait s\n", 8, "not yet\n"),
+    (SCHEMA, "wait s until w", 8, "not yet\n"),
+    (SCHEMA, "write\ncommit\n\n\tcheck w\nread\n", 8, "not yet\n"),
+    (SCHEMA, "#watch\n# wait s\n", 0, NO_LINES),
     (
+        SCHEMA,
         "write\ndefer watch w\nsnapshot wait\nin wait get t id\n",
         0,
         KEPT_NAMES,
@@ -151,7 +155,7 @@ const WATCHES: [(&str, u8, &str); 11] = [
 ];
 
 /// A schema and a script of which the rule that is told is broken: the schema's comes first.
-const BROKEN: [(&str, &str, u8, &str); 11] = [
+static BROKEN: [Case; 11] = [
     (
         SCHEMA,
         "write\nwrites\n",
@@ -213,18 +217,20 @@ fn sink(alloc: Global, call: u64) -> Result<MemSink, AllocError> {
     MemSink::of(alloc, 4096, 7, failing(alloc, call)?)
 }
 
-/// Runs words over files. Gives the status and the sink.
-fn run_on<R: Threads + Wait + Sync>(
+/// Runs words over files, past a gate. Gives the status and the sink.
+fn run_on<R: Threads + Wait + Sync, G: Gate + Sync>(
     rt: &R,
     alloc: Global,
-    words: &[Text],
+    words: &str,
     files: MemFiles,
     out: MemSink,
-) -> (u8, MemSink) {
+    gate: &G,
+) -> Result<(u8, MemSink), AllocError> {
     let mut files = files;
     let mut out = out;
-    let status = run::run(rt, alloc, words, &mut files, &mut out, &OpenGate);
-    (status, out)
+    let words = parted(alloc, words)?;
+    let status = run::run(rt, alloc, &words, &mut files, &mut out, gate);
+    Ok((status, out))
 }
 
 /// Runs words over files, where a call of the files and one of the sink may fail. Gives the status
@@ -236,9 +242,8 @@ fn run_over<R: Threads + Wait + Sync>(
     files: FileList,
     calls: (u64, u64),
 ) -> Result<(u8, MemSink), AllocError> {
-    let words = parted(alloc, words)?;
     let files = MemFiles::of(files, failing(alloc, calls.0)?);
-    Ok(run_on(rt, alloc, &words, files, sink(alloc, calls.1)?))
+    run_on(rt, alloc, words, files, sink(alloc, calls.1)?, &OpenGate)
 }
 
 /// What was written under a status. Want of memory is an error.
@@ -249,7 +254,12 @@ fn written(status: u8, out: &MemSink) -> Result<&[u8], AllocError> {
     }
 }
 
-/// Whether that run ends with a status and a text.
+/// Whether a run ended with a status and a text.
+fn is_ended(ran: &(u8, MemSink), status: u8, text: &[u8]) -> Result<bool, AllocError> {
+    Ok(written(ran.0, &ran.1)? == text && ran.0 == status)
+}
+
+/// Whether the run of words over files ends with a status and a text.
 fn ends<R: Threads + Wait + Sync>(
     rt: &R,
     alloc: Global,
@@ -257,8 +267,8 @@ fn ends<R: Threads + Wait + Sync>(
     files: FileList,
     want: (u8, &str),
 ) -> Result<bool, AllocError> {
-    let (status, out) = run_over(rt, alloc, words, files, (0, 0))?;
-    Ok(written(status, &out)? == want.1.as_bytes() && status == want.0)
+    let ran = run_over(rt, alloc, words, files, (0, 0))?;
+    is_ended(&ran, want.0, want.1.as_bytes())
 }
 
 /// Whether the run of a schema and a script ends with a status and a text.
@@ -269,50 +279,82 @@ fn is_answered<R: Threads + Wait + Sync>(
     client: &str,
     want: (u8, &str),
 ) -> Result<bool, AllocError> {
-    ends(
-        rt,
-        alloc,
-        "run S c1",
-        two_files(alloc, schema, client)?,
-        want,
-    )
+    let files = two_files(alloc, schema, client)?;
+    ends(rt, alloc, "run S c1", files, want)
 }
 
-#[test]
-fn words_that_are_no_command_give_the_usage(rt: HostRuntime) -> Result<(), Fail> {
-    for words in &NO_COMMANDS {
-        let files = two_files(rt.alloc(), SCHEMA, ANN)?;
-        let holds = ends(&rt, rt.alloc(), words, files, (1, USAGE))?;
-        assert!(rt; holds, "{words}");
+/// How many cases are answered so before the first that isn't.
+fn count_answered<R: Threads + Wait + Sync>(
+    rt: &R,
+    alloc: Global,
+    cases: &[Case],
+) -> Result<usize, AllocError> {
+    for at in 0..cases.len() {
+        let case = &cases[at];
+        if !is_answered(rt, alloc, case.0, case.1, (case.2, case.3))? {
+            return Ok(at);
+        }
     }
-    Ok(())
+    Ok(cases.len())
 }
 
 #[test]
 fn a_schema_and_a_script_are_answered(rt: HostRuntime) -> Result<(), Fail> {
-    for (schema, client, status, out) in &CASES {
-        let holds = is_answered(&rt, rt.alloc(), schema, client, (*status, out))?;
-        assert!(rt; holds, "{out}");
-    }
+    let count = count_answered(&rt, rt.alloc(), &CASES)?;
+    assert!(rt; count == CASES.len(), "after {count}");
     Ok(())
 }
 
 #[test]
 fn lines_of_watches_are_not_yet_supported(rt: HostRuntime) -> Result<(), Fail> {
-    for (client, status, out) in &WATCHES {
-        let holds = is_answered(&rt, rt.alloc(), SCHEMA, client, (*status, out))?;
-        assert!(rt; holds, "{client}");
-    }
+    let count = count_answered(&rt, rt.alloc(), &WATCHES)?;
+    assert!(rt; count == WATCHES.len(), "after {count}");
     Ok(())
 }
 
 #[test]
 fn the_first_rule_that_is_broken_is_told(rt: HostRuntime) -> Result<(), Fail> {
-    for (schema, client, status, out) in &BROKEN {
-        let holds = is_answered(&rt, rt.alloc(), schema, client, (*status, out))?;
-        assert!(rt; holds, "{out}");
-    }
+    let count = count_answered(&rt, rt.alloc(), &BROKEN)?;
+    assert!(rt; count == BROKEN.len(), "after {count}");
     Ok(())
+}
+
+/// Whether words give the usage, beside lawful files.
+fn is_no_command<R: Threads + Wait + Sync>(
+    rt: &R,
+    alloc: Global,
+    words: &str,
+) -> Result<bool, AllocError> {
+    let files = two_files(alloc, SCHEMA, ANN)?;
+    ends(rt, alloc, words, files, (1, USAGE))
+}
+
+/// How many words give the usage before the first that don't.
+fn count_no_commands<R: Threads + Wait + Sync>(
+    rt: &R,
+    alloc: Global,
+    words: &[&str],
+) -> Result<usize, AllocError> {
+    for at in 0..words.len() {
+        if !is_no_command(rt, alloc, words[at])? {
+            return Ok(at);
+        }
+    }
+    Ok(words.len())
+}
+
+#[test]
+fn words_that_are_no_command_give_the_usage(rt: HostRuntime) -> Result<(), Fail> {
+    let count = count_no_commands(&rt, rt.alloc(), &NO_COMMANDS)?;
+    assert!(rt; count == NO_COMMANDS.len(), "after {count}");
+    Ok(())
+}
+
+/// The files `S` and `c1`, of which the second has these bytes.
+fn script_files(alloc: Global, script: &[u8]) -> Result<FileList, AllocError> {
+    let mut files = one_file(alloc, "S", SCHEMA)?;
+    files.push((Text::of(alloc, "c1")?, Vec::from_slice(alloc, script)?))?;
+    Ok(files)
 }
 
 /// Whether the run of a script of these bytes writes that it breaks a rule of no line.
@@ -322,39 +364,48 @@ fn is_broken<R: Threads + Wait + Sync>(
     script: &[u8],
     out: &str,
 ) -> Result<bool, AllocError> {
-    let mut files = one_file(alloc, "S", SCHEMA)?;
-    files.push((Text::of(alloc, "c1")?, Vec::from_slice(alloc, script)?))?;
+    let files = script_files(alloc, script)?;
     ends(rt, alloc, "run S c1", files, (3, out))
+}
+
+/// Whether a script of so many empty lines has too many of them.
+fn are_too_many_lines<R: Threads + Wait + Sync>(
+    rt: &R,
+    alloc: Global,
+    lines: usize,
+) -> Result<bool, AllocError> {
+    let lines = "\n".repeat(alloc, lines)?;
+    is_broken(rt, alloc, lines.as_bytes(), "script 1 too-many-lines\n")
 }
 
 #[test]
 fn a_rule_of_no_line_is_told_without_one(rt: HostRuntime) -> Result<(), Fail> {
-    let text = is_broken(&rt, rt.alloc(), b"read\n\xff", "script 1 not-text\n")?;
-    assert!(rt; text);
-    let lines = "\n".repeat(rt.alloc(), 100_001)?;
-    let few = is_broken(
-        &rt,
-        rt.alloc(),
-        lines.as_bytes(),
-        "script 1 too-many-lines\n",
-    )?;
-    assert!(rt; few);
+    assert!(rt; is_broken(&rt, rt.alloc(), b"read\n\xff", "script 1 not-text\n")?);
+    assert!(rt; are_too_many_lines(&rt, rt.alloc(), 100_001)?);
     Ok(())
+}
+
+/// Whether the run where only the file of this name is there tells that the other isn't.
+fn is_absent<R: Threads + Wait + Sync>(
+    rt: &R,
+    alloc: Global,
+    name: &str,
+    text: &str,
+    out: &str,
+) -> Result<bool, AllocError> {
+    let files = one_file(alloc, name, text)?;
+    ends(rt, alloc, "run S c1", files, (5, out))
 }
 
 #[test]
 fn an_absent_schema_is_told(rt: HostRuntime) -> Result<(), Fail> {
-    let files = one_file(rt.alloc(), "c1", ANN)?;
-    let holds = ends(&rt, rt.alloc(), "run S c1", files, (5, "cannot read S\n"))?;
-    assert!(rt; holds);
+    assert!(rt; is_absent(&rt, rt.alloc(), "c1", ANN, "cannot read S\n")?);
     Ok(())
 }
 
 #[test]
 fn an_absent_client_is_told(rt: HostRuntime) -> Result<(), Fail> {
-    let files = one_file(rt.alloc(), "S", "{}")?;
-    let holds = ends(&rt, rt.alloc(), "run S c1", files, (5, "cannot read c1\n"))?;
-    assert!(rt; holds);
+    assert!(rt; is_absent(&rt, rt.alloc(), "S", "{}", "cannot read c1\n")?);
     Ok(())
 }
 
@@ -364,23 +415,15 @@ fn run_ann<R: Threads + Wait + Sync>(
     alloc: Global,
     calls: (u64, u64),
 ) -> Result<(u8, MemSink), AllocError> {
-    run_over(rt, alloc, "run S c1", two_files(alloc, SCHEMA, ANN)?, calls)
+    let files = two_files(alloc, SCHEMA, ANN)?;
+    run_over(rt, alloc, "run S c1", files, calls)
 }
 
-/// Whether the run whose call of the files fails ends with a status and a text.
-fn is_told<R: Threads + Wait + Sync>(
-    rt: &R,
-    alloc: Global,
-    call: u64,
-    status: u8,
-    text: &str,
-) -> Result<bool, AllocError> {
-    let (found, out) = run_ann(rt, alloc, (call, 0))?;
-    Ok(written(found, &out)? == text.as_bytes() && found == status)
-}
+/// A call of the files that fails, and the status and the text of the run.
+type FileCall = (u64, u8, &'static str);
 
 /// Each file takes two calls: its bytes, and its end.
-const FILE_CALLS: [(u64, u8, &str); 5] = [
+static FILE_CALLS: [FileCall; 5] = [
     (1, 5, "cannot read S\n"),
     (2, 5, "cannot read S\n"),
     (3, 5, "cannot read c1\n"),
@@ -388,29 +431,61 @@ const FILE_CALLS: [(u64, u8, &str); 5] = [
     (5, 0, ANN_OUT),
 ];
 
+/// Whether the run whose call of the files fails ends so.
+fn is_told<R: Threads + Wait + Sync>(
+    rt: &R,
+    alloc: Global,
+    call: &FileCall,
+) -> Result<bool, AllocError> {
+    let ran = run_ann(rt, alloc, (call.0, 0))?;
+    is_ended(&ran, call.1, call.2.as_bytes())
+}
+
+/// How many calls are told so before the first that isn't.
+fn count_told<R: Threads + Wait + Sync>(
+    rt: &R,
+    alloc: Global,
+    calls: &[FileCall],
+) -> Result<usize, AllocError> {
+    for at in 0..calls.len() {
+        if !is_told(rt, alloc, &calls[at])? {
+            return Ok(at);
+        }
+    }
+    Ok(calls.len())
+}
+
 #[test]
 fn a_call_of_the_files_that_fails_is_told(rt: HostRuntime) -> Result<(), Fail> {
-    for (call, status, out) in &FILE_CALLS {
-        let holds = is_told(&rt, rt.alloc(), *call, *status, out)?;
-        assert!(rt; holds, "call {call}");
-    }
+    let count = count_told(&rt, rt.alloc(), &FILE_CALLS)?;
+    assert!(rt; count == FILE_CALLS.len(), "after {count}");
     Ok(())
 }
 
 /// Whether a run whose call of the sink fails after so many has written their pieces alone.
 fn is_cut<R: Threads + Wait + Sync>(rt: &R, alloc: Global, taken: u8) -> Result<bool, AllocError> {
-    let (status, out) = run_ann(rt, alloc, (0, u64::from(taken) + 1))?;
-    let held = usize::from(taken) * 7;
-    Ok(Some(written(status, &out)?) == ANN_OUT.as_bytes().get(..held) && status == 6)
+    let ran = run_ann(rt, alloc, (0, u64::from(taken) + 1))?;
+    match ANN_OUT.as_bytes().get(..usize::from(taken) * 7) {
+        Some(front) => is_ended(&ran, 6, front),
+        None => Ok(false),
+    }
+}
+
+/// After how many calls the run is cut so, up to the first after which it isn't.
+fn count_cut<R: Threads + Wait + Sync>(rt: &R, alloc: Global, calls: u8) -> Result<u8, AllocError> {
+    for taken in 0..calls {
+        if !is_cut(rt, alloc, taken)? {
+            return Ok(taken);
+        }
+    }
+    Ok(calls)
 }
 
 // The text of 98 bytes takes 14 calls.
 #[test]
 fn a_call_of_the_sink_that_fails_leaves_the_front(rt: HostRuntime) -> Result<(), Fail> {
-    for taken in 0..14 {
-        let holds = is_cut(&rt, rt.alloc(), taken)?;
-        assert!(rt; holds, "after {taken} calls");
-    }
+    let count = count_cut(&rt, rt.alloc(), 14)?;
+    assert!(rt; count == 14, "after {count}");
     Ok(())
 }
 
@@ -421,7 +496,20 @@ fn long_text(alloc: Global, bytes: usize) -> Result<String, AllocError> {
     Ok(text)
 }
 
-/// Whether the run over such a file, beside a schema, ends with a status and a text.
+/// The file of a name, and that of a schema.
+fn beside_schema(alloc: Global, name: &str, text: &str) -> Result<FileList, AllocError> {
+    let mut files = one_file(alloc, name, text)?;
+    list(alloc, &mut files, "S", SCHEMA)?;
+    Ok(files)
+}
+
+/// The files of such a text under a name, and of a schema.
+fn long_files(alloc: Global, name: &str, bytes: usize) -> Result<FileList, AllocError> {
+    let text = long_text(alloc, bytes)?;
+    beside_schema(alloc, name, &text)
+}
+
+/// Whether the run over these files ends with a status and a text.
 fn is_long<R: Threads + Wait + Sync>(
     rt: &R,
     alloc: Global,
@@ -429,42 +517,42 @@ fn is_long<R: Threads + Wait + Sync>(
     bytes: usize,
     want: (u8, &str),
 ) -> Result<bool, AllocError> {
-    let mut files = one_file(alloc, name, &long_text(alloc, bytes)?)?;
-    list(alloc, &mut files, "S", SCHEMA)?;
+    let files = long_files(alloc, name, bytes)?;
     ends(rt, alloc, "run S c1", files, want)
 }
 
 #[test]
 fn a_client_past_the_limit_is_told(rt: HostRuntime) -> Result<(), Fail> {
-    let at = is_long(&rt, rt.alloc(), "c1", 948_577, (0, NO_LINES))?;
-    assert!(rt; at);
-    let past = is_long(&rt, rt.alloc(), "c1", 948_578, (7, "too large c1\n"))?;
-    assert!(rt; past);
+    assert!(rt; is_long(&rt, rt.alloc(), "c1", 948_577, (0, NO_LINES))?);
+    assert!(rt; is_long(&rt, rt.alloc(), "c1", 948_578, (7, "too large c1\n"))?);
     Ok(())
 }
 
 #[test]
 fn a_schema_past_the_limit_is_told(rt: HostRuntime) -> Result<(), Fail> {
-    let past = is_long(&rt, rt.alloc(), "S", 948_578, (7, "too large S\n"))?;
-    assert!(rt; past);
+    assert!(rt; is_long(&rt, rt.alloc(), "S", 948_578, (7, "too large S\n"))?);
     Ok(())
 }
 
-/// Whether a run writes nothing under status 4, or else all of its text under 0.
+/// Whether a run wrote nothing under status 4, or else one of these texts under 0.
+fn wrote_all_or_nothing(ran: &(u8, MemSink), texts: &[&str]) -> bool {
+    let bytes = ran.1.bytes();
+    match ran.0 {
+        0 => texts.iter().any(|text| text.as_bytes() == bytes),
+        4 => bytes.is_empty(),
+        _ => false,
+    }
+}
+
+/// Whether that is so of the run of one row.
 fn is_all_or_nothing<R: Threads + Wait + Sync>(rt: &R, alloc: Global) -> Result<bool, AllocError> {
-    let (status, out) = run_ann(rt, alloc, (0, 0))?;
-    let wanted: (u8, &[u8]) = if status == 4 {
-        (4, b"")
-    } else {
-        (0, ANN_OUT.as_bytes())
-    };
-    Ok((status, out.bytes()) == wanted)
+    let ran = run_ann(rt, alloc, (0, 0))?;
+    Ok(wrote_all_or_nothing(&ran, &[ANN_OUT]))
 }
 
 // With an allocation that is refused the status is 4 and nothing is written, and else it is 0.
 #[test]
 fn a_run_that_wants_memory_writes_nothing(rt: HostRuntime) -> Result<(), Fail> {
-    let holds = is_all_or_nothing(&rt, rt.alloc())?;
-    assert!(rt; holds);
+    assert!(rt; is_all_or_nothing(&rt, rt.alloc())?);
     Ok(())
 }

@@ -1,7 +1,6 @@
 //! Two clients whose lines wait for each other's, so that they can't be carried out one after the
 //! other.
-use super::{list, parted, two_files, written};
-use crate::run;
+use super::{is_ended, list, run_on, two_files};
 use mdb_ports::{CallList, Hold, HoldGate, MemFiles, MemSink};
 use std::alloc::{AllocError, Global};
 use std::sync::Wait;
@@ -36,23 +35,43 @@ fn crossed() -> HoldGate {
     HoldGate::new(reader, writer)
 }
 
-/// Whether a read transaction answers from the commit on which it began, though another is made in
-/// its midst; and no line has waited in vain.
-fn is_told<R: Threads + Wait + Sync>(rt: &R, alloc: Global) -> Result<bool, AllocError> {
+/// The files `S`, `c1` and `c2`.
+fn crossed_files(alloc: Global) -> Result<MemFiles, AllocError> {
     let mut files = two_files(alloc, USERS, READER)?;
     list(alloc, &mut files, "c2", WRITER)?;
-    let words = parted(alloc, "run S c1 c2")?;
-    let mut files = MemFiles::of(files, CallList::new(alloc));
-    let mut out = MemSink::of(alloc, 4096, 4096, CallList::new(alloc))?;
+    Ok(MemFiles::of(files, CallList::new(alloc)))
+}
+
+/// Runs both clients past a gate. Gives the status and the sink.
+fn run_crossed<R: Threads + Wait + Sync>(
+    rt: &R,
+    alloc: Global,
+    gate: &HoldGate,
+) -> Result<(u8, MemSink), AllocError> {
+    let out = MemSink::of(alloc, 4096, 4096, CallList::new(alloc))?;
+    run_on(rt, alloc, "run S c1 c2", crossed_files(alloc)?, out, gate)
+}
+
+/// Whether a read transaction answers from the commit on which it began, though another is made in
+/// its midst.
+fn is_told<R: Threads + Wait + Sync>(
+    rt: &R,
+    alloc: Global,
+    gate: &HoldGate,
+) -> Result<bool, AllocError> {
+    let ran = run_crossed(rt, alloc, gate)?;
+    is_ended(&ran, 0, TOLD.as_bytes())
+}
+
+/// Whether that is so, and no line has waited in vain.
+fn is_told_in_time<R: Threads + Wait + Sync>(rt: &R, alloc: Global) -> Result<bool, AllocError> {
     let gate = crossed();
-    let status = run::run(rt, alloc, &words, &mut files, &mut out, &gate);
-    let text = written(status, &out)?;
-    Ok(status == 0 && text == TOLD.as_bytes() && !gate.expired())
+    let told = is_told(rt, alloc, &gate)?;
+    Ok(told && !gate.expired())
 }
 
 #[test]
 fn a_reader_and_a_writer_wait_for_each_other(rt: HostRuntime) -> Result<(), Fail> {
-    let holds = is_told(&rt, rt.alloc())?;
-    assert!(rt; holds);
+    assert!(rt; is_told_in_time(&rt, rt.alloc())?);
     Ok(())
 }
