@@ -16,9 +16,9 @@ use watch_word::Front;
 
 impl Db {
     /// Looks whether a watch's cell has fired, after all commits that there are, which the pass then
-    /// has seen. `Quiet` comes only where it had not fired, and `Fired` only where it had and the
-    /// question now has another cell. A cell that a later commit has fired meanwhile is looked at
-    /// again, so the call may wait for that commit.
+    /// has seen. `Quiet` comes only where no commit up to the one before the last has fired it, nor
+    /// the last where that is the caller's own. `Fired` comes only where the question now has
+    /// another cell. Where a commit that wasn't shown yet has fired the cell, the call looks again.
     ///
     /// It is refused only for want of room to count one more owner of the state; the pass may have
     /// seen more by then.

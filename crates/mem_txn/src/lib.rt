@@ -14,8 +14,8 @@
 //! A commit shows its value, and then fires the cells that are gone from the trees. A question of a
 //! read transaction may be asked with the watch of its answer ([`ReadTxn::ask_watch`]). The log
 //! that a commit gives has the cell of each watched question whose answer has changed; what no
-//! commit fires guards its answer ([`pass_laws`]). [`Db::check`] looks once whether a held watch
-//! has fired, and tells the number up to which it is quiet or at which it fired.
+//! commit fires guards its answer ([`pass_laws`]). [`Db::check`] tells whether a held watch is
+//! quiet after all commits that there are, or its question has another cell.
 //!
 //! All commits are one list, of which each pass has seen a beginning, as `db_front` has it. What
 //! the clauses say of a pass stands in `specs/Database.antt`, and of a transaction in

@@ -14,7 +14,7 @@ pub fn watches_hold(pass: &Pass)
     let _ = pass.token.number();
 }
 
-/// Each of them keeps the cells that its writes don't touch.
+/// Each commit that a pass has seen keeps the cells that its writes don't touch.
 pub fn untouched_is_kept(pass: &Pass)
     ensures { KeepUntouched (cells_seen pass.now) }
 {
@@ -28,21 +28,22 @@ pub fn cells_stay_away(pass: &Pass)
     let _ = pass.token.number();
 }
 
-/// It has seen the trees at the opening and after each commit.
+/// A pass has seen the trees at the opening and after each commit that it has seen.
 pub fn trees_are_complete(pass: &Pass)
     ensures { AreComplete (cells_seen pass.now) }
 {
     let _ = pass.token.number();
 }
 
-/// A watch that was held by a pass that had seen less is held by this one.
+/// A watch that a pass held when it had seen less is held by it now.
 pub fn held_watches_stay(pass: &Pass)
     ensures { HeldStays pass.now }
 {
     let _ = pass.token.number();
 }
 
-/// So is one that was held before commits of the pass itself.
+/// A watch that some pass of the database held, when it had seen a beginning of what this pass has
+/// seen, is held by this one. So it outlasts the pass's own commits.
 pub fn held_watches_outlast_commits(pass: &Pass)
     ensures { HeldLonger pass.now }
 {

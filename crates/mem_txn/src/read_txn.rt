@@ -75,9 +75,8 @@ impl ReadTxn {
 
     /// What [`ReadTxn::ask`] answers, with the watch of the answer. Questions for bounds, or for
     /// the longest key, are refused before any other rule but that the table isn't there. It takes
-    /// memory as [`ReadTxn::ask`]
-    /// does, and may be refused as for want of memory where the cell or the question has 2^63 - 1
-    /// owners.
+    /// memory as [`ReadTxn::ask`] does, and for the watch. It may be refused as for want of memory
+    /// where the cell or the question has 2^63 - 1 owners.
     pub fn ask_watch(&self, query: &Query) -> Result<(Answer, Held), AskError>
         ensures answers { let told = ask self.now.view.schema self.now.view.state query.now in
             AnswersHeld (tells_own told (is_watchable query.now.ask)) told result }

@@ -1,5 +1,5 @@
 -- Checks of the members of a set in turn: one more check, and what the pass has then.
-use Rattle.std.proofs.Common.{◌≡◌, ◌∙◌, ◌+◌, ◌<◌, ◌++◌, ℕ, zero, suc, List, [], ◌∷◌, take, get_or, length, Option, Some, None, slice_get, Result, Ok, Err, IfOk, ◌⊎◌, inl, inr, refl, sym, ap, subst, add-one, arith}
+use Rattle.std.proofs.Common.{◌≡◌, ◌∙◌, ◌+◌, ◌<◌, ◌++◌, ℕ, zero, suc, List, [], ◌∷◌, take, get_or, length, Option, Some, None, slice_get, Result, Ok, Err, IfOk, OnErr, ◌⊎◌, inl, inr, refl, sym, ap, subst, add-one, arith}
 use Rattle.mem_txn.specs.Checked.{IsHeldBy}
 use Rattle.mem_txn.specs.Database.{Caller, Database, HasSeen, IsOf}
 use Rattle.mem_txn.specs.Held.{HeldWatch}
@@ -99,6 +99,23 @@ pub checked_members : (old new : Caller) (ms : List Member) (until : Option Held
 checked_members old new [] until some seen = absurd (omega arith)
 checked_members old new (x ∷ xs) None some seen = seen
 checked_members old new (x ∷ xs) (Some h) some seen = seen
+
+-- what was checked is there
+pub some_members : (ms : List Member) (until : Option HeldWatch) → 0 < length ms → 0 < length (with_until (watches_of ms) until)
+some_members [] until some = absurd (omega arith)
+some_members (x ∷ xs) None some = omega arith
+some_members (x ∷ xs) (Some h) some = omega arith
+
+pub where_err : {X E P : Type 0} (r : Result X E) → P → OnErr r P
+where_err (Ok x) p = tt
+where_err (Err e) p = p
+
+pub some_until : {E : Type 0} (ms : List Member) (until : Option HeldWatch) (r : Result (Option Woken) E)
+    → OnErr r (0 < length (with_until [] until)) → OnErr r (0 < length (with_until (watches_of ms) until))
+some_until ms until (Ok w) some = tt
+some_until ms None (Err e) some = absurd (omega (arith, some))
+some_until [] (Some h) (Err e) some = some
+some_until (x ∷ xs) (Some h) (Err e) some = omega arith
 
 -- ---- looks, one after the other
 

@@ -49,7 +49,8 @@ AreQuietLooks zero old hs new = new ≡ old
 AreQuietLooks (suc looks) old hs new =
     (mid : Caller) × AreQuietLooks looks old hs mid × AreQuiet mid hs new
 
--- a wait is some looks that found nothing, and one that didn't
+-- A wait is some looks that found nothing, and one that didn't. A check may look more than once,
+-- so how many looks there were can't be told from the counts.
 abbrev pub AnswersWait : Caller → Caller → List Member → Option HeldWatch → Woken → Type 0
 AnswersWait old new ms until w =
     (looks : ℕ) × (last : Caller)

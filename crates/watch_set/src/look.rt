@@ -61,6 +61,7 @@ pub(crate) fn look_until<R: Wait>(
     requires until { IfSome until (λ h. IsHeldBy pass.old h.now) }
     ensures look { IfOk result (λ w.
         AnswersLook pass.old pass.new [] (option_copied until.entry) w) }
+    ensures some { OnErr result (0 < length (with_until [] (option_copied until.entry))) }
     ensures seen { HasChecked pass.old pass.new (with_until [] (option_copied until.entry)) }
     ensures keeps { KeepsHeld pass.old pass.new }
     ensures others { OnlyLooks pass.old pass.new }

@@ -1,5 +1,5 @@
 //! Sets of watches.
-ghost use Rattle.std.specs.Prelude.{◌≡◌, ◌<◌, [], IfOk, IfSome, OnErr, OnOk, length, not, option_copied, option_map, slice_get};
+ghost use Rattle.std.specs.Prelude.{◌≡◌, ◌<◌, [], IfOk, IfSome, OnErr, OnOk, false, length, not, option_copied, option_map, slice_get};
 ghost use Rattle.mem_txn.specs.Checked.{IsHeldBy};
 ghost use Rattle.mem_txn.specs.Database.{Caller, HasSeen, IsOf};
 ghost use Rattle.watch_set.specs.Checks.{AnswersLook, AnswersWait, HasChecked, KeepsHeld, OnlyLooks, with_until};
@@ -70,6 +70,7 @@ impl WatchSet {
         ensures added { IfOk result (λ b. b ≡ not (has_cell (cell_name held.now) self.old)) }
         ensures set { OnOk result (self.new ≡ with_watch name.now held.now self.old) }
         ensures kept { OnErr result (self.new ≡ self.old) }
+        ensures lacks { OnErr result (has_cell (cell_name held.now) self.old ≡ false) }
         ensures held { (p : Caller) → AreHeldBy p (watches_of self.old) → IsHeldBy p held.now
             → AreHeldBy p (watches_of self.new) }
     {
@@ -99,6 +100,9 @@ impl WatchSet {
             (record { name = other.now; held = alternative.now }) in
             OnOk result (self.new ≡ with_watch m.name m.held self.old) }
         ensures kept { OnErr result (self.new ≡ self.old) }
+        ensures lacks { let m = chosen limit self.old (record { name = name.now; held = held.now })
+            (record { name = other.now; held = alternative.now }) in
+            OnErr result (has_cell (cell_name m.held) self.old ≡ false) }
         ensures held { (p : Caller) → AreHeldBy p (watches_of self.old) → IsHeldBy p held.now
             → IsHeldBy p alternative.now → AreHeldBy p (watches_of self.new) }
     {
@@ -125,6 +129,8 @@ impl WatchSet {
         requires until { IfSome until (λ h. IsHeldBy pass.old h.now) }
         ensures look { IfOk result (λ w.
             AnswersLook pass.old pass.new self.now (option_copied until.entry) w) }
+        ensures some { OnErr result
+            (0 < length (with_until (watches_of self.now) (option_copied until.entry))) }
         ensures keeps { KeepsHeld pass.old pass.new }
         ensures held { AreHeldBy pass.new (watches_of self.now) }
         ensures seen { HasChecked pass.old pass.new
@@ -137,7 +143,8 @@ impl WatchSet {
         }
     }
 
-    /// Looks again and again, until a member has fired or what cancels has. It may wait for ever.
+    /// Looks again and again, until a member has fired or what cancels has. It may wait for ever,
+    /// and uses its processor meanwhile. It is refused as a look is.
     pub fn wait<R: Wait>(
         &self,
         rt: &R,
