@@ -1,31 +1,35 @@
 //! What no clause says: that each call succeeds while there is memory.
 ghost use Rattle.std.specs.Prelude.{◌≡◌, [], IfOk};
-ghost use Rattle.mem_txn.specs.Database.{IsCaller};
+ghost use Rattle.mem_txn.specs.Checked.{IsBeginning};
+ghost use Rattle.mem_txn.specs.Database.{IsCaller, IsOf};
+ghost use Rattle.mem_txn.specs.Transactions.{changes_of};
 
 mod callers;
-mod checks;
 mod deferred;
 mod drawn;
-mod mixed;
-mod reads;
+mod long_run;
 mod threads;
-mod watch_run;
 mod watches;
 mod without_memory;
 mod worked;
 
-use crate::{Db, Pass, Passes, ReadTxn};
+use crate::{CommitRefused, Committed, Db, Pass, Passes, ReadTxn, Receipt, WriteTxn};
 use mdb_datum::{Datum, Items, Row, Text, read_doc};
-use mdb_schema::{Answer, Ask, AskError, Query, Rows, Schema, read_schema};
+use mdb_schema::{Answer, Ask, Query, Rows, Schema, read_schema};
 use std::alloc::{AllocError, Global};
 use std::sync::Wait;
 
-const SCHEMA: &str = r#"{"memdb":1,"tables":{
+static SCHEMA: &str = r#"{"memdb":1,"tables":{
     "notes":{"indexes":{"id":{"unique":true,"indexer":{"kind":"text","field":"name"}}}},
     "users":{"indexes":{"age":{"indexer":{"kind":"uint","field":"age","width":2}},
     "id":{"unique":true,"indexer":{"kind":"text","field":"name"}},
     "mail":{"unique":true,"allow_missing":true,"indexer":{"kind":"text","field":"mail"}},
     "tags":{"allow_missing":true,"indexer":{"kind":"text_list","field":"tags"}}}}}}"#;
+
+/// Whether what was done is right.
+type Told = Result<bool, AllocError>;
+
+type Txn = WriteTxn<u8>;
 
 /// The schema of two tables.
 fn schema_of(alloc: Global) -> Result<Schema, AllocError> {
@@ -56,6 +60,24 @@ fn closed<R: Wait>(rt: &R, db: Db, mut passes: Passes, pass: Pass) -> ReadTxn
 {
     passes.give(pass);
     db.close(rt, passes)
+}
+
+/// The receipt of a transaction's commit.
+fn committed<D: Drop, R: Wait>(
+    rt: &R,
+    db: &Db,
+    txn: WriteTxn<D>,
+) -> (Pass, Result<Receipt<D>, AllocError>)
+    requires own { IsOf db.now (changes_of txn).caller }
+    ensures own { IsCaller db.now (changes_of txn).caller.number result.0 }
+    ensures more { IsBeginning (changes_of txn).caller result.0 }
+    ensures book { let pass = result.0 in
+        IfOk result.1 (λ r. let log = r.log in log.book ≡ pass.book) }
+{
+    match txn.commit(rt, db) {
+        Ok(Committed { pass, receipt }) => (pass, Ok(receipt)),
+        Err(CommitRefused { pass, cause: _ }) => (pass, Err(AllocError)),
+    }
 }
 
 /// The row that a text is. Another text counts as want of memory, which ends a test.
@@ -109,7 +131,7 @@ fn is_text(bytes: Vec<u8>, expected: &str) -> bool {
 }
 
 /// Whether an answer is the rows of these lines, or this row.
-fn is_told(alloc: Global, answer: &Answer, expected: &str) -> Result<bool, AllocError> {
+fn is_told(alloc: Global, answer: &Answer, expected: &str) -> Told {
     match answer {
         Answer::Many(rows) => Ok(is_text(lines_of(alloc, rows)?, expected)),
         Answer::One(Some(row)) => Ok(is_text(row.doc()?, expected)),

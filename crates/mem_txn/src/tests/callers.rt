@@ -3,10 +3,8 @@ ghost use Rattle.std.specs.Prelude.{◌≡◌, [], IfOk, Some};
 ghost use Rattle.mem_txn.specs.Database.{Caller, IsCaller, IsOf};
 ghost use Rattle.mem_txn.specs.Transactions.{changes_of};
 
-use super::schema_of;
-use crate::{
-    BeginRefused, CommitRefused, Committed, Db, Pass, Passes, ReadTxn, Snapshot, Tried, WriteTxn,
-};
+use super::{Told, Txn, committed, schema_of};
+use crate::{BeginRefused, Db, Pass, Passes, ReadTxn, Snapshot, Tried};
 use mdb_datum::{Datum, Row};
 use mdb_schema::{Answer, Ask, Rows};
 use std::alloc::{AllocError, Global};
@@ -40,47 +38,23 @@ pub(super) fn closed<R: Wait>(rt: &R, db: Db, mut passes: Passes, one: Pass, two
     db.close(rt, passes)
 }
 
-/// Adds the last two digits of a number.
-fn push_digits(text: &mut String, number: u64) -> Result<(), AllocError> {
-    text.push(DIGITS[(number / 10 % 10) as usize])?;
-    text.push(DIGITS[(number % 10) as usize])?;
-    Ok(())
-}
-
-const DIGITS: [char; 10] = ['0', '1', '2', '3', '4', '5', '6', '7', '8', '9'];
-
-/// The name of a caller's commit: its letter and two digits.
+/// The name of a caller's commit: its letter and a number.
 fn name_of(alloc: Global, letter: char, own: u64) -> Result<String, AllocError> {
-    let mut text = String::new(alloc);
-    text.push(letter)?;
-    push_digits(&mut text, own)?;
-    Ok(text)
+    format!(in alloc; "{letter}{own}")
 }
 
-/// The row of a caller's commit, whose age is the number of commits before it and 1000.
-fn row_of(alloc: Global, letter: char, own: u64, before: u64) -> Result<Row, AllocError> {
-    let text = text_of(alloc, letter, own, before)?;
-    super::row_of(alloc, &text)
-}
-
-/// The text of that row.
+/// The text of the row of a caller's commit, whose age is the number of commits before it.
 fn text_of(alloc: Global, letter: char, own: u64, before: u64) -> Result<String, AllocError> {
-    let mut text = String::from_str(alloc, "{\"age\":10")?;
-    push_digits(&mut text, before)?;
-    text.push_str(",\"name\":\"")?;
-    text.push(letter)?;
-    push_digits(&mut text, own)?;
-    text.push_str("\"}")?;
-    Ok(text)
+    format!(in alloc; "{{\"age\":{before},\"name\":\"{letter}{own}\"}}")
+}
+
+/// That row.
+fn row_of(alloc: Global, letter: char, own: u64, before: u64) -> Result<Row, AllocError> {
+    super::row_of(alloc, &text_of(alloc, letter, own, before)?)
 }
 
 /// Inserts the row of a caller's commit.
-fn insert_own(
-    alloc: Global,
-    txn: &mut WriteTxn<u8>,
-    letter: char,
-    own: u64,
-) -> Result<(), AllocError>
+fn insert_own(alloc: Global, txn: &mut Txn, letter: char, own: u64) -> Result<(), AllocError>
     ensures { (changes_of txn.new).caller ≡ (changes_of txn.old).caller }
 {
     let row = row_of(alloc, letter, own, txn.number())?;
@@ -111,10 +85,8 @@ fn one_txn<R: Wait>(
     if done.is_err() || !commits {
         return (txn.abort(db), done);
     }
-    match txn.commit(rt, db) {
-        Ok(Committed { pass, receipt: _ }) => (pass, Ok(())),
-        Err(CommitRefused { pass, cause: _ }) => (pass, Err(AllocError)),
-    }
+    let (pass, receipt) = committed(rt, db, txn);
+    (pass, receipt.and(Ok(())))
 }
 
 /// Transactions of a caller, one after the other.
@@ -165,13 +137,13 @@ pub(super) fn some_borrowed<R: Wait>(
 }
 
 /// Whether a row has the next name of a caller.
-fn is_next(alloc: Global, row: &Row, letter: char, own: u64) -> Result<bool, AllocError> {
+fn is_next(alloc: Global, row: &Row, letter: char, own: u64) -> Told {
     let name = name_of(alloc, letter, own)?;
     Ok(matches!(row.get("name"), Some(Datum::Str(text)) if text.as_str() == name.as_str()))
 }
 
 /// Counts a row of the caller whose next name it has, if any.
-fn count_one(alloc: Global, row: &Row, counts: &mut (u64, u64)) -> Result<bool, AllocError> {
+fn count_one(alloc: Global, row: &Row, counts: &mut (u64, u64)) -> Told {
     if is_next(alloc, row, 'a', counts.0)? {
         counts.0 = counts.0.saturating_add(1);
     } else if is_next(alloc, row, 'b', counts.1)? {
@@ -195,11 +167,7 @@ fn in_order(alloc: Global, rows: &Rows) -> Result<Option<(u64, u64)>, AllocError
 }
 
 /// The users of a state, by age.
-pub(super) fn are_in_order(
-    alloc: Global,
-    read: &ReadTxn,
-    counts: (u64, u64),
-) -> Result<bool, AllocError> {
+pub(super) fn are_in_order(alloc: Global, read: &ReadTxn, counts: (u64, u64)) -> Told {
     let query = super::query_of(alloc, Ask::Get, ("users", "age"), "[]")?;
     match read.ask(&query) {
         Ok(Answer::Many(rows)) => Ok(in_order(alloc, &rows)? == Some(counts)),
@@ -208,47 +176,8 @@ pub(super) fn are_in_order(
     }
 }
 
-/// Fifty commits of each caller, and fifty transactions of the first that abort.
-fn turns<R: Wait>(
-    rt: &R,
-    alloc: Global,
-    db: &Db,
-    one: Pass,
-    two: Pass,
-) -> (Pass, Pass, Result<(), AllocError>)
-    requires one { IsCaller db.now 1 one }
-    requires two { IsCaller db.now 2 two }
-    ensures one { IsCaller db.now 1 result.0 }
-    ensures two { IsCaller db.now 2 result.1 }
-{
-    let (one, first) = some_txns(rt, alloc, db, one, 'a', 50, true);
-    let (two, second) = some_txns(rt, alloc, db, two, 'b', 50, true);
-    let (one, aborted) = some_txns(rt, alloc, db, one, 'a', 50, false);
-    (one, two, first.and(second).and(aborted))
-}
-
-/// The last state after them.
-fn after_turns<R: Wait>(rt: &R, alloc: Global) -> Result<ReadTxn, AllocError> {
-    let (db, passes, one, two) = pair(alloc)?;
-    let (one, two, done) = turns(rt, alloc, &db, one, two);
-    let last = closed(rt, db, passes, one, two);
-    done.and(Ok(last))
-}
-
-/// Whether both callers' commits in turn are all there, each caller's in order.
-fn are_made<R: Wait>(rt: &R, alloc: Global) -> Result<bool, AllocError> {
-    let last = after_turns(rt, alloc)?;
-    Ok(last.number() == 100 && are_in_order(alloc, &last, (50, 50))?)
-}
-
-#[test]
-fn two_callers_make_fifty_commits_each(rt: HostRuntime) -> Result<(), Fail> {
-    assert!(rt; are_made(&rt, rt.alloc())?);
-    Ok(())
-}
-
 /// Whether a try of a caller finds another's transaction open.
-fn is_taken<R: Wait>(rt: &R, db: &Db, pass: Pass) -> (Pass, Result<bool, AllocError>)
+fn is_taken<R: Wait>(rt: &R, db: &Db, pass: Pass) -> (Pass, Told)
     requires own { IsOf db.now pass }
     ensures { IsCaller db.now pass.number result.0 }
 {
@@ -260,20 +189,12 @@ fn is_taken<R: Wait>(rt: &R, db: &Db, pass: Pass) -> (Pass, Result<bool, AllocEr
 }
 
 /// Whether the first of two is so and the second isn't.
-fn is_first_alone(
-    first: Result<bool, AllocError>,
-    second: Result<bool, AllocError>,
-) -> Result<bool, AllocError> {
+fn is_first_alone(first: Told, second: Told) -> Told {
     Ok(first? && !second?)
 }
 
 /// While one caller's transaction is open, a try of the other finds it taken; then it begins one.
-fn try_twice<R: Wait>(
-    rt: &R,
-    db: &Db,
-    one: Pass,
-    two: Pass,
-) -> (Pass, Pass, Result<bool, AllocError>)
+fn try_twice<R: Wait>(rt: &R, db: &Db, one: Pass, two: Pass) -> (Pass, Pass, Told)
     requires one { IsOf db.now one }
     requires two { IsOf db.now two }
     ensures one { IsCaller db.now one.number result.0 }
@@ -305,19 +226,10 @@ fn a_try_finds_a_transaction_taken_and_then_begins(rt: HostRuntime) -> Result<()
     Ok(())
 }
 
-/// Whether a state has no users.
-fn is_empty(alloc: Global, read: &ReadTxn) -> Result<bool, AllocError> {
-    let query = super::query_of(alloc, Ask::Get, ("users", "id"), "[]")?;
-    match read.ask(&query) {
-        Ok(Answer::Many(rows)) => Ok(rows.len() == 0),
-        _ => Err(AllocError),
-    }
-}
-
 /// Asks a state a hundred times, and tells whether it has no users each time.
-fn stays_empty(alloc: Global, read: &ReadTxn) -> Result<bool, AllocError> {
+fn stays_empty(alloc: Global, read: &ReadTxn) -> Told {
     for _ in 0..100 {
-        if !is_empty(alloc, read)? {
+        if !are_in_order(alloc, read, (0, 0))? {
             return Ok(false);
         }
     }
@@ -331,13 +243,13 @@ fn is_kept<R: Threads + Wait + Sync>(
     db: &Db,
     read: &ReadTxn,
     two: &mut Option<Pass>,
-) -> Result<bool, AllocError>
+) -> Told
     requires { (p : Caller) × (two.old ≡ Some p) × IsCaller db.now 2 p }
     ensures { (p : Caller) × (two.new ≡ Some p) × IsCaller db.now 2 p }
 {
     let (kept, done) = join_mut(
         rt,
-        &mut || -> Result<bool, AllocError> { stays_empty(alloc, read) },
+        &mut || -> Told { stays_empty(alloc, read) },
         &mut || -> Result<(), AllocError>
             requires { (p : Caller) × (two.now ≡ Some p) × IsCaller db.now 2 p }
             ensures { (p : Caller) × (two.exit.now ≡ Some p) × IsCaller db.entry.now 2 p }

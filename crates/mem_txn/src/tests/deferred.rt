@@ -3,13 +3,13 @@ ghost use Rattle.std.specs.Prelude.{◌≡◌};
 ghost use Rattle.mem_txn.specs.Database.{IsCaller};
 ghost use Rattle.mem_txn.specs.Transactions.{changes_of};
 
-use super::{closed, opened};
-use crate::{BeginRefused, CommitRefused, Committed, Db, DeferredList, Pass, WriteTxn};
+use super::{Told, closed, committed, opened};
+use crate::{BeginRefused, Db, DeferredList, Pass, WriteTxn};
 use std::alloc::{AllocError, Global};
 use std::sync::Wait;
 use std::test::Fail;
 
-const ITEMS: [&str; 4] = ["unlock", "", "notify ann", "notify bob"];
+static ITEMS: [&str; 4] = ["unlock", "", "notify ann", "notify bob"];
 
 /// Defers each item, and tells whether each was kept.
 fn defer_all(alloc: Global, txn: &mut WriteTxn<String>) -> bool
@@ -44,9 +44,9 @@ fn commit_all<R: Wait>(
     if !defer_all(alloc, &mut txn) {
         return (txn.abort(db), Err(AllocError));
     }
-    match txn.commit(rt, db) {
-        Ok(Committed { pass, receipt }) => (pass, Ok(receipt.items)),
-        Err(CommitRefused { pass, cause: _ }) => (pass, Err(AllocError)),
+    match committed(rt, db, txn) {
+        (pass, Ok(receipt)) => (pass, Ok(receipt.items)),
+        (pass, Err(_)) => (pass, Err(AllocError)),
     }
 }
 
@@ -73,7 +73,7 @@ fn are_placed(items: &DeferredList<String>) -> bool {
 }
 
 /// Whether a commit hands the items out.
-fn are_handed_out<R: Wait>(rt: &R, alloc: Global) -> Result<bool, AllocError> {
+fn are_handed_out<R: Wait>(rt: &R, alloc: Global) -> Told {
     let (db, passes, pass) = opened(alloc)?;
     let (pass, told) = commit_all(rt, alloc, &db, pass);
     drop(closed(rt, db, passes, pass));

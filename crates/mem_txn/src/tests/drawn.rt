@@ -1,12 +1,12 @@
 //! Rows drawn from a fixed sequence, and tables as plain lists of them.
 ghost use Rattle.std.specs.Prelude.{◌<◌};
 
-use super::is_told;
+use super::{Told, is_told};
 use mdb_schema::Answer;
 use std::alloc::{AllocError, Global};
 
 /// Six names, each at three ages.
-const ROWS: [&str; 18] = [
+static ROWS: [&str; 18] = [
     r#"{"age":1,"name":"a"}"#,
     r#"{"age":2,"name":"a"}"#,
     r#"{"age":3,"name":"a"}"#,
@@ -30,11 +30,28 @@ const ROWS: [&str; 18] = [
 /// The row of each name that is there, in the users and then in the notes.
 pub type Plain = [Option<usize>; 12];
 
+/// The rows that are there, and the sequence from which the next one is drawn.
+#[derive(Drop)]
+pub struct Drawn {
+    pub random: Random,
+    pub plain: Plain,
+}
+
+impl Drawn {
+    /// No rows, before a sequence.
+    pub fn from(seed: u64) -> Drawn {
+        Drawn {
+            random: Random(seed),
+            plain: [None; 12],
+        }
+    }
+}
+
 /// A question for all rows, or for the users of an age: its table, its index, its arguments, and
 /// how the texts of its rows begin.
 pub type Question = (&'static str, &'static str, &'static str, &'static str);
 
-pub const QUESTIONS: [Question; 5] = [
+pub static QUESTIONS: [Question; 5] = [
     ("users", "id", "[]", "{"),
     ("users", "age", "[1]", "{\"age\":1"),
     ("users", "age", "[2]", "{\"age\":2"),
@@ -114,6 +131,11 @@ pub fn wipe_plain(plain: &mut Plain, question: &Question) -> u64 {
     count
 }
 
+fn add_line(lines: &mut String, line: &str) -> Result<(), AllocError> {
+    lines.push_str(line)?;
+    lines.push('\n')
+}
+
 /// Adds the line of the row at a place, where a question lists it.
 fn add_asked(
     lines: &mut String,
@@ -127,11 +149,6 @@ fn add_asked(
     }
 }
 
-fn add_line(lines: &mut String, line: &str) -> Result<(), AllocError> {
-    lines.push_str(line)?;
-    lines.push('\n')
-}
-
 /// The lines of the rows that a question lists.
 fn listed(alloc: Global, plain: &Plain, question: &Question) -> Result<String, AllocError> {
     let mut lines = String::new(alloc);
@@ -142,12 +159,7 @@ fn listed(alloc: Global, plain: &Plain, question: &Question) -> Result<String, A
 }
 
 /// Whether an answer lists the rows of a plain list.
-pub fn is_alike(
-    alloc: Global,
-    answer: &Answer,
-    plain: &Plain,
-    question: &Question,
-) -> Result<bool, AllocError> {
+pub fn is_alike(alloc: Global, answer: &Answer, plain: &Plain, question: &Question) -> Told {
     let lines = listed(alloc, plain, question)?;
     is_told(alloc, answer, &lines)
 }

@@ -2,6 +2,7 @@
 ghost use Rattle.std.specs.Prelude.{◌≡◌, Some};
 ghost use Rattle.mem_txn.specs.Database.{Caller, IsCaller};
 
+use super::Told;
 use super::callers::{are_in_order, closed, pair, some_borrowed};
 use crate::{Db, Pass, ReadTxn};
 use std::alloc::{AllocError, Global};
@@ -64,7 +65,7 @@ fn are_made<R: Threads + Wait + Sync>(
     alloc: Global,
     commits: bool,
     counts: (u64, u64),
-) -> Result<bool, AllocError> {
+) -> Told {
     let last = last_after(rt, alloc, commits)?;
     let all = counts.0.saturating_add(counts.1);
     Ok(last.number() == all && are_in_order(alloc, &last, counts)?)

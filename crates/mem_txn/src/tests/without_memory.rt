@@ -5,179 +5,121 @@ ghost use Rattle.mem_txn.specs.Database.{IsCaller};
 ghost use Rattle.mem_txn.specs.Transactions.{changes_of};
 
 use super::callers::{closed, pair};
-use super::drawn::{Plain, Random, table_of, text_of};
-use super::mixed::reads_alike;
-use super::row_of;
-use crate::{
-    BeginError, BeginRefused, CommitError, CommitRefused, Committed, Db, Pass, SnapError, WriteTxn,
-};
+use super::drawn::{Drawn, Plain, table_of, text_of};
+use super::long_run::are_read;
+use super::{Told, Txn, row_of};
+use crate::{BeginError, BeginRefused, CommitError, CommitRefused, Committed, Db, Pass, SnapError};
 use std::alloc::{AllocError, Global};
 use std::sync::Wait;
 use std::test::Fail;
 
-/// What became of a transaction that was tried.
-#[derive(Drop)]
-struct Outcome {
-    /// The rows after it.
-    plain: Plain,
-    /// Whether its answers are right.
-    right: bool,
-}
-
 /// Inserts some rows, and tells whether one found no memory. Then the transaction is spoiled.
-fn insert_some(
-    alloc: Global,
-    random: &mut Random,
-    txn: &mut WriteTxn<u8>,
-    plain: &mut Plain,
-) -> Result<bool, AllocError>
+fn insert_some(alloc: Global, drawn: &mut Drawn, txn: &mut Txn) -> Told
     ensures { (changes_of txn.new).caller ≡ (changes_of txn.old).caller }
 {
     for place in 4..8 {
-        let row = random.row(place);
+        let row = drawn.random.row(place);
         let row_put = row_of(alloc, text_of(row))?;
         if txn.insert(table_of(place), &row_put).is_err() {
             return Ok(true);
         }
-        plain[place] = Some(row);
+        drawn.plain[place] = Some(row);
     }
     Ok(false)
 }
 
-/// Whether a transaction answers as one that is spoiled, or as one that isn't.
-fn is_spoiled(txn: &mut WriteTxn<u8>, spoiled: bool) -> bool
-    ensures { (changes_of txn.new).caller ≡ (changes_of txn.old).caller }
-{
-    let told = matches!(txn.snapshot(), Err(SnapError::Spoiled));
-    told == spoiled
-}
-
-/// Commits a transaction that leaves these rows, or those before it.
-fn try_commit<R: Wait>(
+/// Ends a transaction by its commit, and tells whether that is answered right. One that is spoiled
+/// is told so; a refused one leaves the rows before it.
+fn end<R: Wait>(
     rt: &R,
     db: &Db,
-    txn: WriteTxn<u8>,
+    txn: Txn,
     spoiled: bool,
-    plain: (&Plain, &Plain),
-) -> (Pass, Outcome)
+    before: Plain,
+    plain: &mut Plain,
+) -> (Pass, bool)
     requires own { IsCaller db.now 1 (changes_of txn).caller }
     ensures { IsCaller db.now 1 result.0 }
 {
     match txn.commit(rt, db) {
-        Ok(Committed { pass, receipt: _ }) => (
-            pass,
-            Outcome {
-                plain: *plain.1,
-                right: !spoiled,
-            },
-        ),
-        Err(CommitRefused { pass, cause }) => (
-            pass,
-            Outcome {
-                plain: *plain.0,
-                right: spoiled == (cause == CommitError::Spoiled),
-            },
-        ),
+        Ok(Committed { pass, receipt: _ }) => (pass, !spoiled),
+        Err(CommitRefused { pass, cause }) => {
+            *plain = before;
+            (pass, spoiled == (cause == CommitError::Spoiled))
+        }
     }
 }
 
-fn try_begun<R: Wait>(
-    rt: &R,
-    alloc: Global,
-    random: &mut Random,
-    db: &Db,
-    txn: WriteTxn<u8>,
-    plain: &Plain,
-) -> (Pass, Result<Outcome, AllocError>)
+/// Tries a transaction, and tells whether it is answered right. Then these are the rows.
+fn try_begun<R: Wait>(rt: &R, alloc: Global, db: &Db, txn: Txn, drawn: &mut Drawn) -> (Pass, Told)
     requires own { IsCaller db.now 1 (changes_of txn).caller }
     ensures { IsCaller db.now 1 result.0 }
 {
     let mut txn = txn;
-    let mut after = *plain;
-    match insert_some(alloc, random, &mut txn, &mut after) {
+    let before = drawn.plain;
+    match insert_some(alloc, drawn, &mut txn) {
         Ok(spoiled) => {
-            let told = is_spoiled(&mut txn, spoiled);
-            let (pass, mut tried) = try_commit(rt, db, txn, spoiled, (plain, &after));
-            tried.right = tried.right && told;
-            (pass, Ok(tried))
+            let told = matches!(txn.snapshot(), Err(SnapError::Spoiled)) == spoiled;
+            let (pass, right) = end(rt, db, txn, spoiled, before, &mut drawn.plain);
+            (pass, Ok(right && told))
         }
         Err(_) => (txn.abort(db), Err(AllocError)),
     }
 }
 
-/// Tries a transaction.
-fn try_both<R: Wait>(
-    rt: &R,
-    alloc: Global,
-    random: &mut Random,
-    db: &Db,
-    pass: Pass,
-    plain: &Plain,
-) -> (Pass, Result<Outcome, AllocError>)
+/// The same of one that may not begin.
+fn try_one<R: Wait>(rt: &R, alloc: Global, db: &Db, pass: Pass, drawn: &mut Drawn) -> (Pass, Told)
     requires own { IsCaller db.now 1 pass }
     ensures { IsCaller db.now 1 result.0 }
 {
     match db.write(rt, pass) {
-        Ok(txn) => try_begun(rt, alloc, random, db, txn, plain),
-        Err(BeginRefused { pass, cause }) => (
-            pass,
-            Ok(Outcome {
-                plain: *plain,
-                right: cause == BeginError::Memory,
-            }),
-        ),
+        Ok(txn) => try_begun(rt, alloc, db, txn, drawn),
+        Err(BeginRefused { pass, cause }) => (pass, Ok(cause == BeginError::Memory)),
     }
 }
 
-/// Tries a transaction, and tells whether the rows that another caller reads after it are right.
-/// Then these are the rows.
+/// Whether the rows that a caller reads now are alike.
+fn reads_alike<R: Wait>(rt: &R, alloc: Global, db: &Db, pass: &mut Pass, plain: &Plain) -> Told
+    requires own { IsCaller db.now 2 pass.old }
+    ensures { IsCaller db.now 2 pass.new }
+{
+    let read = db.read(rt, pass)?;
+    are_read(alloc, &read, plain)
+}
+
+/// The same, and whether the rows that another caller reads after it are right.
 fn try_read<R: Wait>(
     rt: &R,
     alloc: Global,
-    random: &mut Random,
     db: &Db,
     pass: Pass,
     other: &mut Pass,
-    plain: &mut Plain,
-) -> (Pass, Result<bool, AllocError>)
+    drawn: &mut Drawn,
+) -> (Pass, Told)
     requires own { IsCaller db.now 1 pass }
     requires other { IsCaller db.now 2 other.old }
     ensures own { IsCaller db.now 1 result.0 }
     ensures other { IsCaller db.now 2 other.new }
 {
-    let (pass, tried) = try_both(rt, alloc, random, db, pass, plain);
-    let told = match tried {
-        Ok(tried) => {
-            let after = tried.plain;
-            *plain = after;
-            match reads_alike(rt, alloc, db, other, plain) {
-                Ok(alike) => Ok(tried.right && alike),
-                Err(_) => Err(AllocError),
-            }
-        }
-        Err(_) => Err(AllocError),
+    let (pass, told) = try_one(rt, alloc, db, pass, drawn);
+    let told = match told {
+        Ok(true) => reads_alike(rt, alloc, db, other, &drawn.plain),
+        told => told,
     };
     (pass, told)
 }
 
 /// Whether each of some transactions is answered right.
-fn are_tried<R: Wait>(
-    rt: &R,
-    alloc: Global,
-    db: &Db,
-    pass: Pass,
-    other: &mut Pass,
-) -> (Pass, Result<bool, AllocError>)
+fn are_tried<R: Wait>(rt: &R, alloc: Global, db: &Db, pass: Pass, other: &mut Pass) -> (Pass, Told)
     requires own { IsCaller db.now 1 pass }
     requires other { IsCaller db.now 2 other.old }
     ensures own { IsCaller db.now 1 result.0 }
     ensures other { IsCaller db.now 2 other.new }
 {
-    let mut random = Random(0x2545_f491_4f6c_dd1d);
-    let mut plain: Plain = [None; 12];
+    let mut drawn = Drawn::from(0x2545_f491_4f6c_dd1d);
     let mut pass = pass;
     for _ in 0..12 {
-        let (next, told) = try_read(rt, alloc, &mut random, db, pass, other, &mut plain);
+        let (next, told) = try_read(rt, alloc, db, pass, other, &mut drawn);
         pass = next;
         match told {
             Ok(true) => {}
@@ -188,7 +130,7 @@ fn are_tried<R: Wait>(
 }
 
 /// Whether they are in a new database.
-fn are_tried_anew<R: Wait>(rt: &R, alloc: Global) -> Result<bool, AllocError> {
+fn are_tried_anew<R: Wait>(rt: &R, alloc: Global) -> Told {
     let (db, passes, one, mut two) = pair(alloc)?;
     let (one, told) = are_tried(rt, alloc, &db, one, &mut two);
     drop(closed(rt, db, passes, one, two));

@@ -1,19 +1,15 @@
 //! Worked examples: transactions on a database, each write and question with its answer.
-ghost use Rattle.std.specs.Prelude.{◌≡◌};
-ghost use Rattle.mem_txn.specs.Database.{IsCaller};
+ghost use Rattle.std.specs.Prelude.{◌≡◌, IfOk};
+ghost use Rattle.mem_txn.specs.Checked.{IsBeginning};
+ghost use Rattle.mem_txn.specs.Database.{IsCaller, IsOf};
 ghost use Rattle.mem_txn.specs.Transactions.{changes_of};
 
-use super::mixed::end;
-use super::{closed, is_told, opened, query_of, row_of};
-use crate::{BeginRefused, Db, Pass, ReadTxn, Snapshot, TxnAskError, TxnWriteError, WriteTxn};
-use mdb_datum::Row;
-use mdb_schema::{Answer, Ask, AskError, WriteError};
+use super::{Told, Txn, closed, committed, is_told, opened, query_of, row_of};
+use crate::{BeginRefused, Db, Pass, ReadTxn, Receipt, Snapshot, TxnAskError, TxnWriteError};
+use mdb_schema::{Answer, Ask, AskError, Query, WriteError};
 use std::alloc::{AllocError, Global};
 use std::sync::Wait;
 use std::test::Fail;
-
-/// A write: its word, its table, its row and its answer.
-pub type Line = (&'static str, &'static str, &'static str, &'static str);
 
 /// A question: what is asked, of which table and index, with which arguments, and its answer.
 pub type Asked = (
@@ -22,6 +18,21 @@ pub type Asked = (
     &'static str,
     &'static str,
 );
+
+/// What a commit gives.
+pub type Done = Result<Receipt<u8>, AllocError>;
+
+/// A write: its table, its row and its answer.
+pub type Line = (&'static str, &'static str, &'static str);
+
+/// A step of a transaction.
+pub enum Step {
+    Insert(Line),
+    Delete(Line),
+    /// The users whose ids begin so are taken out, and so many are there.
+    Wipe(&'static str, u64),
+    Tell(Asked),
+}
 
 /// The users by their ids.
 pub const IDS: (&str, &str) = ("users", "id");
@@ -58,189 +69,187 @@ fn ask_word(error: AskError) -> &'static str {
 }
 
 /// Whether a refusal is told by this word. Want of memory is no answer, and ends the test.
-fn is_word(expected: &str, word: &str) -> Result<bool, AllocError> {
+fn is_word(expected: &str, word: &str) -> Told {
     if word == "memory" {
         return Err(AllocError);
     }
     Ok(expected == word)
 }
 
-/// Whether a delete is answered so.
-fn is_deleted(txn: &mut WriteTxn<u8>, line: &Line, row: &Row) -> Result<bool, AllocError>
+/// Whether a row is put so.
+fn is_put(alloc: Global, txn: &mut Txn, line: &Line) -> Told
     ensures { (changes_of txn.new).caller ≡ (changes_of txn.old).caller }
 {
-    match txn.delete(line.1, row) {
-        Ok(_) => Ok(line.3 == "deleted"),
-        Err(error) => is_word(line.3, write_word(error)),
+    match txn.insert(line.0, &row_of(alloc, line.1)?) {
+        Ok(replaced) => Ok(line.2 == if replaced { "replaced" } else { "inserted" }),
+        Err(error) => is_word(line.2, write_word(error)),
     }
 }
 
-/// Whether a write is answered so.
-fn is_written(alloc: Global, txn: &mut WriteTxn<u8>, line: &Line) -> Result<bool, AllocError>
+/// Whether a row is taken out so.
+fn is_deleted(alloc: Global, txn: &mut Txn, line: &Line) -> Told
     ensures { (changes_of txn.new).caller ≡ (changes_of txn.old).caller }
 {
-    let row = row_of(alloc, line.2)?;
-    if line.0 == "delete" {
-        return is_deleted(txn, line, &row);
-    }
-    match txn.insert(line.1, &row) {
-        Ok(replaced) => Ok(line.3 == if replaced { "replaced" } else { "inserted" }),
-        Err(error) => is_word(line.3, write_word(error)),
+    match txn.delete(line.0, &row_of(alloc, line.1)?) {
+        Ok(_) => Ok(line.2 == "deleted"),
+        Err(error) => is_word(line.2, write_word(error)),
     }
 }
 
-/// Whether each write is answered so.
-pub fn are_written(
-    alloc: Global,
-    txn: &mut WriteTxn<u8>,
-    lines: &[Line],
-) -> Result<bool, AllocError>
+/// Whether so many users are taken out whose ids begin so.
+fn is_wiped(alloc: Global, txn: &mut Txn, prefix: &str, count: u64) -> Told
     ensures { (changes_of txn.new).caller ≡ (changes_of txn.old).caller }
 {
-    for line in lines {
-        if !is_written(alloc, txn, line)? {
-            return Ok(false);
-        }
+    match txn.delete_prefix(&query_of(alloc, Ask::Get, ("users", "id_prefix"), prefix)?) {
+        Ok(gone) => Ok(gone == count),
+        Err(_) => Err(AllocError),
     }
-    Ok(true)
 }
 
-/// Whether a question has this answer, or is refused by this word.
-fn is_answered(
-    alloc: Global,
-    answer: Result<Answer, AskError>,
-    expected: &str,
-) -> Result<bool, AllocError> {
-    match answer {
-        Ok(answer) => is_told(alloc, &answer, expected),
-        Err(error) => is_word(expected, ask_word(error)),
-    }
+/// A question of a list.
+pub fn query_as(alloc: Global, asked: &Asked) -> Result<Query, AllocError> {
+    query_of(alloc, asked.0, asked.1, asked.2)
 }
 
 /// Whether a transaction answers a question so.
-fn is_own(alloc: Global, txn: &mut WriteTxn<u8>, asked: &Asked) -> Result<bool, AllocError>
+fn is_own(alloc: Global, txn: &mut Txn, asked: &Asked) -> Told
     ensures { (changes_of txn.new).caller ≡ (changes_of txn.old).caller }
 {
-    let query = query_of(alloc, asked.0, asked.1, asked.2)?;
-    match txn.ask(&query) {
+    match txn.ask(&query_as(alloc, asked)?) {
         Ok(answer) => is_told(alloc, &answer, asked.3),
         Err(TxnAskError::Refused(error)) => is_word(asked.3, ask_word(error)),
         Err(TxnAskError::Spoiled) => Ok(false),
     }
 }
 
-/// Whether a read transaction answers a question so.
-fn is_read_so(alloc: Global, read: &ReadTxn, asked: &Asked) -> Result<bool, AllocError> {
-    let query = query_of(alloc, asked.0, asked.1, asked.2)?;
-    is_answered(alloc, read.ask(&query), asked.3)
+/// Whether a step is answered so.
+fn is_done(alloc: Global, txn: &mut Txn, step: &Step) -> Told
+    ensures { (changes_of txn.new).caller ≡ (changes_of txn.old).caller }
+{
+    match step {
+        Step::Insert(line) => is_put(alloc, txn, line),
+        Step::Delete(line) => is_deleted(alloc, txn, line),
+        Step::Wipe(prefix, count) => is_wiped(alloc, txn, prefix, *count),
+        Step::Tell(asked) => is_own(alloc, txn, asked),
+    }
 }
 
-/// Whether a read transaction answers each question so.
-fn are_read(alloc: Global, read: &ReadTxn, questions: &[Asked]) -> Result<bool, AllocError> {
-    for asked in questions {
-        if !is_read_so(alloc, read, asked)? {
+/// Whether each step is answered so.
+fn are_done(alloc: Global, txn: &mut Txn, steps: &[Step]) -> Told
+    ensures { (changes_of txn.new).caller ≡ (changes_of txn.old).caller }
+{
+    for step in steps {
+        if !is_done(alloc, txn, step)? {
             return Ok(false);
         }
     }
     Ok(true)
 }
 
-/// Whether each write is answered so, and then a question.
-fn are_right(
-    alloc: Global,
-    txn: &mut WriteTxn<u8>,
-    lines: &[Line],
-    asked: &Asked,
-) -> Result<bool, AllocError>
-    ensures { (changes_of txn.new).caller ≡ (changes_of txn.old).caller }
-{
-    if !are_written(alloc, txn, lines)? {
-        return Ok(false);
-    }
-    is_own(alloc, txn, asked)
-}
-
-/// Plays a transaction to its end, and tells whether it is answered so.
-fn play_begun<R: Wait>(
-    rt: &R,
-    alloc: Global,
-    db: &Db,
-    txn: WriteTxn<u8>,
-    lines: &[Line],
-    asked: &Asked,
-) -> (Pass, Result<bool, AllocError>)
-    requires own { IsCaller db.now 1 (changes_of txn).caller }
-    ensures { IsCaller db.now 1 result.0 }
+/// Ends a transaction of these steps by its commit.
+fn commit_begun<R: Wait>(rt: &R, alloc: Global, db: &Db, txn: Txn, steps: &[Step]) -> (Pass, Done)
+    requires own { IsOf db.now (changes_of txn).caller }
+    ensures own { IsCaller db.now (changes_of txn).caller.number result.0 }
+    ensures more { IsBeginning (changes_of txn).caller result.0 }
+    ensures book { let pass = result.0 in
+        IfOk result.1 (λ r. let log = r.log in log.book ≡ pass.book) }
 {
     let mut txn = txn;
-    match are_right(alloc, &mut txn, lines, asked) {
-        Ok(true) => end(rt, true, db, txn),
-        told => (txn.abort(db), told),
+    match are_done(alloc, &mut txn, steps) {
+        Ok(true) => committed(rt, db, txn),
+        _ => (txn.abort(db), Err(AllocError)),
     }
 }
 
-/// Plays a transaction of these writes, with a question of what they leave, and its commit.
-fn play<R: Wait>(
+/// Makes these steps a commit, and gives its receipt. Another answer ends the test.
+pub fn commit_all<R: Wait>(
     rt: &R,
     alloc: Global,
     db: &Db,
     pass: Pass,
-    lines: &[Line],
-    asked: &Asked,
-) -> (Pass, Result<bool, AllocError>)
-    requires own { IsCaller db.now 1 pass }
-    ensures { IsCaller db.now 1 result.0 }
+    steps: &[Step],
+) -> (Pass, Done)
+    requires own { IsOf db.now pass }
+    ensures own { IsCaller db.now pass.number result.0 }
+    ensures more { IsBeginning pass result.0 }
+    ensures book { let after = result.0 in
+        IfOk result.1 (λ r. let log = r.log in log.book ≡ after.book) }
 {
     match db.write(rt, pass) {
-        Ok(txn) => play_begun(rt, alloc, db, txn, lines, asked),
+        Ok(txn) => commit_begun(rt, alloc, db, txn, steps),
         Err(BeginRefused { pass, cause: _ }) => (pass, Err(AllocError)),
     }
 }
 
-/// Plays two transactions, the second of which may have no writes.
-fn play_two<R: Wait>(
-    rt: &R,
-    alloc: Global,
-    db: &Db,
-    pass: Pass,
-    script: &Script,
-) -> (Pass, Result<bool, AllocError>)
+/// Whether these steps are answered so in a transaction that is aborted.
+fn abort_all<R: Wait>(rt: &R, alloc: Global, db: &Db, pass: Pass, steps: &[Step]) -> (Pass, Told)
     requires own { IsCaller db.now 1 pass }
     ensures { IsCaller db.now 1 result.0 }
 {
-    let (pass, told) = play(rt, alloc, db, pass, script.first, &NO_NOTES);
-    match told {
-        Ok(true) => play(rt, alloc, db, pass, script.next, &script.asked),
-        told => (pass, told),
+    match db.write(rt, pass) {
+        Ok(txn) => {
+            let mut txn = txn;
+            let told = are_done(alloc, &mut txn, steps);
+            (txn.abort(db), told)
+        }
+        Err(BeginRefused { pass, cause: _ }) => (pass, Err(AllocError)),
     }
+}
+
+/// A script of two transactions: their steps, whether the second one is committed, and questions of
+/// what is read then.
+struct Script {
+    first: &'static [Step],
+    next: &'static [Step],
+    commits: bool,
+    questions: &'static [Asked],
+}
+
+/// Plays a script's second transaction.
+fn play_next<R: Wait>(rt: &R, alloc: Global, db: &Db, pass: Pass, script: &Script) -> (Pass, Told)
+    requires own { IsCaller db.now 1 pass }
+    ensures { IsCaller db.now 1 result.0 }
+{
+    if !script.commits {
+        return abort_all(rt, alloc, db, pass, script.next);
+    }
+    let (pass, done) = commit_all(rt, alloc, db, pass, script.next);
+    (pass, done.and(Ok(true)))
+}
+
+/// Plays both.
+fn play<R: Wait>(rt: &R, alloc: Global, db: &Db, pass: Pass, script: &Script) -> (Pass, Told)
+    requires own { IsCaller db.now 1 pass }
+    ensures { IsCaller db.now 1 result.0 }
+{
+    let (pass, done) = commit_all(rt, alloc, db, pass, script.first);
+    match done {
+        Ok(_) => play_next(rt, alloc, db, pass, script),
+        Err(_) => (pass, Err(AllocError)),
+    }
+}
+
+/// Whether an answer is this one, or a refusal of this word.
+fn is_answered(alloc: Global, answer: Result<Answer, AskError>, expected: &str) -> Told {
+    match answer {
+        Ok(answer) => is_told(alloc, &answer, expected),
+        Err(error) => is_word(expected, ask_word(error)),
+    }
+}
+
+/// Whether a read transaction answers a question so.
+fn is_read(alloc: Global, read: &ReadTxn, asked: &Asked) -> Told {
+    is_answered(alloc, read.ask(&query_as(alloc, asked)?), asked.3)
 }
 
 /// Whether a read transaction on this commit answers each question so.
-fn is_read<R: Wait>(
-    rt: &R,
-    alloc: Global,
-    db: &Db,
-    pass: &mut Pass,
-    number: u64,
-    questions: &[Asked],
-) -> Result<bool, AllocError>
-    requires own { IsCaller db.now 1 pass.old }
-    ensures { IsCaller db.now 1 pass.new }
-{
-    let read = db.read(rt, pass)?;
-    if read.number() != number {
-        return Ok(false);
+fn are_read(alloc: Global, read: &ReadTxn, number: u64, questions: &[Asked]) -> Told {
+    for asked in questions {
+        if !is_read(alloc, read, asked)? {
+            return Ok(false);
+        }
     }
-    are_read(alloc, &read, questions)
-}
-
-/// A script of two transactions: their writes, a question of the second one, and questions that are
-/// asked of both commits.
-struct Script {
-    first: &'static [Line],
-    next: &'static [Line],
-    asked: Asked,
-    questions: &'static [Asked],
+    Ok(read.number() == number)
 }
 
 /// Whether a script is answered so, and then what is read.
@@ -250,69 +259,29 @@ fn is_played_on<R: Wait>(
     db: &Db,
     pass: Pass,
     script: &Script,
-) -> (Pass, Result<bool, AllocError>)
+) -> (Pass, Told)
     requires own { IsCaller db.now 1 pass }
     ensures { IsCaller db.now 1 result.0 }
 {
-    let (mut pass, told) = play_two(rt, alloc, db, pass, script);
-    let told = match told {
-        Ok(true) => is_read(rt, alloc, db, &mut pass, 2, script.questions),
-        told => told,
+    let (mut pass, told) = play(rt, alloc, db, pass, script);
+    let number = if script.commits { 2 } else { 1 };
+    let read = db.read(rt, &mut pass);
+    let told = match (told, read) {
+        (Ok(true), Ok(read)) => are_read(alloc, &read, number, script.questions),
+        (told, _) => told,
     };
     (pass, told)
 }
 
-/// Whether a script is answered so in a new database.
-fn is_played<R: Wait>(rt: &R, alloc: Global, script: &Script) -> Result<bool, AllocError> {
+/// The same in a new database.
+fn is_played<R: Wait>(rt: &R, alloc: Global, script: &Script) -> Told {
     let (db, passes, pass) = opened(alloc)?;
     let (pass, told) = is_played_on(rt, alloc, &db, pass, script);
     drop(closed(rt, db, passes, pass));
     told
 }
 
-const NO_NOTES: Asked = (Ask::Get, ("notes", "id"), "[]", "");
-
-const OWN_FIRST: [Line; 1] = [("insert", "users", r#"{"name":"ann","age":3}"#, "inserted")];
-
-const OWN_NEXT: [Line; 1] = [("insert", "users", r#"{"name":"ann","age":4}"#, "replaced")];
-
-const OWN: Asked = (Ask::First, IDS, r#"["ann"]"#, r#"{"age":4,"name":"ann"}"#);
-
-const OWN_READ: [Asked; 2] = [
-    (Ask::Get, AGES, "[3]", ""),
-    (Ask::Get, AGES, "[4]", "{\"age\":4,\"name\":\"ann\"}\n"),
-];
-
-const ORDER: [Line; 3] = [
-    ("insert", "users", r#"{"name":"cy","age":1}"#, "inserted"),
-    ("insert", "users", r#"{"name":"bob","age":2}"#, "inserted"),
-    ("insert", "users", r#"{"name":"ann","age":3}"#, "inserted"),
-];
-
-const ORDERED: Asked = (
-    Ask::Get,
-    IDS,
-    "[]",
-    "{\"age\":3,\"name\":\"ann\"}\n{\"age\":2,\"name\":\"bob\"}\n{\"age\":1,\"name\":\"cy\"}\n",
-);
-
-const LAST: [Asked; 1] = [(Ask::Last, IDS, "[]", r#"{"age":1,"name":"cy"}"#)];
-
-const TAKEN: [Line; 3] = [
-    (
-        "insert",
-        "users",
-        r#"{"name":"ann","age":1,"mail":"m"}"#,
-        "inserted",
-    ),
-    (
-        "insert",
-        "users",
-        r#"{"name":"bob","age":2,"mail":"m"}"#,
-        "key-taken mail",
-    ),
-    ("insert", "users", r#"{"name":"bob","age":2}"#, "inserted"),
-];
+const NO_USERS: Asked = (Ask::Get, IDS, "[]", "");
 
 const MAILS: Asked = (
     Ask::Get,
@@ -321,80 +290,78 @@ const MAILS: Asked = (
     "{\"age\":1,\"mail\":\"m\",\"name\":\"ann\"}\n",
 );
 
-const REPEATED: [Line; 3] = [
-    ("insert", "users", r#"{"name":"bob","age":2}"#, "inserted"),
-    ("delete", "users", r#"{"name":"bob"}"#, "deleted"),
-    ("delete", "users", r#"{"name":"bob"}"#, "not-found"),
-];
-
-const NO_USERS: Asked = (Ask::Get, IDS, "[]", "");
-
-const REFUSED: [Line; 8] = [
-    ("insert", "user", r#"{"name":"a","age":1}"#, "unknown-table"),
-    ("delete", "user", r#"{"name":"a","age":1}"#, "unknown-table"),
-    ("insert", "users", r#"{"age":1}"#, "no-id"),
-    ("insert", "users", r#"{"name":5,"age":1}"#, "wrong-kind id"),
-    ("insert", "users", r#"{"name":"a"}"#, "missing age"),
-    (
-        "insert",
-        "users",
-        r#"{"name":"a","age":70000}"#,
-        "out-of-range age",
-    ),
-    (
-        "insert",
-        "users",
-        r#"{"name":"a","age":1,"tags":"x"}"#,
-        "wrong-kind tags",
-    ),
-    ("insert", "users", r#"{"name":"","age":1}"#, "no-id"),
-];
-
-const RULES: [Asked; 7] = [
-    (Ask::Get, ("user", "id"), "[]", "unknown-table"),
-    (Ask::Get, ("users", "ids"), "[]", "unknown-index"),
-    (Ask::Get, ("users", "age_prefix"), "[1]", "no-prefix-form"),
-    (Ask::Get, AGES, r#"["1"]"#, "arg-kind"),
-    (Ask::Get, AGES, "[1,2]", "arg-count"),
-    (Ask::Longest, IDS, r#"["a"]"#, "no-prefix-name"),
-    (
-        Ask::Longest,
-        ("users", "tags_prefix"),
-        r#"["a"]"#,
-        "not-unique",
-    ),
-];
-
-const SCRIPTS: [Script; 5] = [
+static SCRIPTS: [Script; 3] = [
     Script {
-        first: &OWN_FIRST,
-        next: &OWN_NEXT,
-        asked: OWN,
-        questions: &OWN_READ,
+        first: &[Step::Insert(("users", r#"{"name":"ann","age":3}"#, "inserted"))],
+        next: &[
+            Step::Insert(("users", r#"{"name":"ann","age":4}"#, "replaced")),
+            Step::Insert(("users", r#"{"name":"cy","age":1}"#, "inserted")),
+            Step::Insert(("users", r#"{"name":"bob","age":2}"#, "inserted")),
+            Step::Tell((Ask::First, IDS, r#"["ann"]"#, r#"{"age":4,"name":"ann"}"#)),
+            Step::Tell((
+                Ask::Get,
+                IDS,
+                "[]",
+                "{\"age\":4,\"name\":\"ann\"}\n{\"age\":2,\"name\":\"bob\"}\n{\"age\":1,\"name\":\"cy\"}\n",
+            )),
+        ],
+        commits: true,
+        questions: &[
+            (Ask::Get, AGES, "[3]", ""),
+            (Ask::Get, AGES, "[4]", "{\"age\":4,\"name\":\"ann\"}\n"),
+            (Ask::Last, IDS, "[]", r#"{"age":1,"name":"cy"}"#),
+        ],
+    },
+    Script {
+        first: &[
+            Step::Insert(("users", r#"{"name":"ann","age":1,"mail":"m"}"#, "inserted")),
+            Step::Insert((
+                "users",
+                r#"{"name":"bob","age":2,"mail":"m"}"#,
+                "key-taken mail",
+            )),
+            Step::Insert(("users", r#"{"name":"bob","age":2}"#, "inserted")),
+            Step::Tell(MAILS),
+        ],
+        next: &[
+            Step::Delete(("users", r#"{"name":"bob"}"#, "deleted")),
+            Step::Delete(("users", r#"{"name":"bob"}"#, "not-found")),
+        ],
+        commits: true,
+        questions: &[MAILS, (Ask::Get, AGES, "[2]", "")],
     },
     Script {
         first: &[],
-        next: &ORDER,
-        asked: ORDERED,
-        questions: &LAST,
-    },
-    Script {
-        first: &TAKEN,
-        next: &[],
-        asked: MAILS,
-        questions: &[MAILS],
-    },
-    Script {
-        first: &REPEATED,
-        next: &[],
-        asked: NO_USERS,
-        questions: &[NO_USERS],
-    },
-    Script {
-        first: &[],
-        next: &REFUSED,
-        asked: NO_USERS,
-        questions: &RULES,
+        next: &[
+            Step::Insert(("user", r#"{"name":"a","age":1}"#, "unknown-table")),
+            Step::Delete(("user", r#"{"name":"a","age":1}"#, "unknown-table")),
+            Step::Insert(("users", r#"{"age":1}"#, "no-id")),
+            Step::Insert(("users", r#"{"name":5,"age":1}"#, "wrong-kind id")),
+            Step::Insert(("users", r#"{"name":"a"}"#, "missing age")),
+            Step::Insert(("users", r#"{"name":"a","age":70000}"#, "out-of-range age")),
+            Step::Insert((
+                "users",
+                r#"{"name":"a","age":1,"tags":"x"}"#,
+                "wrong-kind tags",
+            )),
+            Step::Insert(("users", r#"{"name":"","age":1}"#, "no-id")),
+            Step::Tell(NO_USERS),
+        ],
+        commits: true,
+        questions: &[
+            (Ask::Get, ("user", "id"), "[]", "unknown-table"),
+            (Ask::Get, ("users", "ids"), "[]", "unknown-index"),
+            (Ask::Get, ("users", "age_prefix"), "[1]", "no-prefix-form"),
+            (Ask::Get, AGES, r#"["1"]"#, "arg-kind"),
+            (Ask::Get, AGES, "[1,2]", "arg-count"),
+            (Ask::Longest, IDS, r#"["a"]"#, "no-prefix-name"),
+            (
+                Ask::Longest,
+                ("users", "tags_prefix"),
+                r#"["a"]"#,
+                "not-unique",
+            ),
+        ],
     },
 ];
 
@@ -406,76 +373,6 @@ fn transactions_are_answered(rt: HostRuntime) -> Result<(), Fail> {
     Ok(())
 }
 
-/// Whether a wipe by a prefix takes out two users.
-fn is_wiped(alloc: Global, txn: &mut WriteTxn<u8>) -> Result<bool, AllocError>
-    ensures { (changes_of txn.new).caller ≡ (changes_of txn.old).caller }
-{
-    let query = query_of(alloc, Ask::Get, ("users", "id_prefix"), r#"["an"]"#)?;
-    match txn.delete_prefix(&query) {
-        Ok(2) => is_own(alloc, txn, &NOT_WIPED),
-        Ok(_) => Ok(false),
-        Err(_) => Err(AllocError),
-    }
-}
-
-fn abort_wiped<R: Wait>(
-    rt: &R,
-    alloc: Global,
-    db: &Db,
-    pass: Pass,
-) -> (Pass, Result<bool, AllocError>)
-    requires own { IsCaller db.now 1 pass }
-    ensures { IsCaller db.now 1 result.0 }
-{
-    match db.write(rt, pass) {
-        Ok(txn) => {
-            let mut txn = txn;
-            let told = is_wiped(alloc, &mut txn);
-            (txn.abort(db), told)
-        }
-        Err(BeginRefused { pass, cause: _ }) => (pass, Err(AllocError)),
-    }
-}
-
-/// Whether a wipe takes rows out of its transaction, and leaves those that were committed.
-fn is_undone_on<R: Wait>(
-    rt: &R,
-    alloc: Global,
-    db: &Db,
-    pass: Pass,
-) -> (Pass, Result<bool, AllocError>)
-    requires own { IsCaller db.now 1 pass }
-    ensures { IsCaller db.now 1 result.0 }
-{
-    let (pass, played) = play(rt, alloc, db, pass, &WIPED, &THREE);
-    match played {
-        Ok(true) => {}
-        told => return (pass, told),
-    }
-    let (mut pass, wiped) = abort_wiped(rt, alloc, db, pass);
-    let told = match wiped {
-        Ok(true) => is_read(rt, alloc, db, &mut pass, 1, &[THREE]),
-        told => told,
-    };
-    (pass, told)
-}
-
-/// The same in a new database.
-fn is_undone<R: Wait>(rt: &R, alloc: Global) -> Result<bool, AllocError> {
-    let (db, passes, pass) = opened(alloc)?;
-    let (pass, told) = is_undone_on(rt, alloc, &db, pass);
-    drop(closed(rt, db, passes, pass));
-    told
-}
-
-const WIPED: [Line; 3] = [
-    ("insert", "users", r#"{"name":"ann","age":1}"#, "inserted"),
-    ("insert", "users", r#"{"name":"bob","age":1}"#, "inserted"),
-    ("insert", "users", r#"{"name":"anna","age":1}"#, "inserted"),
-];
-
-const NOT_WIPED: Asked = (Ask::Get, AGES, "[1]", "{\"age\":1,\"name\":\"bob\"}\n");
-
 const THREE: Asked = (
     Ask::Get,
     AGES,
@@ -483,45 +380,55 @@ const THREE: Asked = (
     "{\"age\":1,\"name\":\"ann\"}\n{\"age\":1,\"name\":\"anna\"}\n{\"age\":1,\"name\":\"bob\"}\n",
 );
 
+static WIPE: Script = Script {
+    first: &[
+        Step::Insert(("users", r#"{"name":"ann","age":1}"#, "inserted")),
+        Step::Insert(("users", r#"{"name":"bob","age":1}"#, "inserted")),
+        Step::Insert(("users", r#"{"name":"anna","age":1}"#, "inserted")),
+        Step::Tell(THREE),
+    ],
+    next: &[
+        Step::Wipe(r#"["an"]"#, 2),
+        Step::Tell((Ask::Get, AGES, "[1]", "{\"age\":1,\"name\":\"bob\"}\n")),
+    ],
+    commits: false,
+    questions: &[THREE],
+};
+
 #[test]
 fn an_abort_undoes_a_wipe(rt: HostRuntime) -> Result<(), Fail> {
-    assert!(rt; is_undone(&rt, rt.alloc())?);
+    assert!(rt; is_played(&rt, rt.alloc(), &WIPE)?);
     Ok(())
 }
 
-const ONE: [Line; 1] = [("insert", "users", r#"{"name":"a","age":1}"#, "inserted")];
+static ONE: [Step; 1] = [Step::Insert(("users", r#"{"name":"a","age":1}"#, "inserted"))];
 
-const GONE: [Line; 1] = [("delete", "users", r#"{"name":"a"}"#, "deleted")];
+static NONE: [Step; 2] = [
+    Step::Delete(("users", r#"{"name":"a"}"#, "deleted")),
+    Step::Tell(NO_USERS),
+];
 
-const KEPT: Asked = (Ask::Get, IDS, "[]", "{\"age\":1,\"name\":\"a\"}\n");
+static KEPT: Asked = (Ask::Get, IDS, "[]", "{\"age\":1,\"name\":\"a\"}\n");
 
-/// A snapshot of a transaction.
-fn snapshot_of(txn: &mut WriteTxn<u8>) -> Result<Snapshot, AllocError>
+/// A snapshot after a write.
+fn snapshot_after(alloc: Global, txn: &mut Txn) -> Result<Snapshot, AllocError>
     ensures { (changes_of txn.new).caller ≡ (changes_of txn.old).caller }
 {
+    if !are_done(alloc, txn, &ONE)? {
+        return Err(AllocError);
+    }
     match txn.snapshot() {
         Ok(snapshot) => Ok(snapshot),
         Err(_) => Err(AllocError),
     }
 }
 
-/// A snapshot after a write.
-fn snapshot_after(alloc: Global, txn: &mut WriteTxn<u8>) -> Result<Snapshot, AllocError>
-    ensures { (changes_of txn.new).caller ≡ (changes_of txn.old).caller }
-{
-    if are_written(alloc, txn, &ONE)? {
-        snapshot_of(txn)
-    } else {
-        Err(AllocError)
-    }
-}
-
 /// A snapshot between two writes.
-fn between(alloc: Global, txn: &mut WriteTxn<u8>) -> Result<Snapshot, AllocError>
+fn between(alloc: Global, txn: &mut Txn) -> Result<Snapshot, AllocError>
     ensures { (changes_of txn.new).caller ≡ (changes_of txn.old).caller }
 {
     let snapshot = snapshot_after(alloc, txn)?;
-    if are_right(alloc, txn, &GONE, &NO_USERS)? {
+    if are_done(alloc, txn, &NONE)? {
         Ok(snapshot)
     } else {
         Err(AllocError)
@@ -548,39 +455,17 @@ fn outlived<R: Wait>(
     }
 }
 
-/// Whether a snapshot stays, and the database has nothing of the transaction.
-fn is_outlived_on<R: Wait>(
-    rt: &R,
-    alloc: Global,
-    db: &Db,
-    pass: Pass,
-) -> (Pass, Result<bool, AllocError>)
-    requires own { IsCaller db.now 1 pass }
-    ensures { IsCaller db.now 1 result.0 }
-{
-    let (mut pass, kept) = outlived(rt, alloc, db, pass);
-    let kept = match kept {
-        Ok(kept) => is_kept(alloc, &kept),
-        Err(_) => Err(AllocError),
-    };
-    let told = match kept {
-        Ok(true) => is_read(rt, alloc, db, &mut pass, 0, &[NO_USERS]),
-        told => told,
-    };
-    (pass, told)
+/// Whether a snapshot has its row.
+fn is_kept(alloc: Global, kept: &Snapshot) -> Told {
+    is_answered(alloc, kept.ask(&query_as(alloc, &KEPT)?), KEPT.3)
 }
 
-/// The same in a new database.
-fn is_outlived<R: Wait>(rt: &R, alloc: Global) -> Result<bool, AllocError> {
+/// Whether a snapshot stays, and the database has nothing of its transaction.
+fn is_outlived<R: Wait>(rt: &R, alloc: Global) -> Told {
     let (db, passes, pass) = opened(alloc)?;
-    let (pass, told) = is_outlived_on(rt, alloc, &db, pass);
-    drop(closed(rt, db, passes, pass));
-    told
-}
-
-fn is_kept(alloc: Global, kept: &Snapshot) -> Result<bool, AllocError> {
-    let query = query_of(alloc, KEPT.0, KEPT.1, KEPT.2)?;
-    is_answered(alloc, kept.ask(&query), KEPT.3)
+    let (pass, kept) = outlived(rt, alloc, &db, pass);
+    let last = closed(rt, db, passes, pass);
+    Ok(is_kept(alloc, &kept?)? && are_read(alloc, &last, 0, &[NO_USERS])?)
 }
 
 #[test]

@@ -1,0 +1,511 @@
+//! Thousands of transactions on a database and on plain lists, which answer the same, with forty
+//! held watches. After each transaction a watch has fired exactly where its question has
+//! another cell, and else the answer is as it was.
+ghost use Rattle.std.specs.Prelude.{◌≡◌};
+ghost use Rattle.mem_txn.specs.Database.{IsCaller};
+ghost use Rattle.mem_txn.specs.Transactions.{changes_of};
+
+use super::drawn::{Drawn, Plain, QUESTIONS, Question, is_alike, table_of, text_of, wipe_plain};
+use super::watches::watched_of;
+use super::worked::commit_all;
+use super::{Told, Txn, closed, committed, lines_of, opened, query_of, row_of};
+use crate::{BeginRefused, Db, Held, Pass, ReadTxn, Snapshot, TxnWriteError};
+use mdb_datum::Row;
+use mdb_schema::{Answer, Ask, AskError, Query, WriteError};
+use std::alloc::{AllocError, Global};
+use std::marker::Model;
+use std::sync::Wait;
+use std::test::Fail;
+use watch_word::Front;
+
+/// Whether an insert is answered alike.
+fn insert_both(alloc: Global, drawn: &mut Drawn, txn: &mut Txn) -> Told
+    ensures { (changes_of txn.new).caller ≡ (changes_of txn.old).caller }
+{
+    let place = drawn.random.place();
+    let row = drawn.random.row(place);
+    let held = drawn.plain[place];
+    drawn.plain[place] = Some(row);
+    match txn.insert(table_of(place), &row_of(alloc, text_of(row))?) {
+        Ok(replaced) => Ok(replaced == held.is_some()),
+        Err(_) => Err(AllocError),
+    }
+}
+
+/// Whether a row is the one that was held.
+fn is_held(row: &Row, held: Option<usize>) -> Told {
+    let text = text_of(held.unwrap_or(18));
+    Ok(row.doc()?.as_slice() == text.as_bytes())
+}
+
+/// Whether a delete is answered alike.
+fn delete_both(alloc: Global, drawn: &mut Drawn, txn: &mut Txn) -> Told
+    ensures { (changes_of txn.new).caller ≡ (changes_of txn.old).caller }
+{
+    let place = drawn.random.place();
+    let row = drawn.random.row(place);
+    let held = drawn.plain[place];
+    drawn.plain[place] = None;
+    match txn.delete(table_of(place), &row_of(alloc, text_of(row))?) {
+        Ok(old) => is_held(&old, held),
+        Err(TxnWriteError::Refused(WriteError::NotFound)) => Ok(held.is_none()),
+        Err(_) => Err(AllocError),
+    }
+}
+
+fn asked(alloc: Global, question: &Question) -> Result<Query, AllocError> {
+    query_of(alloc, Ask::Get, (question.0, question.1), question.2)
+}
+
+/// Whether a wipe is answered alike.
+fn wipe_both(alloc: Global, drawn: &mut Drawn, txn: &mut Txn, question: &Question) -> Told
+    ensures { (changes_of txn.new).caller ≡ (changes_of txn.old).caller }
+{
+    let count = wipe_plain(&mut drawn.plain, question);
+    match txn.delete_all(&asked(alloc, question)?) {
+        Ok(told) => Ok(told == count),
+        Err(_) => Err(AllocError),
+    }
+}
+
+/// Whether a transaction answers alike.
+fn ask_both(alloc: Global, plain: &Plain, txn: &mut Txn, question: &Question) -> Told
+    ensures { (changes_of txn.new).caller ≡ (changes_of txn.old).caller }
+{
+    match txn.ask(&asked(alloc, question)?) {
+        Ok(answer) => is_alike(alloc, &answer, plain, question),
+        Err(_) => Err(AllocError),
+    }
+}
+
+/// Whether the snapshot of a transaction answers alike.
+fn snapshot_both(alloc: Global, plain: &Plain, txn: &mut Txn, question: &Question) -> Told
+    ensures { (changes_of txn.new).caller ≡ (changes_of txn.old).caller }
+{
+    match txn.snapshot() {
+        Ok(snapshot) => is_kept(alloc, &snapshot, plain, question),
+        Err(_) => Err(AllocError),
+    }
+}
+
+/// Whether an answer to a question is alike. A refusal ends the test.
+fn is_answered(
+    alloc: Global,
+    answer: Result<Answer, AskError>,
+    plain: &Plain,
+    question: &Question,
+) -> Told {
+    match answer {
+        Ok(answer) => is_alike(alloc, &answer, plain, question),
+        Err(_) => Err(AllocError),
+    }
+}
+
+fn is_kept(alloc: Global, snapshot: &Snapshot, plain: &Plain, question: &Question) -> Told {
+    let answer = snapshot.ask(&asked(alloc, question)?);
+    is_answered(alloc, answer, plain, question)
+}
+
+/// Whether a read transaction answers a question alike.
+fn is_read(alloc: Global, read: &ReadTxn, plain: &Plain, question: &Question) -> Told {
+    let answer = read.ask(&asked(alloc, question)?);
+    is_answered(alloc, answer, plain, question)
+}
+
+/// Whether a read transaction answers each question alike.
+pub fn are_read(alloc: Global, read: &ReadTxn, plain: &Plain) -> Told {
+    for question in &QUESTIONS {
+        if !is_read(alloc, read, plain, question)? {
+            return Ok(false);
+        }
+    }
+    Ok(true)
+}
+
+/// Whether a drawn operation is answered alike.
+fn operate(alloc: Global, drawn: &mut Drawn, txn: &mut Txn) -> Told
+    ensures { (changes_of txn.new).caller ≡ (changes_of txn.old).caller }
+{
+    let question = drawn.random.question();
+    match drawn.random.below(12) {
+        0 => wipe_both(alloc, drawn, txn, question),
+        1 => ask_both(alloc, &drawn.plain, txn, question),
+        2 => snapshot_both(alloc, &drawn.plain, txn, question),
+        3..=5 => delete_both(alloc, drawn, txn),
+        _ => insert_both(alloc, drawn, txn),
+    }
+}
+
+/// Whether some operations are answered alike.
+fn operate_often(alloc: Global, drawn: &mut Drawn, txn: &mut Txn) -> Told
+    ensures { (changes_of txn.new).caller ≡ (changes_of txn.old).caller }
+{
+    for _ in 0..drawn.random.below(6) {
+        if !operate(alloc, drawn, txn)? {
+            return Ok(false);
+        }
+    }
+    Ok(true)
+}
+
+/// Ends a transaction by its commit or its abort.
+fn end<R: Wait>(rt: &R, db: &Db, txn: Txn, commits: bool) -> (Pass, Told)
+    requires own { IsCaller db.now 1 (changes_of txn).caller }
+    ensures own { IsCaller db.now 1 result.0 }
+    ensures same { let pass = result.0 in pass.book ≡ (changes_of txn).caller.book }
+{
+    if !commits {
+        return (txn.abort(db), Ok(true));
+    }
+    let (pass, done) = committed(rt, db, txn);
+    (pass, done.and(Ok(true)))
+}
+
+/// Runs a transaction to its end, and tells whether it is answered alike.
+fn run_begun<R: Wait>(rt: &R, alloc: Global, db: &Db, txn: Txn, drawn: &mut Drawn) -> (Pass, Told)
+    requires own { IsCaller db.now 1 (changes_of txn).caller }
+    ensures own { IsCaller db.now 1 result.0 }
+    ensures same { let pass = result.0 in pass.book ≡ (changes_of txn).caller.book }
+{
+    let mut txn = txn;
+    let before = drawn.plain;
+    let commits = drawn.random.below(4) != 0;
+    let told = operate_often(alloc, drawn, &mut txn);
+    if !commits {
+        drawn.plain = before;
+    }
+    match told {
+        Ok(true) => end(rt, db, txn, commits),
+        told => (txn.abort(db), told),
+    }
+}
+
+/// Runs a transaction.
+fn run<R: Wait>(rt: &R, alloc: Global, db: &Db, pass: Pass, drawn: &mut Drawn) -> (Pass, Told)
+    requires own { IsCaller db.now 1 pass }
+    ensures own { IsCaller db.now 1 result.0 }
+    ensures same { let after = result.0 in after.book ≡ pass.book }
+{
+    match db.write(rt, pass) {
+        Ok(txn) => run_begun(rt, alloc, db, txn, drawn),
+        Err(BeginRefused { pass, cause: _ }) => (pass, Err(AllocError)),
+    }
+}
+
+/// What is asked, of which table and index, with which arguments.
+type Asked = (Ask, (&'static str, &'static str), &'static str);
+
+/// The questions that are watched, each twice.
+static ASKED: [Asked; 20] = [
+    (Ask::First, ("users", "id"), r#"["a"]"#),
+    (Ask::First, ("users", "id"), r#"["ab"]"#),
+    (Ask::Last, ("users", "id"), r#"["abc"]"#),
+    (Ask::First, ("users", "id"), r#"["b"]"#),
+    (Ask::First, ("users", "id"), r#"["ba"]"#),
+    (Ask::First, ("users", "id"), r#"["c"]"#),
+    (Ask::First, ("users", "id"), r#"["abcd"]"#),
+    (Ask::First, ("users", "id"), r#"[]"#),
+    (Ask::Last, ("users", "id"), r#"[]"#),
+    (Ask::Get, ("users", "id"), r#"["ab"]"#),
+    (Ask::Get, ("users", "id_prefix"), r#"["a"]"#),
+    (Ask::Get, ("users", "id_prefix"), r#"["ab"]"#),
+    (Ask::GetReverse, ("users", "id_prefix"), r#"["b"]"#),
+    (Ask::Get, ("users", "id"), r#"[]"#),
+    (Ask::Get, ("users", "age"), r#"[1]"#),
+    (Ask::Get, ("users", "age"), r#"[2]"#),
+    (Ask::Last, ("users", "age"), r#"[3]"#),
+    (Ask::Get, ("notes", "id"), r#"[]"#),
+    (Ask::First, ("notes", "id"), r#"["ab"]"#),
+    (Ask::Get, ("notes", "id_prefix"), r#"["a"]"#),
+];
+
+/// A held watch with a log of its book, and the answer that it was given; seen as the watch.
+#[derive(Drop)]
+pub struct Kept {
+    held: Held,
+    log: Front,
+    told: Vec<u8>,
+}
+
+impl Model for Kept {
+    ghost use Rattle.mem_txn.specs.Held.{HeldWatch};
+    ghost use Rattle.mem_txn.specs.inner.StoredHeld.{held_code};
+    ghost use Rattle.std.specs.Prelude.{◌≡◌};
+
+    ghost Value = { HeldWatch };
+
+    ghost coded = { held_code };
+
+    ghost view = { λ k. k.held };
+
+    ghost invariant = { λ k. let h = k.held in let spot = h.spot in let cell = spot.watch in
+        let log = k.log in cell.book ≡ log.book };
+}
+
+impl Kept {
+    /// Whether its cell has fired.
+    fn is_fired(&self) -> bool {
+        self.held.watch().moved(&self.log).fired
+    }
+}
+
+/// The rows of an answer, one a line.
+fn told_of(alloc: Global, answer: &Answer) -> Result<Vec<u8>, AllocError> {
+    match answer {
+        Answer::Many(rows) => lines_of(alloc, rows),
+        Answer::One(Some(row)) => Ok(row.doc()?),
+        Answer::One(None) => Ok(Vec::new(alloc)),
+    }
+}
+
+/// The watch of a question in a state, whose log is of the same book.
+fn watch_of(alloc: Global, read: &ReadTxn, log: &Front, query: &Query) -> Result<Kept, AllocError>
+    requires { log.now.book ≡ read.now.book }
+{
+    let (answer, held) = watched_of(read, query)?;
+    let told = told_of(alloc, &answer)?;
+    Ok(Kept {
+        held,
+        log: log.share(),
+        told,
+    })
+}
+
+/// The same of a question of the list.
+fn watch_asked(
+    alloc: Global,
+    read: &ReadTxn,
+    log: &Front,
+    asked: &Asked,
+) -> Result<Kept, AllocError>
+    requires { log.now.book ≡ read.now.book }
+{
+    let query = query_of(alloc, asked.0, asked.1, asked.2)?;
+    watch_of(alloc, read, log, &query)
+}
+
+/// Whether a watch has fired exactly where its question has another cell now, and else its answer
+/// is as it was.
+fn is_right(kept: &Kept, next: &Kept) -> bool {
+    let fired = kept.is_fired();
+    fired == (next.held.id() != kept.held.id())
+        && (fired || next.told.as_slice() == kept.told.as_slice())
+}
+
+/// Whether a watch is right. One that has fired is held anew, and so is another where that is said.
+fn is_right_now(alloc: Global, kept: &mut Kept, read: &ReadTxn, log: &Front, anew: bool) -> Told
+    requires { log.now.book ≡ read.now.book }
+{
+    let next = watch_of(alloc, read, log, kept.held.query())?;
+    let right = is_right(kept, &next);
+    if anew || next.held.id() != kept.held.id() {
+        *kept = next;
+    }
+    Ok(right)
+}
+
+/// Whether all watches are right. Those that have fired are held anew, and so is one more.
+fn are_right(
+    alloc: Global,
+    watches: &mut Vec<Kept>,
+    read: &ReadTxn,
+    log: &Front,
+    turn: usize,
+) -> Told
+    requires { log.now.book ≡ read.now.book }
+{
+    for (at, kept) in watches.iter_mut().enumerate() {
+        if !is_right_now(alloc, kept, read, log, at == turn)? {
+            return Ok(false);
+        }
+    }
+    Ok(true)
+}
+
+/// The watches of a state, each question twice.
+fn all_kept(alloc: Global, read: &ReadTxn, log: &Front) -> Result<Vec<Kept>, AllocError>
+    requires { log.now.book ≡ read.now.book }
+{
+    let mut watches = Vec::with_capacity(alloc, 40)?;
+    for at in 0..40 {
+        watches.push(watch_asked(alloc, read, log, &ASKED[at % 20])?)?;
+    }
+    Ok(watches)
+}
+
+/// Whether a read transaction answers as the plain lists, and all watches are right then.
+fn is_right_read(
+    alloc: Global,
+    read: &ReadTxn,
+    plain: &Plain,
+    watches: &mut Vec<Kept>,
+    log: &Front,
+    turn: usize,
+) -> Told
+    requires { log.now.book ≡ read.now.book }
+{
+    Ok(are_read(alloc, read, plain)? && are_right(alloc, watches, read, log, turn)?)
+}
+
+/// Runs a transaction, and tells whether it and the state after it are right.
+fn run_read<R: Wait>(
+    rt: &R,
+    alloc: Global,
+    db: &Db,
+    pass: Pass,
+    drawn: &mut Drawn,
+    watches: &mut Vec<Kept>,
+    log: &Front,
+    turn: usize,
+) -> (Pass, Told)
+    requires own { IsCaller db.now 1 pass }
+    requires log { log.now.book ≡ pass.book }
+    ensures own { IsCaller db.now 1 result.0 }
+    ensures same { let after = result.0 in after.book ≡ pass.book }
+{
+    let (mut pass, told) = run(rt, alloc, db, pass, drawn);
+    if told != Ok(true) {
+        return (pass, told);
+    }
+    let told = match db.read(rt, &mut pass) {
+        Ok(read) => is_right_read(alloc, &read, &drawn.plain, watches, log, turn),
+        Err(_) => Err(AllocError),
+    };
+    (pass, told)
+}
+
+/// Runs transactions, and tells whether all are right.
+fn run_often<R: Wait>(
+    rt: &R,
+    alloc: Global,
+    db: &Db,
+    pass: Pass,
+    drawn: &mut Drawn,
+    watches: &mut Vec<Kept>,
+    log: &Front,
+    count: usize,
+) -> (Pass, Told)
+    requires own { IsCaller db.now 1 pass }
+    requires log { log.now.book ≡ pass.book }
+    ensures own { IsCaller db.now 1 result.0 }
+    ensures same { let after = result.0 in after.book ≡ pass.book }
+{
+    let mut pass = pass;
+    for at in 0..count {
+        let (next, told) = run_read(rt, alloc, db, pass, drawn, watches, log, at % 40);
+        pass = next;
+        match told {
+            Ok(true) => {}
+            told => return (pass, told),
+        }
+    }
+    (pass, Ok(true))
+}
+
+fn second(read: &ReadTxn) -> Result<ReadTxn, AllocError> {
+    read.snapshot()
+}
+
+/// A snapshot of a snapshot.
+fn kept_of<R: Wait>(rt: &R, db: &Db, pass: &mut Pass) -> Result<ReadTxn, AllocError>
+    requires own { IsCaller db.now 1 pass.old }
+    ensures own { IsCaller db.now 1 pass.new }
+    ensures same { pass.new.book ≡ pass.old.book }
+{
+    let read = db.read(rt, pass)?;
+    second(&read.snapshot()?)
+}
+
+/// Runs transactions, and tells whether a snapshot stays as it is over the later ones.
+fn is_kept_long<R: Wait>(
+    rt: &R,
+    alloc: Global,
+    db: &Db,
+    pass: Pass,
+    watches: &mut Vec<Kept>,
+    log: &Front,
+) -> (Pass, Told)
+    requires own { IsCaller db.now 1 pass }
+    requires log { log.now.book ≡ pass.book }
+    ensures { IsCaller db.now 1 result.0 }
+{
+    let mut drawn = Drawn::from(0x9e37_79b9_7f4a_7c15);
+    let (mut pass, first) = run_often(rt, alloc, db, pass, &mut drawn, watches, log, 100);
+    if first != Ok(true) {
+        return (pass, first);
+    }
+    let before = drawn.plain;
+    let kept = match kept_of(rt, db, &mut pass) {
+        Ok(kept) => kept,
+        Err(_) => return (pass, Err(AllocError)),
+    };
+    let (pass, next) = run_often(rt, alloc, db, pass, &mut drawn, watches, log, 2_000);
+    match next {
+        Ok(true) => (pass, are_read(alloc, &kept, &before)),
+        told => (pass, told),
+    }
+}
+
+/// Holds watches of the state after the first commit, and runs on.
+fn run_watched<R: Wait>(rt: &R, alloc: Global, db: &Db, pass: Pass, log: &Front) -> (Pass, Told)
+    requires own { IsCaller db.now 1 pass }
+    requires log { log.now.book ≡ pass.book }
+    ensures { IsCaller db.now 1 result.0 }
+{
+    let (pass, watches) = first_watches(rt, alloc, db, pass, log);
+    match watches {
+        Ok(watches) => {
+            let mut watches = watches;
+            is_kept_long(rt, alloc, db, pass, &mut watches, log)
+        }
+        Err(_) => (pass, Err(AllocError)),
+    }
+}
+
+fn first_watches<R: Wait>(
+    rt: &R,
+    alloc: Global,
+    db: &Db,
+    pass: Pass,
+    log: &Front,
+) -> (Pass, Result<Vec<Kept>, AllocError>)
+    requires own { IsCaller db.now 1 pass }
+    requires log { log.now.book ≡ pass.book }
+    ensures own { IsCaller db.now 1 result.0 }
+    ensures same { let after = result.0 in after.book ≡ pass.book }
+{
+    let mut pass = pass;
+    let watches = match db.read(rt, &mut pass) {
+        Ok(read) => all_kept(alloc, &read, log),
+        Err(_) => Err(AllocError),
+    };
+    (pass, watches)
+}
+
+/// Makes the first commit, and runs on with its log.
+fn run_all<R: Wait>(rt: &R, alloc: Global, db: &Db, pass: Pass) -> (Pass, Told)
+    requires own { IsCaller db.now 1 pass }
+    ensures { IsCaller db.now 1 result.0 }
+{
+    let (pass, first) = commit_all(rt, alloc, db, pass, &[]);
+    match first {
+        Ok(receipt) => run_watched(rt, alloc, db, pass, &receipt.log),
+        Err(_) => (pass, Err(AllocError)),
+    }
+}
+
+/// Whether a long run in a new database is right.
+fn is_always_right<R: Wait>(rt: &R, alloc: Global) -> Told {
+    let (db, passes, pass) = opened(alloc)?;
+    let (pass, told) = run_all(rt, alloc, &db, pass);
+    drop(closed(rt, db, passes, pass));
+    told
+}
+
+#[test]
+fn a_long_run_is_as_on_plain_lists_and_fires_the_cells_that_are_gone(
+    rt: HostRuntime,
+) -> Result<(), Fail> {
+    assert!(rt; is_always_right(&rt, rt.alloc())?);
+    Ok(())
+}
