@@ -1,5 +1,5 @@
 -- A question's cell that no commit fires guards its answer.
-use Rattle.std.proofs.Common.{◌≡◌, ◌∙◌, ◌+◌, ◌-◌, ◌≤◌, ℕ, zero, suc, Bool, true, false, List, length, Option, Some, None, Ok, Err, inl, inr, refl, sym, ap, subst, arith}
+use Rattle.std.proofs.Common.{◌≡◌, ◌∙◌, ◌+◌, ◌-◌, ◌≤◌, ◌<◌, ℕ, zero, suc, Bool, true, false, List, length, Option, Some, None, Ok, Err, inl, inr, refl, sym, ap, subst, arith}
 use Rattle.std.specs.Prelude.{◌⊎◌, if◌then◌else◌}
 use Rattle.db_front.specs.Passes.{Known}
 use Rattle.mdb_datum.specs.Row.{Fields}
@@ -9,18 +9,19 @@ use Rattle.mdb_schema.specs.Query.{Query}
 use Rattle.mdb_schema.specs.Schema.{DbSchema, TableSchema}
 use Rattle.mdb_schema.specs.State.{State, Table}
 use Rattle.mdb_schema.specs.Tests.{◌>>=◌, needed}
+use Rattle.mdb_schema.specs.Touched.{rows_written}
 use Rattle.mdb_schema.proofs.Tables.{table_at-some}
 use Rattle.table_index.specs.Spot.{SpotOf}
 use Rattle.table_index.specs.Table.{TableRows}
-use Rattle.table_index.specs.Watched.{FiresAt, QuestionsHold, is_watchable, looks_up}
+use Rattle.table_index.specs.Watched.{FiresAt, QuestionsHold, cell_of, is_watchable, looks_up}
 use Rattle.watch_word.specs.Logs.{Cell, Log, has_fired}
 use Rattle.mem_txn.specs.CellHistory.{CellHistory, FiresIn, Forest, HasFirings, IsUnfired, WatchesHold, asked_in, cell_at, looked_up, question_cell, state_after, table_in, trees_after}
 use Rattle.mem_txn.specs.Database.{cells_seen}
 use Rattle.mem_txn.specs.Transactions.{TellsChanges}
 use Rattle.mem_txn.specs.inner.Steps.{AreSteps, AreTableSteps, tables_with}
 use Rattle.mem_txn.specs.inner.Versions.{IsBegun, Version, Versions, caller_of}
-use Rattle.mem_txn.proofs.StepAtPlace.{becomes, named_there}
-use Rattle.mem_txn.proofs.ValuesAlong.{cells_in, step_after}
+use Rattle.mem_txn.proofs.StepAtPlace.{Becomes, becomes, named_there}
+use Rattle.mem_txn.proofs.ValuesAlong.{StepAfter, cells_in, step_after}
 
 -- ---- one table
 
@@ -29,11 +30,17 @@ pub watched_if : (b : Bool) (x : Option Cell) (c : Cell) → (if b then x else N
 watched_if true x c e = (refl, e)
 watched_if false x c e = cc
 
--- in the table of one name: the cell is gone from a tree, or it is found again with the same answer
+-- the cell of a question is gone from the tree where it is looked up
+pub record FiresThere (t u : TableRows) (q : Query) (c : Cell) : Type 0 where
+  pub at : Lookup
+  pub looked : lookup_of t.schema q ≡ Ok at
+  pub cell : cell_of t.trees at.place (looks_up at.index q) at.key ≡ Some c
+  pub fires : FiresAt at.place c t.trees u.trees
+
+-- in the table of one name: the cell is gone from that tree, or it is found again with the same answer
 Holds : TableRows → TableRows → Query → Cell → Asked Lookup → Type 0
 Holds t u q c told =
-    ((index : ℕ) × FiresAt index c t.trees u.trees)
-    ⊎ ((looked_up u.trees q told ≡ Some c) × (ask_rows u.schema u.rows q ≡ ask_rows t.schema t.rows q))
+    FiresThere t u q c ⊎ ((looked_up u.trees q told ≡ Some c) × (ask_rows u.schema u.rows q ≡ ask_rows t.schema t.rows q))
 
 -- a question that is watched in the one table holds in the other so
 holds_at : (t u : TableRows) (q : Query) (c : Cell) (told : Asked Lookup) → lookup_of t.schema q ≡ told → looked_up t.trees q told ≡ Some c → is_watchable q.ask ≡ true → QuestionsHold t u → Holds t u q c told
@@ -42,7 +49,7 @@ holds_at t u q c (Err why) is e watched holds = cc
 holds_at t u q c (Ok at) is e watched holds =
     let s : SpotOf = record { index = at.place; key = at.key; exact = looks_up at.index q; watch = c } in
     elim (holds q s watched (record { at = at; looked = is; index = refl; key = refl; exact = refl; cell = e })) [
-      | inl fires ↦ inl (at.place, fires)
+      | inl fires ↦ inl (record { at = at; looked = is; cell = e; fires = fires })
       | inr same ↦ inr same
     ]
 
@@ -61,6 +68,13 @@ asked_of db s forest q t e =
 
 -- ---- one commit
 
+-- a commit fires the cell of a question where that is looked up
+pub record FiresLooked (first : ℕ) (rows : Bytes → List Fields) (db : DbSchema) (old new : State) (forest later : Forest) (q : Query) (c : Cell) : Type 0 where
+  pub table : TableRows
+  pub named : table_in db old forest q.table ≡ Some table
+  pub next : Becomes first (rows table.schema.name) db new forest later q.table table
+  pub gone : let b = next in FiresThere table b.after q c
+
 module _ (first : ℕ) (rows : Bytes → List Fields) (db : DbSchema) (old new : State) (forest later : Forest) (steps : AreTableSteps first rows (tables_with db old forest) (tables_with db new later)) (q : Query) (c : Cell) where
   -- the cell of the table of its name is that of the question
   found_again : (t u : TableRows) → is_watchable q.ask ≡ true → table_in db new later q.table ≡ Some u → u.schema ≡ t.schema → looked_up u.trees q (lookup_of t.schema q) ≡ Some c → question_cell db new later q ≡ Some c
@@ -68,16 +82,31 @@ module _ (first : ℕ) (rows : Bytes → List Fields) (db : DbSchema) (old new :
       ap (λ (b : Bool). if b then asked_in q (table_in db new later q.table) else None) watched
       ∙ (ap (asked_in q) there ∙ (ap (λ (z : TableSchema). looked_up u.trees q (lookup_of z q)) same ∙ e))
 
-  -- a question's cell that the commit doesn't fire is its cell still, and it is answered as before
-  pub holds_once : question_cell db old forest q ≡ Some c → (FiresIn forest later c → ⊥) → (question_cell db new later q ≡ Some c) × (ask db new q ≡ ask db old q)
+  -- the cell is gone from a tree then
+  pub fires_in : FiresLooked first rows db old new forest later q c → FiresIn forest later c
+  fires_in f =
+      let b = f.next in
+      let gone = f.gone in
+      record {
+        table = b.place;
+        index = gone.at.place;
+        before = f.table.trees;
+        after = b.after.trees;
+        was = b.was;
+        now = b.is;
+        fires = gone.fires;
+      }
+
+  -- the commit fires a question's cell, or that is its cell still, and it is answered as before
+  pub fires_or_holds : question_cell db old forest q ≡ Some c → FiresLooked first rows db old new forest later q c ⊎ ((question_cell db new later q ≡ Some c) × (ask db new q ≡ ask db old q))
   unfolding Holds
-  holds_once e quiet =
+  fires_or_holds e =
       let w = watched_if (is_watchable q.ask) (asked_in q (table_in db old forest q.table)) c e in
       let at = table_of q (table_in db old forest q.table) c w.1 in
       let b = becomes first rows db old new forest later q.table at.0 steps at.1 in
       elim (holds_at at.0 b.after q c (lookup_of at.0.schema q) refl at.2 w.0 b.step.questions) [
-        | inl fires ↦ absurd (quiet (record { table = b.place; index = fires.0; before = at.0.trees; after = b.after.trees; was = b.was; now = b.is; fires = fires.1 }))
-        | inr same ↦ (found_again at.0 b.after w.0 b.there b.same same.0, asked_of db new later q b.after b.there ∙ (same.1 ∙ sym (asked_of db old forest q at.0 at.1)))
+        | inl gone ↦ inl (record { table = at.0; named = at.1; next = b; gone = gone })
+        | inr same ↦ inr (found_again at.0 b.after w.0 b.there b.same same.0, asked_of db new later q b.after b.there ∙ (same.1 ∙ sym (asked_of db old forest q at.0 at.1)))
       ]
 
 -- ---- one commit after another
@@ -91,22 +120,48 @@ module _ (h : Versions) (begun : IsBegun h) (steps : AreSteps h) (q : Query) (v 
   abbrev IsSame : ℕ → Type 0
   IsSame n = (cell_at J q n ≡ Some c) × (ask J.schema (state_after J n) q ≡ ask J.schema (state_after J v) q)
 
+  -- the first of n commits that fires the cell where the question is looked up
+  pub record IsFiredFirst (n : ℕ) : Type 0 where
+    pub before : ℕ
+    pub since : v ≤ before
+    pub reached : before < n
+    pub same : IsSame before
+    pub step : StepAfter h before
+    pub fired : let s = step in
+        FiresLooked s.old.1.ids.next (rows_written J.schema (state_after J before) s.new.1.writes) J.schema (state_after J before) (state_after J (suc before)) (trees_after J before) (trees_after J (suc before)) q c
+
   -- commit after commit
-  pub same_after : (k : ℕ) → v + k ≤ length J.commits → IsUnfired J c v (v + k) → IsSame (v + k)
-  same_after zero within quiet = subst IsSame (search arith) (there, refl)
-  same_after (suc k) within quiet =
+  fired_or_same : (k : ℕ) → v + k ≤ length J.commits → IsFiredFirst (v + k) ⊎ IsSame (v + k)
+  fired_or_same zero within = inr (subst IsSame (search arith) (there, refl))
+  fired_or_same (suc k) within =
       let n = v + k in
       let next : suc n ≡ v + suc k = search arith in
-      let before = same_after k (omega (arith, within)) (λ j low high. quiet j low (omega (arith, high))) in
-      let s = step_after h begun steps n (omega (arith, within)) in
-      let once = holds_once s.old.1.ids.next _ J.schema (state_after J n) (state_after J (suc n)) (trees_after J n) (trees_after J (suc n)) s.tables q c before.0 (quiet n (omega arith) (omega arith)) in
-      subst IsSame next (once.0, once.1 ∙ before.1)
+      elim (fired_or_same k (omega (arith, within))) [
+        | inl f ↦ let less = f.reached in inl (record { before = f.before; since = f.since; reached = omega (arith, less); same = f.same; step = f.step; fired = f.fired })
+        | inr same ↦ let s = step_after h begun steps n (omega (arith, within)) in
+            elim (fires_or_holds s.old.1.ids.next (rows_written J.schema (state_after J n) s.new.1.writes) J.schema (state_after J n) (state_after J (suc n)) (trees_after J n) (trees_after J (suc n)) s.tables q c same.0) [
+              | inl f ↦ inl (record { before = n; since = omega arith; reached = omega arith; same = same; step = s; fired = f })
+              | inr again ↦ inr (subst IsSame next (again.0, again.1 ∙ same.1))
+            ]
+      ]
 
   -- at each commit from the first one on
-  pub same_until : (n : ℕ) → v ≤ n → n ≤ length J.commits → IsUnfired J c v n → IsSame n
-  same_until n low high quiet =
+  fired_until : (n : ℕ) → v ≤ n → n ≤ length J.commits → IsFiredFirst n ⊎ IsSame n
+  fired_until n low high =
       let is : v + (n - v) ≡ n = omega (arith, low) in
-      subst IsSame is (same_after (n - v) (omega (arith, is, high)) (λ j from to. quiet j from (omega (arith, is, to))))
+      subst (λ (m : ℕ). IsFiredFirst m ⊎ IsSame m) is (fired_or_same (n - v) (omega (arith, is, high)))
+
+  -- the cell of a question that no commit fires stays
+  pub same_until : (n : ℕ) → v ≤ n → n ≤ length J.commits → IsUnfired J c v n → IsSame n
+  same_until n low high quiet = elim (fired_until n low high) [
+    | inl f ↦ let s = f.step in
+        absurd (quiet f.before f.since f.reached (fires_in s.old.1.ids.next (rows_written J.schema (state_after J f.before) s.new.1.writes) J.schema (state_after J f.before) (state_after J (suc f.before)) (trees_after J f.before) (trees_after J (suc f.before)) s.tables q c f.fired))
+    | inr same ↦ same
+  ]
+
+  -- a question that has another cell lost its own at one of them
+  pub fired_first : (n : ℕ) → v ≤ n → n ≤ length J.commits → (cell_at J q n ≡ Some c → ⊥) → IsFiredFirst n
+  fired_first n low high moved = elim (fired_until n low high) [ inl f ↦ f | inr same ↦ absurd (moved same.0) ]
 
 -- a question's cell that no later commit fires is its cell still, and its answer is unchanged
 pub watches_hold : (k : Known Version) → IsBegun k.seen → AreSteps k.seen → WatchesHold (cells_seen (caller_of k))

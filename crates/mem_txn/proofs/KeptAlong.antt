@@ -32,7 +32,7 @@ use Rattle.mem_txn.proofs.ValuesAlong.{StepAfter, cells_in, forest_of, one_more,
 -- ---- lists by place
 
 -- what holds of all holds at a place
-all_at : {A : Type 0} (P : A → Type 0) (xs : List A) (at : ℕ) (x : A) → All P xs → slice_get xs at ≡ Some x → P x
+pub all_at : {A : Type 0} (P : A → Type 0) (xs : List A) (at : ℕ) (x : A) → All P xs → slice_get xs at ≡ Some x → P x
 all_at P xs at x all e = subst P (get_or_from_slice_get xs at x x e) (all at x (slice_get_within xs at x e))
 
 -- a state of a schema has rows at each place of it
@@ -43,7 +43,7 @@ rows_there (u ∷ db) (rows ∷ s) zero t lawful e = (rows, refl)
 rows_there (u ∷ db) (rows ∷ s) (suc place) t lawful e = rows_there db s place t lawful.1 e
 
 -- the tree of an index keeps what isn't touched
-kept_at : (kind : IndexSchema → Bytes → Type 0) (is : List IndexSchema) (olds news : List CellTree) (index : ℕ) (i : IndexSchema) (old new : CellTree) → EachKept kind is olds news
+pub kept_at : (kind : IndexSchema → Bytes → Type 0) (is : List IndexSchema) (olds news : List CellTree) (index : ℕ) (i : IndexSchema) (old new : CellTree) → EachKept kind is olds news
     → slice_get is index ≡ Some i → slice_get olds index ≡ Some old → slice_get news index ≡ Some new → KeptBut (kind i) old new
 kept_at kind [] olds news index i old new kept e f g = cc
 kept_at kind (j ∷ is) [] news index i old new kept e f g = cc

@@ -12,6 +12,7 @@ pub mod IdsCounted
 pub mod KeptAlong
 pub mod ListLoops
 pub mod LooksTold
+pub mod MovesTouched
 pub mod NextVersions
 pub mod OneHistory
 pub mod RowsAdded

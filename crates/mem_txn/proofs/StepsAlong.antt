@@ -25,7 +25,7 @@ use Rattle.mem_txn.specs.CellHistory.{FiresIn, forest_or_none, trees_after}
 use Rattle.mem_txn.specs.Database.{Reading, View, cells_seen, reading_of, view_after}
 use Rattle.mem_txn.specs.inner.Commits.{IsNext}
 use Rattle.mem_txn.specs.inner.Firing.{AreGone}
-use Rattle.mem_txn.specs.inner.Steps.{AreSteps, HasFired, IsStep, tables_with}
+use Rattle.mem_txn.specs.inner.Steps.{AreSteps, HasFired, IsStep, tables_of}
 use Rattle.mem_txn.specs.inner.VersionTables.{AreWithin}
 use Rattle.mem_txn.specs.inner.Versions.{AreFew, Forest, IsBegun, IsBookOf, StandsFor, Version, Versions, book_in, caller_of, history_in, opening, schema_in}
 use Rattle.mem_txn.proofs.OneHistory.{begun_longer, book_longer, history_length, next_in, schema_longer, trees_in, writes_in-more}
@@ -117,8 +117,8 @@ module _ (h : Versions) (c : ℕ) (v : Version) (begun : IsBegun h) where
     base_at = ap (λ (g : Versions). slice_get g (length r)) last ∙ at_last r (d, base)
 
     -- a step more
-    pub steps_more : AreSteps h → v.view ≡ view_after (schema_in more) (history_in more) → All (AreWithin v.ids) v.trees → IsStep base v → AreSteps more
-    steps_more steps view within step = record {
+    pub steps_more : AreSteps h → v.view ≡ view_after (schema_in more) (history_in more) → All (AreWithin v.ids) v.trees → All HoldsRows (tables_of v) → IsStep base v → AreSteps more
+    steps_more steps view within held step = record {
       views = λ n e there. ⊎_elim
           (λ p. view_more n e.1 p.0 (steps.views n e p.1))
           (λ p. ap (λ (x : ℕ × Version). x.1.view) p.1 ∙ view_last view n p.0)
@@ -126,6 +126,10 @@ module _ (h : Versions) (c : ℕ) (v : Version) (begun : IsBegun h) where
       within = λ n e there. ⊎_elim
           (λ p. steps.within n e p.1)
           (λ p. subst (λ (x : ℕ × Version). All (AreWithin x.1.ids) x.1.trees) (sym p.1) within)
+          (before_or_last h (c, v) e n there);
+      held = λ n e there. ⊎_elim
+          (λ p. steps.held n e p.1)
+          (λ p. subst (λ (x : ℕ × Version). All HoldsRows (tables_of x.1)) (sym p.1) held)
           (before_or_last h (c, v) e n there);
       books = λ n e there. ⊎_elim
           (λ p. book_longer h more e.1.ids.book (steps.books n e p.1) longer)
@@ -204,16 +208,17 @@ module _ (schema : DbSchema) (trees : Forest) (ids : Counter) (within : All (Are
   only (suc n) e there = absurd (cc there)
 
   -- no steps so far
-  pub steps_begin : AreSteps ((0, first) ∷ [])
-  steps_begin = record {
+  pub steps_begin : All HoldsRows (tables_of first) → AreSteps ((0, first) ∷ [])
+  steps_begin held = record {
     views = λ n e there. let is = only n e there in subst (λ (x : ℕ × Version). x.1.view ≡ view_after schema (take n [])) (sym is.1) (subst (λ (m : ℕ). first.view ≡ view_after schema (take m [])) (sym is.0) refl);
     within = λ n e there. subst (λ (x : ℕ × Version). All (AreWithin x.1.ids) x.1.trees) (sym (only n e there).1) within;
+    held = λ n e there. subst (λ (x : ℕ × Version). All HoldsRows (tables_of x.1)) (sym (only n e there).1) held;
     books = λ n e there. ap (λ (x : ℕ × Version). x.1.ids.book) (only n e there).1;
     steps = λ n e f here there. absurd (cc there);
   }
 
   -- the opening value stands for no commits
-  pub opening_stands : All HoldsRows (tables_with first.view.schema first.view.state trees) → ids.next ≤ 2 ^ 11 → StandsFor ((0, first) ∷ []) first
+  pub opening_stands : All HoldsRows (tables_of first) → ids.next ≤ 2 ^ 11 → StandsFor ((0, first) ∷ []) first
   opening_stands held few = record {
     begun = refl;
     last = (0, [], refl);
@@ -222,7 +227,7 @@ module _ (schema : DbSchema) (trees : Forest) (ids : Counter) (within : All (Are
     within = within;
     held = held;
     few = omega (arith, few);
-    steps = steps_begin;
+    steps = steps_begin held;
   }
 
   -- any log of the book serves it
@@ -252,7 +257,7 @@ next_stands k base v stands next =
       within = next.within;
       held = next.held;
       few = subst (λ (n : ℕ). AreFew n v.ids) writes next.few;
-      steps = steps_more h k.number v begun stands.last.1 stands.last.0 base stands.last.2 stands.steps view next.within next.step;
+      steps = steps_more h k.number v begun stands.last.1 stands.last.0 base stands.last.2 stands.steps view next.within next.held next.step;
     }
 
 -- ---- the cells that a commit fires

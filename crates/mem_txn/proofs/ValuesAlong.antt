@@ -1,11 +1,13 @@
 -- What stands after each commit of a list of values, and the step from there.
 use Rattle.std.proofs.Common.{◌≡◌, ◌∙◌, ◌<◌, ℕ, suc, List, [], ◌∷◌, map, length, take, Some, option_map, slice_get, sym, ap, subst, arith}
+use Rattle.std.specs.Prelude.{All}
 use Rattle.std.proofs.lemmas.List.{length-map}
 use Rattle.std.proofs.lemmas.Option.{slice_get-map}
 use Rattle.mdb_schema.specs.Schema.{DbSchema}
 use Rattle.mdb_schema.specs.State.{State}
 use Rattle.mdb_schema.specs.Touched.{rows_written}
 use Rattle.mdb_schema.specs.Write.{Write}
+use Rattle.table_index.specs.Watched.{HoldsRows}
 use Rattle.table_index.proofs.WipeSteps.{there_within}
 use Rattle.mem_txn.specs.CellHistory.{CellHistory, Forest, forest_or_none, state_after, trees_after}
 use Rattle.mem_txn.specs.Database.{View}
@@ -58,6 +60,14 @@ Grows first ws a b = AreTableSteps first (rows_written a.0 a.1.0 ws) (tables_wit
 -- what stands after n commits
 abbrev after : Versions → ℕ → Standing
 after h n = (schema_in h, (state_after (cells_in h) n, trees_after (cells_in h) n))
+
+-- whose tables are in trees that hold their rows
+pub held_after : (h : Versions) → AreSteps h → (n : ℕ) (e : ℕ × Version) → slice_get h n ≡ Some e → All HoldsRows (tables_with (schema_in h) (state_after (cells_in h) n) (trees_after (cells_in h) n))
+held_after h steps n e at =
+    let is = stands_at h steps n e at in
+    let x : Standing = (e.1.view.schema, (e.1.view.state, e.1.trees)) in
+    let same : x ≡ after h n = (λ i. (is.schema i, (is.state i, is.trees i))) in
+    subst (λ (z : Standing). All HoldsRows (tables_with z.0 z.1.0 z.1.1)) same (steps.held n e at)
 
 -- the step of the commit behind n others
 pub record StepAfter (h : Versions) (n : ℕ) : Type 0 where

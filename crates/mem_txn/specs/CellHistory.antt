@@ -9,6 +9,7 @@ use Rattle.mdb_schema.specs.Query.{Query}
 use Rattle.mdb_schema.specs.Schema.{DbSchema, IndexSchema, TableSchema}
 use Rattle.mdb_schema.specs.State.{State, Table, table_at}
 use Rattle.mdb_schema.specs.Touched.{Touch}
+use Rattle.mdb_schema.specs.Watchable.{IsTouched}
 use Rattle.radix_node.specs.Cells.{CellLeaf, CellTree, cells_of, leaves_of}
 use Rattle.radix_node.specs.Paths.{Has}
 use Rattle.table_index.specs.Table.{TableRows}
@@ -101,6 +102,13 @@ abbrev pub WatchesHold : CellHistory → Type 0
 WatchesHold J =
     (q : Query) (v n : ℕ) (c : Cell) → v ≤ n → n ≤ length J.commits → cell_at J q v ≡ Some c
     → IsUnfired J c v n → (cell_at J q n ≡ Some c) × IsGuarded J.schema J.commits q v n
+
+-- Where a question's cell has moved, one of the commits since has touched a full key of its index,
+-- and that entry's own where the question looks up one and had found it.
+abbrev pub MovesAreTouches : CellHistory → Type 0
+MovesAreTouches J =
+    (q : Query) (v n : ℕ) (c : Cell) → v ≤ n → n ≤ length J.commits → cell_at J q v ≡ Some c
+    → (cell_at J q n ≡ Some c → ⊥) → IsTouched J.schema J.commits q v n
 
 -- what a tree keeps where keys of a kind were touched, and no others: all its cells, if none was,
 -- and the leaf of each other key

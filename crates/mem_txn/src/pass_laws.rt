@@ -1,6 +1,6 @@
 //! What is known of every pass, as laws of the definitions. The functions do nothing: their
 //! contracts are the laws.
-ghost use Rattle.mem_txn.specs.CellHistory.{AreComplete, KeepUntouched, StayAway, WatchesHold};
+ghost use Rattle.mem_txn.specs.CellHistory.{AreComplete, KeepUntouched, MovesAreTouches, StayAway, WatchesHold};
 ghost use Rattle.mem_txn.specs.Checked.{AskedIsHeld, HeldLonger, HeldStays};
 ghost use Rattle.mem_txn.specs.Database.{cells_seen};
 
@@ -17,6 +17,13 @@ pub fn watches_hold(pass: &Pass)
 /// Each commit that a pass has seen keeps the cells that its writes don't touch.
 pub fn untouched_is_kept(pass: &Pass)
     ensures { KeepUntouched (cells_seen pass.now) }
+{
+    let _ = pass.token.number();
+}
+
+/// Where a question's cell has moved, a commit since has touched what the question looks at.
+pub fn moves_are_touches(pass: &Pass)
+    ensures { MovesAreTouches (cells_seen pass.now) }
 {
     let _ = pass.token.number();
 }

@@ -6,7 +6,7 @@ use Rattle.mdb_schema.specs.Schema.{DbSchema}
 use Rattle.mdb_schema.specs.State.{State}
 use Rattle.mdb_schema.specs.Touched.{rows_written}
 use Rattle.table_index.specs.Table.{TableRows}
-use Rattle.table_index.specs.Watched.{QuestionsHold}
+use Rattle.table_index.specs.Watched.{HoldsRows, QuestionsHold}
 use Rattle.table_index.specs.Written.{EachKept, IsKeyOf}
 use Rattle.watch_word.specs.Logs.{Cell, Log, has_fired}
 use Rattle.mem_txn.specs.CellHistory.{FiresIn, Forest}
@@ -45,12 +45,13 @@ pub record IsStep (old new : Version) : Type 0 where
   -- each table of the schema had its trees, and there were no others
   pub planted : let v = old.view in length old.trees ≡ length v.schema
 
--- each value of a list is the state after the commits before it, and what its writes make of the
--- value before it
+-- each value of a list is the state after the commits before it, in trees that hold its rows, and
+-- what its writes make of the value before it
 pub record AreSteps (h : Versions) : Type 0 where
   pub views : (n : ℕ) (e : ℕ × Version) → slice_get h n ≡ Some e
       → e.1.view ≡ view_after (schema_in h) (take n (history_in h))
   pub within : (n : ℕ) (e : ℕ × Version) → slice_get h n ≡ Some e → All (AreWithin e.1.ids) e.1.trees
+  pub held : (n : ℕ) (e : ℕ × Version) → slice_get h n ≡ Some e → All HoldsRows (tables_of e.1)
   pub books : (n : ℕ) (e : ℕ × Version) → slice_get h n ≡ Some e → IsBookOf h e.1.ids.book
   pub steps : (n : ℕ) (e f : ℕ × Version) → slice_get h n ≡ Some e → slice_get h (suc n) ≡ Some f
       → IsStep e.1 f.1

@@ -27,7 +27,8 @@ pub invariant_of-result : goal.invariant_of-result
 invariant_of-result c =
     let value : arc_value c.in_ok-value.value ≡ opening c.args.schema c.in_ok-view.view.trees c.empty.new.ids = c.in_ok-value.ensures.ok ∙ c.opening.ensures ∙ ap (λ (v : View). let r : Version = record { view = v; trees = c.in_ok-view.view.trees; writes = []; ids = c.empty.new.ids } in r) c.in_ok-view.ensures.view in
     let made = ap (λ (h : Held Version). h.passes) c.in_ok-shared.ensures.passes ∙ ap (λ (v : Version). all_fresh c.in_ok-shared.shared.table v c.args.callers) value in
-    subst AreTokens (sym made) (fresh_tokens c.in_ok-shared.shared.table c.args.schema c.in_ok-view.view.trees c.empty.new.ids (steps_begin c.args.schema c.in_ok-view.view.trees c.empty.new.ids c.in_ok-view.ensures.within) c.args.callers c.requires.1)
+    let held = subst (λ (v : View). All HoldsRows (tables_with v.schema v.state c.in_ok-view.view.trees)) c.in_ok-view.ensures.view c.in_ok-view.ensures.held in
+    subst AreTokens (sym made) (fresh_tokens c.in_ok-shared.shared.table c.args.schema c.in_ok-view.view.trees c.empty.new.ids (steps_begin c.args.schema c.in_ok-view.view.trees c.empty.new.ids c.in_ok-view.ensures.within held) c.args.callers c.requires.1)
 
 pub returns-clause-passes : goal.returns-clause-passes
 returns-clause-passes c =
