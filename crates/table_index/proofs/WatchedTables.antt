@@ -1,6 +1,6 @@
 -- Of two tables in whose trees what is watched holds: what holds for the questions of a table.
 use Rattle.std.proofs.Common.{◌≡◌, ◌∙◌, ◌&&◌, ◌⊎◌, ℕ, List, [], ◌∷◌, Bool, true, false, map, Some, option_map, Ok, slice_get, refl, sym, ap, subst, inl, inr, arith}
-use Rattle.std.specs.Prelude.{reverse}
+use Rattle.std.specs.Prelude.{All, reverse}
 use Rattle.std.proofs.lemmas.List.{length-map}
 use Rattle.std.proofs.lemmas.Option.{get_or_from_slice_get, slice_get-map}
 use Rattle.mdb_datum.specs.Pairs.{first_item, last_item, rows_of, with_prefix}
@@ -18,7 +18,7 @@ use Rattle.mdb_schema.specs.declared.ask.Ask.{Ask}
 use Rattle.mdb_schema.specs.declared.ask.Ask.TheVariants.{First, Last, Get, GetReverse, Lower, ReverseLower, Longest}
 use Rattle.mdb_schema.proofs.EntriesOfRows.{sorted-entries}
 use Rattle.mdb_schema.proofs.PassedTests.{goes_on}
-use Rattle.radix_node.specs.Cells.{CellTree, plain_of}
+use Rattle.radix_node.specs.Cells.{AreApart, CellTree, plain_of}
 use Rattle.radix_node.specs.Nodes.{pairs_of}
 use Rattle.radix_node.specs.Pairs.{IsRising, find}
 use Rattle.radix_node.specs.Watches.{WatchesHold}
@@ -154,12 +154,12 @@ questions_hold t old new held_old held_new notices frozen q s may spot =
 
 -- ---- a table by its rows
 
-pairs-plains : (trees : List CellTree) → map (λ (x : CellTree). pairs_of (plain_of x)) trees ≡ map pairs_of (plains trees)
+pub pairs-plains : (trees : List CellTree) → map (λ (x : CellTree). pairs_of (plain_of x)) trees ≡ map pairs_of (plains trees)
 pairs-plains [] = refl
 pairs-plains (x ∷ trees) = ap (λ (es : List (List Pair)). pairs_of (plain_of x) ∷ es) (pairs-plains trees)
 
-pub holds_rows : (t : TableSchema) (trees : List CellTree) → AreTrees t (plains trees) → HoldsRows (record { schema = t; rows = rows_held t (plains trees); trees = trees })
-holds_rows t trees held = record { lawful = held.lawful; held = pairs-plains trees ∙ held.held }
+pub holds_rows : (t : TableSchema) (trees : List CellTree) → AreTrees t (plains trees) → All AreApart trees → HoldsRows (record { schema = t; rows = rows_held t (plains trees); trees = trees })
+holds_rows t trees held apart = record { lawful = held.lawful; held = pairs-plains trees ∙ held.held; apart = apart }
 
 module _ (t : TableSchema) (table : IsLawfulTable t) (old new : List CellTree) (held_new : AreTrees t (plains new)) (notices : List (List Cell)) (frozen : AreFrozen notices old new)
     (was : TableRows) (schema : was.schema ≡ t) (trees : was.trees ≡ old) (holds : HoldsRows was) where

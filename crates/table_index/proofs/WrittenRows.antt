@@ -23,7 +23,6 @@ use Rattle.radix_node.specs.Cells.{CellTree, plain_of}
 use Rattle.radix_node.specs.Nodes.{pairs_of}
 use Rattle.radix_txn.specs.Txn.{Txn, txn_pairs}
 use Rattle.table_index.specs.Table.{TableChange, TableRows}
-use Rattle.table_index.specs.Watched.{HoldsRows}
 use Rattle.table_index.specs.Written.{EachWrote, IsKeyOf, KeepsOthers, row_there, rows_put}
 use Rattle.table_index.specs.inner.Held.{AreSound, AreTrees, nodes_of, rows_held, starts_of, trees_of}
 use Rattle.table_index.specs.inner.PutKeys.{IsAccepted, keys_of_each}
@@ -174,8 +173,9 @@ keeps_others change trees is rows wrote =
     (subst (λ (ts : List CellTree). EachWrote (IsKeyOf change.schema rows) change.schema.indexes change.start ts) (sym is) wrote)
 
 -- a table that isn't changed yet
-pub nothing_yet : (t : TableRows) → HoldsRows t → EachWrote (IsKeyOf t.schema []) t.schema.indexes t.trees t.trees
-nothing_yet t holds =
+pub nothing_yet : (t : TableRows) → map (λ (x : CellTree). pairs_of (plain_of x)) t.trees ≡ map (λ (i : IndexSchema). entries t.schema i t.rows) t.schema.indexes
+    → EachWrote (IsKeyOf t.schema []) t.schema.indexes t.trees t.trees
+nothing_yet t held =
     let count : length t.trees ≡ length t.schema.indexes =
-    sym (length-map t.trees (λ (x : CellTree). pairs_of (plain_of x))) ∙ ap length holds.held ∙ length-map t.schema.indexes (λ (i : IndexSchema). entries t.schema i t.rows) in
+    sym (length-map t.trees (λ (x : CellTree). pairs_of (plain_of x))) ∙ ap length held ∙ length-map t.schema.indexes (λ (i : IndexSchema). entries t.schema i t.rows) in
     nothing_wrote (IsKeyOf t.schema []) t.schema.indexes t.trees count

@@ -1,6 +1,6 @@
 -- Questions that are watched: which they are, and the cell that tells when an answer may have
 -- changed.
-use Rattle.std.specs.Prelude.{◌≡◌, ◌⊎◌, ℕ, List, Bool, true, false, if◌then◌else◌, map, Option, Some, option_map, slice_get}
+use Rattle.std.specs.Prelude.{◌≡◌, ◌⊎◌, ℕ, List, All, Bool, true, false, if◌then◌else◌, map, Option, Some, option_map, slice_get}
 use Rattle.std.specs.Prelude.{Result, Ok, Err, MatchResult}
 use Rattle.mdb_encode.specs.Bytes.{Bytes}
 use Rattle.mdb_schema.specs.Answer.{Asked, Lookup, ask_rows, lookup_of}
@@ -12,7 +12,7 @@ pub use Rattle.mdb_schema.specs.Watchable.{is_for_one, is_watchable, looks_up}
 use Rattle.mdb_schema.specs.declared.answer.Answer.{Answer}
 use Rattle.mdb_schema.specs.declared.ask_error.AskError.{AskError}
 use Rattle.mdb_schema.specs.declared.ask_error.AskError.TheVariants.{Memory, Unwatchable}
-use Rattle.radix_node.specs.Cells.{CellTree, plain_of}
+use Rattle.radix_node.specs.Cells.{AreApart, CellTree, plain_of}
 use Rattle.radix_node.specs.Nodes.{pairs_of}
 use Rattle.radix_node.specs.Watches.{Fires, get_watch, seek_watch}
 use Rattle.watch_word.specs.Logs.{Cell}
@@ -65,11 +65,13 @@ abbrev pub QuestionsHold : TableRows → TableRows → Type 0
 QuestionsHold old new =
     (q : Query) (s : SpotOf) → is_watchable q.ask ≡ true → IsSpot old q s → HoldsAsk old new q s
 
--- the trees of a table hold the entries of its rows, which are lawful
+-- the trees of a table hold the entries of its rows, which are lawful, and no two cells of one tree
+-- have one id
 pub record HoldsRows (t : TableRows) : Type 0 where
   pub lawful : AreLawfulRows t.schema t.rows
   pub held : map (λ tree. pairs_of (plain_of tree)) t.trees
       ≡ map (λ i. entries t.schema i t.rows) t.schema.indexes
+  pub apart : All AreApart t.trees
 
 -- of the table that a change began with, and of a later one
 abbrev pub QuestionsHoldSince : TableChange → TableRows → Type 0

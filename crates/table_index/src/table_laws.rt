@@ -7,12 +7,13 @@ ghost use Rattle.table_index.specs.Watched.{HoldsRows, QuestionsHold};
 ghost use Rattle.table_index.specs.Written.{HasWritten, begun};
 
 use crate::table::Table;
+use crate::trees::cells_are_apart;
 
-/// The trees of a table hold the entries of its rows.
+/// The trees of a table hold the entries of its rows, and no two cells of one tree have one id.
 pub fn rows_are_held(table: &Table)
     ensures { HoldsRows table.now }
 {
-    let _ = table.def.len();
+    cells_are_apart(&table.trees);
 }
 
 /// A change that begins with a table has written nothing.

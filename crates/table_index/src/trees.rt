@@ -1,5 +1,6 @@
 //! Lists of trees, one an index.
-ghost use Rattle.std.specs.Prelude.{◌≡◌, ◌+◌, ◌≤◌, ◌^◌, [], ◌∷◌, ◌++◌, List, IfOk, OnOk, false, map, replicate};
+ghost use Rattle.std.specs.Prelude.{◌≡◌, ◌+◌, ◌≤◌, ◌^◌, [], ◌∷◌, ◌++◌, All, List, IfOk, OnOk, false, map, replicate};
+ghost use Rattle.radix_node.specs.Cells.{AreApart};
 ghost use Rattle.radix_node.specs.Nodes.{pairs_of};
 ghost use Rattle.watch_word.specs.Logs.{Cell};
 ghost use Rattle.table_index.specs.Frozen.{AreFrozen, IsFrozen};
@@ -71,6 +72,15 @@ pub(crate) fn shared(alloc: Global, trees: &[Tree]) -> Result<Vec<Tree>, AllocEr
         owned.push(tree.share()?)?;
     }
     Ok(owned)
+}
+
+/// No two cells of one tree have one id. It does nothing: its contract is the law.
+pub(crate) fn cells_are_apart(trees: &[Tree])
+    ensures { All AreApart trees.now }
+{
+    for tree in trees {
+        let _ = tree.root();
+    }
 }
 
 /// The trees that transactions end with, and their notices. It takes memory for both lists.
