@@ -145,7 +145,7 @@ module _ (t : CellTree) where
   get_in : (key : Bytes) → Has (get_watch key t) (cells_of t)
   get_in key = leaf_or_in (near key t).cell (leaf_with key (leaves_of t)) (seek_in key) (λ l is. (leaf_with_is key (leaves_of t) l is).0)
 
-  watch_is_in : (exact : Bool) (key : Bytes) → Has (watch_in exact key t) (cells_of t)
+  pub watch_is_in : (exact : Bool) (key : Bytes) → Has (watch_in exact key t) (cells_of t)
   watch_is_in true key = get_in key
   watch_is_in false key = seek_in key
 
@@ -154,7 +154,7 @@ module _ (t : CellTree) where
 
 -- ---- the cell of a question in the trees of tables
 
-tree_of : (trees : List CellTree) (index : ℕ) (exact : Bool) (key : Bytes) (c : Cell) → cell_of trees index exact key ≡ Some c → (tree : CellTree) × (slice_get trees index ≡ Some tree) × (watch_in exact key tree ≡ c)
+pub tree_of : (trees : List CellTree) (index : ℕ) (exact : Bool) (key : Bytes) (c : Cell) → cell_of trees index exact key ≡ Some c → (tree : CellTree) × (slice_get trees index ≡ Some tree) × (watch_in exact key tree ≡ c)
 tree_of trees index exact key c e = at (slice_get trees index) e
   where
     at : (o : Option CellTree) → option_map (watch_in exact key) o ≡ Some c → (tree : CellTree) × (o ≡ Some tree) × (watch_in exact key tree ≡ c)

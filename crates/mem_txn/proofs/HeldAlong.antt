@@ -21,7 +21,7 @@ use Rattle.mem_txn.proofs.StepAtPlace.{named_there}
 -- ---- where a question is looked up
 
 -- the table is there
-looked_in : (o : Option TableRows) (q : Query) (s : SpotOf) → IsLookedUp o q s → (t : TableRows) × (o ≡ Some t) × IsSpot t q s
+pub looked_in : (o : Option TableRows) (q : Query) (s : SpotOf) → IsLookedUp o q s → (t : TableRows) × (o ≡ Some t) × IsSpot t q s
 looked_in None q s is = absurd is
 looked_in (Some t) q s is = (t, refl, is)
 

@@ -56,7 +56,7 @@ kept_at kind (j ∷ is) (t ∷ olds) (u ∷ news) zero i old new kept e f g =
 kept_at kind (j ∷ is) (t ∷ olds) (u ∷ news) (suc index) i old new kept e f g = kept_at kind is olds news index i old new kept.1 e f g
 
 -- the tree of an index was opened from the one that stood there
-opened_at : (first : ℕ) (olds news : List CellTree) (index : ℕ) (new : CellTree) → AreOpened first olds news → slice_get news index ≡ Some new → (old : CellTree) × (slice_get olds index ≡ Some old) × IsOpened first old new
+pub opened_at : (first : ℕ) (olds news : List CellTree) (index : ℕ) (new : CellTree) → AreOpened first olds news → slice_get news index ≡ Some new → (old : CellTree) × (slice_get olds index ≡ Some old) × IsOpened first old new
 opened_at first olds [] index new opened e = cc
 opened_at first [] (u ∷ news) index new opened e = absurd opened
 opened_at first (t ∷ olds) (u ∷ news) zero new opened e =
@@ -93,14 +93,14 @@ module _ (h : Versions) (begun : IsBegun h) (steps : AreSteps h) where
   table_of n t trees rows = record { schema = t; rows = rows; trees = trees }
 
   -- it stands among them
-  table_there : (n table : ℕ) (t : TableSchema) (trees : List CellTree) → slice_get J.schema table ≡ Some t → slice_get (trees_after J n) table ≡ Some trees
+  pub table_there : (n table : ℕ) (t : TableSchema) (trees : List CellTree) → slice_get J.schema table ≡ Some t → slice_get (trees_after J n) table ≡ Some trees
       → (rows : List Fields) × (slice_get (tables_after n) table ≡ Some (table_of n t trees rows))
   table_there n table t trees e f =
       let rows = rows_there J.schema (state_after J n) table t (state_at_lawful J.schema J.commits n) e in
       (rows.0, planted_at J.schema (state_after J n) (trees_after J n) table (table_of n t trees rows.0) (record { schema = e; rows = rows.1; trees = f }))
 
   -- the trees of a table among them
-  trees_there : (n table : ℕ) (x : TableRows) (trees : List CellTree) → slice_get (tables_after n) table ≡ Some x → slice_get (trees_after J n) table ≡ Some trees → x.trees ≡ trees
+  pub trees_there : (n table : ℕ) (x : TableRows) (trees : List CellTree) → slice_get (tables_after n) table ≡ Some x → slice_get (trees_after J n) table ≡ Some trees → x.trees ≡ trees
   trees_there n table x trees e f =
       let is = planted_there J.schema (state_after J n) (trees_after J n) table x e in
       let same : Some x.trees ≡ Some trees = sym is.trees ∙ f in
@@ -111,7 +111,7 @@ module _ (h : Versions) (begun : IsBegun h) (steps : AreSteps h) where
   StepThere n s x u = IsTableStep s.old.1.ids.next (rows_written J.schema (state_after J n) s.new.1.writes x.schema.name) x u
 
   -- the table that it has become
-  step_there : (n table : ℕ) (s : StepAfter h n) (x : TableRows) → slice_get (tables_after n) table ≡ Some x → (u : TableRows) × (slice_get (tables_after (suc n)) table ≡ Some u) × StepThere n s x u
+  pub step_there : (n table : ℕ) (s : StepAfter h n) (x : TableRows) → slice_get (tables_after n) table ≡ Some x → (u : TableRows) × (slice_get (tables_after (suc n)) table ≡ Some u) × StepThere n s x u
   step_there n table s x e =
       step_at s.old.1.ids.next (rows_written J.schema (state_after J n) s.new.1.writes) (tables_after n) (tables_after (suc n)) table x s.tables e
 
@@ -147,7 +147,7 @@ module _ (h : Versions) (begun : IsBegun h) (steps : AreSteps h) where
       pub drawn : (e : ℕ × Version) → slice_get h n ≡ Some e → c.id < e.1.ids.next
 
     -- a cell of a tree has an id that was drawn
-    drawn_at : (s : (ℕ × Version)) (trees : List CellTree) (tree : CellTree) → All (AreWithin s.1.ids) s.1.trees → slice_get s.1.trees table ≡ Some trees → slice_get trees index ≡ Some tree → Has c (cells_of tree)
+    pub drawn_at : (s : (ℕ × Version)) (trees : List CellTree) (tree : CellTree) → All (AreWithin s.1.ids) s.1.trees → slice_get s.1.trees table ≡ Some trees → slice_get trees index ≡ Some tree → Has c (cells_of tree)
         → c.id < s.1.ids.next
     drawn_at s trees tree within e f has =
         let below = all_at (AreBelow s.1.ids.next) trees index tree (all_at (AreWithin s.1.ids) s.1.trees table trees within e).below f in
@@ -158,7 +158,7 @@ module _ (h : Versions) (begun : IsBegun h) (steps : AreSteps h) where
         ]
 
     -- behind a step it was drawn too
-    drawn_next : (n : ℕ) (s : StepAfter h n) → c.id < s.old.1.ids.next → (e : ℕ × Version) → slice_get h (suc n) ≡ Some e → c.id < e.1.ids.next
+    pub drawn_next : (n : ℕ) (s : StepAfter h n) → c.id < s.old.1.ids.next → (e : ℕ × Version) → slice_get h (suc n) ≡ Some e → c.id < e.1.ids.next
     drawn_next n s low e at =
         let later = s.step.later in
         subst (λ (z : ℕ × Version). c.id < z.1.ids.next) (same_Some s.new e (sym s.behind ∙ at)) (omega (arith, low, later))

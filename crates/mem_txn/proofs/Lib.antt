@@ -15,6 +15,7 @@ pub mod LooksTold
 pub mod MovesTouched
 pub mod NextVersions
 pub mod OneHistory
+pub mod OneIdOneCell
 pub mod RowsAdded
 pub mod SeenBegins
 pub mod SinceBegun

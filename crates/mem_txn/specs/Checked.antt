@@ -1,5 +1,5 @@
 -- Checks of held watches.
-use Rattle.std.specs.Prelude.{◌≡◌, ◌++◌, ◌-◌, ◌<◌, ◌≤◌, ℕ, List, [], ◌∷◌, length, false, Some, slice_get}
+use Rattle.std.specs.Prelude.{◌≡◌, ◌++◌, ◌-◌, ◌<◌, ◌≤◌, ℕ, List, [], ◌∷◌, length, false, Some}
 use mathlib.Core.List.{IsPrefix}
 use Rattle.mdb_schema.specs.Guarded.{IsUnchanged}
 use Rattle.mdb_schema.specs.History.{IsMadeBy}
@@ -79,3 +79,9 @@ HeldLonger p = (old : Caller) (h : HeldWatch) → IsBeginning old p → IsHeldBy
 -- and a watch that was asked of what it has seen is held by it
 abbrev pub AskedIsHeld : Caller → Type 0
 AskedIsHeld p = (q : Query) (h : HeldWatch) → IsHeldOf (reading_of p) q h → IsHeldBy p h
+
+-- two watches that a caller holds, of one index of one table, have one cell where they have one id
+abbrev pub IdsTellCells : Caller → Type 0
+IdsTellCells p =
+    (g h : HeldWatch) → IsHeldBy p g → IsHeldBy p h → g.query.table ≡ h.query.table
+    → g.spot.index ≡ h.spot.index → g.spot.watch.id ≡ h.spot.watch.id → g.spot.watch ≡ h.spot.watch

@@ -1,7 +1,7 @@
 //! What is known of every pass, as laws of the definitions. The functions do nothing: their
 //! contracts are the laws.
 ghost use Rattle.mem_txn.specs.CellHistory.{AreComplete, KeepUntouched, MovesAreTouches, StayAway, WatchesHold};
-ghost use Rattle.mem_txn.specs.Checked.{AskedIsHeld, HeldLonger, HeldStays};
+ghost use Rattle.mem_txn.specs.Checked.{AskedIsHeld, HeldLonger, HeldStays, IdsTellCells};
 ghost use Rattle.mem_txn.specs.Database.{cells_seen};
 
 use crate::pass::Pass;
@@ -60,6 +60,13 @@ pub fn held_watches_outlast_commits(pass: &Pass)
 /// A watch that was asked of the state after the commits that a pass has seen is held by it.
 pub fn asked_watches_are_held(pass: &Pass)
     ensures { AskedIsHeld pass.now }
+{
+    let _ = pass.token.number();
+}
+
+/// Of two watches that a pass holds, of one index of one table, equal ids are equal cells.
+pub fn ids_tell_cells(pass: &Pass)
+    ensures { IdsTellCells pass.now }
 {
     let _ = pass.token.number();
 }
