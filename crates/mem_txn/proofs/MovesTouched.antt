@@ -9,7 +9,6 @@ use Rattle.mdb_encode.specs.Bytes.{Bytes}
 use Rattle.mdb_schema.specs.Answer.{Asked, Lookup, answer, ask_rows, is_exact, lookup_of}
 use Rattle.mdb_schema.specs.Entries.{entries}
 use Rattle.mdb_schema.specs.Query.{Query}
-use Rattle.mdb_schema.specs.Schema.{IndexSchema}
 use Rattle.mdb_schema.specs.Touched.{rows_written}
 use Rattle.mdb_schema.specs.Watchable.{HasFound, IsTouched}
 use Rattle.mdb_schema.specs.declared.answer.Answer.{Answer}
@@ -18,7 +17,6 @@ use Rattle.mdb_schema.specs.declared.ask.Ask.{Ask}
 use Rattle.mdb_schema.specs.declared.ask.Ask.TheVariants.{First, Last, Get, GetReverse, Lower, ReverseLower, Longest}
 use Rattle.mdb_schema.proofs.EntriesOfRows.{sorted-entries}
 use Rattle.mdb_schema.proofs.Membership.{no_tie, same_key}
-use Rattle.mdb_schema.proofs.PassedTests.{goes_on}
 use Rattle.radix_node.specs.Cells.{CellLeaf, CellTree, a_leaf, cells_of, leaves_of, pieces_of, plain_of}
 use Rattle.radix_node.specs.Nodes.{pairs_of}
 use Rattle.radix_node.specs.Pairs.{IsRising, find}
@@ -27,7 +25,7 @@ use Rattle.radix_node.specs.Watches.{Fires, leaf_cell_or, leaf_with, near}
 use Rattle.radix_node.proofs.LeafWatch.{tree_leaf_piece, tree_pairs}
 use Rattle.radix_node.proofs.Members.{has_cell}
 use Rattle.table_index.specs.Table.{TableRows}
-use Rattle.table_index.specs.Watched.{HoldsRows, is_for_one, looks_up, watch_in}
+use Rattle.table_index.specs.Watched.{HoldsEntries, HoldsRows, is_for_one, looks_up, watch_in}
 use Rattle.table_index.specs.Written.{IsKeyOf, KeptBut}
 use Rattle.table_index.proofs.ExactRows.{first_exact, last_exact}
 use Rattle.table_index.proofs.Lookups.{looked_there}
@@ -38,6 +36,7 @@ use Rattle.mem_txn.specs.inner.Steps.{AreSteps, tables_with}
 use Rattle.mem_txn.specs.inner.Versions.{IsBegun, Version, Versions, caller_of, entry_of}
 use Rattle.mem_txn.proofs.AlongHistory.{IsFiredFirst, asked_of, fired_first}
 use Rattle.mem_txn.proofs.CellsWatched.{leaf_with_is}
+use Rattle.mem_txn.proofs.EndedTables.{asked_there, entries_at}
 use Rattle.mem_txn.proofs.KeptAlong.{all_at, kept_at}
 use Rattle.mem_txn.proofs.StepAtPlace.{named_there, planted_at}
 use Rattle.mem_txn.proofs.ValuesAlong.{cells_in, held_after}
@@ -110,7 +109,7 @@ one_answer Lower exact key es row rising one told = cc
 one_answer ReverseLower exact key es row rising one told = cc
 one_answer Longest exact key es row rising one told = cc
 
-module _ (t : TableRows) (held : HoldsRows t) (q : Query) (at : Lookup) (looked : lookup_of t.schema q ≡ Ok at) (tree : CellTree) (there : slice_get t.trees at.place ≡ Some tree) where
+module _ (t : TableRows) (held : HoldsEntries t) (q : Query) (at : Lookup) (looked : lookup_of t.schema q ≡ Ok at) (tree : CellTree) (there : slice_get t.trees at.place ≡ Some tree) where
   -- the entries of the question's index
   abbrev es : List Pair
   es = entries t.schema at.index t.rows
@@ -119,21 +118,12 @@ module _ (t : TableRows) (held : HoldsRows t) (q : Query) (at : Lookup) (looked 
   leaves_are : map (λ (l : CellLeaf). l.pair) (leaves_of tree) ≡ es
   leaves_are =
       let pairs = λ (x : CellTree). pairs_of (plain_of x) in
-      let made = λ (i : IndexSchema). entries t.schema i t.rows in
-      tree_pairs tree
-      ∙ same_Some (pairs tree) es
-      (sym (slice_get-map pairs t.trees at.place ∙ ap (option_map pairs) there)
-      ∙ ap (λ (all : List (List Pair)). slice_get all at.place) held.held
-      ∙ slice_get-map made t.schema.indexes at.place
-      ∙ ap (option_map made) (looked_there t.schema q at looked))
-
-  asked : ask_rows t.schema t.rows q ≡ Ok (answer q.ask (is_exact at.index q) at.key es)
-  asked = goes_on (lookup_of t.schema q) (λ (l : Lookup). let r : Asked Answer = Ok (answer q.ask (is_exact l.index q) l.key (entries t.schema l.index t.rows)) in r) at looked
+      tree_pairs tree ∙ same_Some (pairs tree) es (sym (slice_get-map pairs t.trees at.place ∙ ap (option_map pairs) there) ∙ entries_at t held at.place at.index (looked_there t.schema q at looked))
 
   -- an entry that it found has a leaf
   found_leaf : (row : Fields) → looks_up at.index q ≡ true → ask_rows t.schema t.rows q ≡ Ok (One (Some row)) → leaf_with at.key (leaves_of tree) ≡ None → ⊥
   found_leaf row one told none =
-      let found = one_answer q.ask (is_exact at.index q) at.key es row (sorted-entries t.schema at.index t.rows) one (ap answer_or (sym asked ∙ told)) in
+      let found = one_answer q.ask (is_exact at.index q) at.key es row (sorted-entries t.schema at.index t.rows) one (ap answer_or (sym (asked_there t.schema q at looked t.rows) ∙ told)) in
       let nothing = ap (find at.key) (sym leaves_are) ∙ none_found at.key (leaves_of tree) none in
       let wrong : None ≡ Some row = sym nothing ∙ found in
       cc
@@ -164,7 +154,7 @@ module _ (h : Versions) (begun : IsBegun h) (steps : AreSteps h) (q : Query) (v 
       let watch = same_Some (watch_in exact at.key fires.before) c (sym (ap (option_map (watch_in exact at.key)) fires.was) ∙ gone.cell) in
       let asked = asked_of J.schema (state_after J m) (trees_after J m) q t fired.named in
       let touched = key_written (kind at.index) fires.before fires.after but c fires.fires at.key (HasFound J.schema J.commits q v at) exact watch (λ found. found.one)
-      (λ found none. found_leaf t held q at gone.looked fires.before fires.was found.row found.one (sym asked ∙ (f.same.1 ∙ found.found)) none) in
+      (λ found none. found_leaf t held.rows q at gone.looked fires.before fires.was found.row found.one (sym asked ∙ (f.same.1 ∙ found.found)) none) in
       record {
         place = named.table.place;
         named = named.named.place;

@@ -75,7 +75,7 @@ module _ (first : ℕ) (rows : Bytes → List Fields) where
       let so = All-head Changed_so t ts changed in
       let one : IsMade t (standing t) = made.0 in (
         record {
-          questions = one.questions was refl refl (All-head HoldsRows was others held);
+          questions = one.questions was refl refl (All-head HoldsRows was others held).rows;
           kept = one.kept (rows t.schema.name) so.written;
           opened = so.opened;
         },

@@ -1,5 +1,5 @@
 -- Of two watches that were asked of one index of one table, equal ids are equal cells.
-use Rattle.std.proofs.Common.{◌≡◌, ◌∙◌, ◌+◌, ◌-◌, ◌≤◌, ◌<◌, ℕ, zero, suc, List, length, Some, slice_get, inl, inr, sym, ap, subst, arith}
+use Rattle.std.proofs.Common.{◌≡◌, ◌∙◌, ◌⊎◌, ◌+◌, ◌-◌, ◌≤◌, ◌<◌, ℕ, zero, suc, List, length, Some, slice_get, inl, inr, sym, ap, subst, arith}
 use Rattle.std.proofs.lemmas.Option.{same_Some, slice_get_within}
 use Rattle.db_front.specs.Passes.{Known}
 use Rattle.mdb_encode.specs.Bytes.{Bytes}
@@ -32,6 +32,11 @@ same_cell tree apart c d same in_c in_d =
     let y = cell_piece d (pieces_of tree) in_d in
     let piece = one_piece c.id (pieces_of tree) (apart c.id) x.0 y.0 x.1 y.1 (ap (λ (z : Cell). z.id) x.2) (ap (λ (z : Cell). z.id) y.2 ∙ sym same) in
     sym x.2 ∙ (ap piece_cell piece ∙ y.2)
+
+-- a cell that isn't new was there
+not_new : (old : Type 0) (id first : ℕ) → old ⊎ (first ≤ id) → id < first → old
+not_new old id first (inl was) low = was
+not_new old id first (inr new) low = absurd (omega (arith, low, new))
 
 -- after n commits a cell is in the tree of an index of a table
 record IsIn (J : CellHistory) (c : Cell) (table index n : ℕ) : Type 0 where
@@ -92,7 +97,7 @@ module _ (h : Versions) (begun : IsBegun h) (steps : AreSteps h) where
             tree = o.0;
             there = before.1;
             placed = o.1;
-            has = elim (o.2 c is.has) [ inl has ↦ has | inr new ↦ absurd (omega (arith, low, new)) ];
+            has = not_new (Has c (cells_of o.0)) c.id s.old.1.ids.next (o.2 c is.has) low;
           }
 
       -- and so on

@@ -1,5 +1,5 @@
 -- Trees that are made one after another have cells that were drawn in turn.
-use Rattle.std.proofs.Common.{arith, ◌≡◌, ◌≤◌, ◌<◌, ◌+◌, refl, ap, subst, ◌∙◌, ◌⊎◌, inl, inr, ℕ, List, [], ◌∷◌, ◌++◌, None, false}
+use Rattle.std.proofs.Common.{arith, ◌≡◌, ◌≤◌, ◌+◌, refl, ap, subst, ◌∙◌, inl, inr, List, [], ◌∷◌, ◌++◌, None, false}
 use Rattle.radix_node.specs.Cells.{CellTree, cells_of, no_cells, AreOf}
 use Rattle.radix_node.specs.Ids.{Counter}
 use Rattle.radix_node.specs.Paths.{Has}

@@ -1,6 +1,6 @@
 -- Of two tables in whose trees what is watched holds: what holds for the questions of a table.
 use Rattle.std.proofs.Common.{◌≡◌, ◌∙◌, ◌&&◌, ◌⊎◌, ℕ, List, [], ◌∷◌, Bool, true, false, map, Some, option_map, Ok, slice_get, refl, sym, ap, subst, inl, inr, arith}
-use Rattle.std.specs.Prelude.{All, reverse}
+use Rattle.std.specs.Prelude.{reverse}
 use Rattle.std.proofs.lemmas.List.{length-map}
 use Rattle.std.proofs.lemmas.Option.{get_or_from_slice_get, slice_get-map}
 use Rattle.mdb_datum.specs.Pairs.{first_item, last_item, rows_of, with_prefix}
@@ -18,7 +18,7 @@ use Rattle.mdb_schema.specs.declared.ask.Ask.{Ask}
 use Rattle.mdb_schema.specs.declared.ask.Ask.TheVariants.{First, Last, Get, GetReverse, Lower, ReverseLower, Longest}
 use Rattle.mdb_schema.proofs.EntriesOfRows.{sorted-entries}
 use Rattle.mdb_schema.proofs.PassedTests.{goes_on}
-use Rattle.radix_node.specs.Cells.{AreApart, CellTree, plain_of}
+use Rattle.radix_node.specs.Cells.{CellTree, plain_of}
 use Rattle.radix_node.specs.Nodes.{pairs_of}
 use Rattle.radix_node.specs.Pairs.{IsRising, find}
 use Rattle.radix_node.specs.Watches.{WatchesHold}
@@ -26,7 +26,7 @@ use Rattle.watch_word.specs.Logs.{Cell}
 use Rattle.table_index.specs.Frozen.{AreFrozen}
 use Rattle.table_index.specs.Spot.{SpotOf}
 use Rattle.table_index.specs.Table.{TableRows}
-use Rattle.table_index.specs.Watched.{FiresAt, HoldsRows, QuestionsHold, cell_of, is_for_one, is_watchable, looks_up, watch_in}
+use Rattle.table_index.specs.Watched.{FiresAt, HoldsEntries, QuestionsHold, cell_of, is_for_one, is_watchable, looks_up, watch_in}
 use Rattle.table_index.specs.inner.Held.{AreTrees, Hold, plains, rows_held}
 use Rattle.table_index.proofs.AskedRows.{pairs_there, place_there}
 use Rattle.table_index.proofs.ExactRows.{first_exact, last_exact}
@@ -154,15 +154,15 @@ questions_hold t old new held_old held_new notices frozen q s may spot =
 
 -- ---- a table by its rows
 
-pub pairs-plains : (trees : List CellTree) → map (λ (x : CellTree). pairs_of (plain_of x)) trees ≡ map pairs_of (plains trees)
+pairs-plains : (trees : List CellTree) → map (λ (x : CellTree). pairs_of (plain_of x)) trees ≡ map pairs_of (plains trees)
 pairs-plains [] = refl
 pairs-plains (x ∷ trees) = ap (λ (es : List (List Pair)). pairs_of (plain_of x) ∷ es) (pairs-plains trees)
 
-pub holds_rows : (t : TableSchema) (trees : List CellTree) → AreTrees t (plains trees) → All AreApart trees → HoldsRows (record { schema = t; rows = rows_held t (plains trees); trees = trees })
-holds_rows t trees held apart = record { lawful = held.lawful; held = pairs-plains trees ∙ held.held; apart = apart }
+pub holds_entries : (t : TableSchema) (trees : List CellTree) → AreTrees t (plains trees) → HoldsEntries (record { schema = t; rows = rows_held t (plains trees); trees = trees })
+holds_entries t trees held = record { lawful = held.lawful; held = pairs-plains trees ∙ held.held }
 
 module _ (t : TableSchema) (table : IsLawfulTable t) (old new : List CellTree) (held_new : AreTrees t (plains new)) (notices : List (List Cell)) (frozen : AreFrozen notices old new)
-    (was : TableRows) (schema : was.schema ≡ t) (trees : was.trees ≡ old) (holds : HoldsRows was) where
+    (was : TableRows) (schema : was.schema ≡ t) (trees : was.trees ≡ old) (holds : HoldsEntries was) where
   was_lawful : AreLawfulRows t was.rows
   was_lawful = subst (λ (s : TableSchema). AreLawfulRows s was.rows) schema holds.lawful
 

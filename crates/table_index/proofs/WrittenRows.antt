@@ -23,6 +23,7 @@ use Rattle.radix_node.specs.Cells.{CellTree, plain_of}
 use Rattle.radix_node.specs.Nodes.{pairs_of}
 use Rattle.radix_txn.specs.Txn.{Txn, txn_pairs}
 use Rattle.table_index.specs.Table.{TableChange, TableRows}
+use Rattle.table_index.specs.Watched.{HoldsEntries}
 use Rattle.table_index.specs.Written.{EachWrote, IsKeyOf, KeepsOthers, row_there, rows_put}
 use Rattle.table_index.specs.inner.Held.{AreSound, AreTrees, nodes_of, rows_held, starts_of, trees_of}
 use Rattle.table_index.specs.inner.PutKeys.{IsAccepted, keys_of_each}
@@ -173,9 +174,8 @@ keeps_others change trees is rows wrote =
     (subst (λ (ts : List CellTree). EachWrote (IsKeyOf change.schema rows) change.schema.indexes change.start ts) (sym is) wrote)
 
 -- a table that isn't changed yet
-pub nothing_yet : (t : TableRows) → map (λ (x : CellTree). pairs_of (plain_of x)) t.trees ≡ map (λ (i : IndexSchema). entries t.schema i t.rows) t.schema.indexes
-    → EachWrote (IsKeyOf t.schema []) t.schema.indexes t.trees t.trees
-nothing_yet t held =
+pub nothing_yet : (t : TableRows) → HoldsEntries t → EachWrote (IsKeyOf t.schema []) t.schema.indexes t.trees t.trees
+nothing_yet t holds =
     let count : length t.trees ≡ length t.schema.indexes =
-    sym (length-map t.trees (λ (x : CellTree). pairs_of (plain_of x))) ∙ ap length held ∙ length-map t.schema.indexes (λ (i : IndexSchema). entries t.schema i t.rows) in
+    sym (length-map t.trees (λ (x : CellTree). pairs_of (plain_of x))) ∙ ap length holds.held ∙ length-map t.schema.indexes (λ (i : IndexSchema). entries t.schema i t.rows) in
     nothing_wrote (IsKeyOf t.schema []) t.schema.indexes t.trees count

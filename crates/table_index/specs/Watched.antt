@@ -65,16 +65,19 @@ abbrev pub QuestionsHold : TableRows → TableRows → Type 0
 QuestionsHold old new =
     (q : Query) (s : SpotOf) → is_watchable q.ask ≡ true → IsSpot old q s → HoldsAsk old new q s
 
--- the trees of a table hold the entries of its rows, which are lawful, and no two cells of one tree
--- have one id
-pub record HoldsRows (t : TableRows) : Type 0 where
+-- the trees of a table hold the entries of its rows, which are lawful
+pub record HoldsEntries (t : TableRows) : Type 0 where
   pub lawful : AreLawfulRows t.schema t.rows
   pub held : map (λ tree. pairs_of (plain_of tree)) t.trees
       ≡ map (λ i. entries t.schema i t.rows) t.schema.indexes
+
+-- the same, and no two cells of one tree have one id
+pub record HoldsRows (t : TableRows) : Type 0 where
+  pub rows : HoldsEntries t
   pub apart : All AreApart t.trees
 
 -- of the table that a change began with, and of a later one
 abbrev pub QuestionsHoldSince : TableChange → TableRows → Type 0
 QuestionsHoldSince change now =
-    (was : TableRows) → was.schema ≡ change.schema → was.trees ≡ change.start → HoldsRows was
+    (was : TableRows) → was.schema ≡ change.schema → was.trees ≡ change.start → HoldsEntries was
     → QuestionsHold was now
