@@ -3,13 +3,12 @@
 //! often refused.
 ghost use Rattle.std.specs.Prelude.{◌<◌};
 
-use super::ask::asked;
-use super::row_of;
+use super::{asked, row_of};
 use mdb_datum::Row;
 use mdb_schema::{Ask, Query};
 use std::alloc::{AllocError, Global};
 
-pub const SCHEMA: &str = r#"{"memdb":1,"tables":{"t":{"indexes":{
+pub static SCHEMA: &str = r#"{"memdb":1,"tables":{"t":{"indexes":{
     "age":{"indexer":{"kind":"uint","field":"age","width":1}},
     "debt":{"unique":true,"allow_missing":true,"indexer":{"kind":"int","field":"debt","width":2}},
     "id":{"unique":true,"indexer":{"kind":"text","field":"name","lowercase":true}},
@@ -22,237 +21,90 @@ pub const SCHEMA: &str = r#"{"memdb":1,"tables":{"t":{"indexes":{
     "up":{"allow_missing":true,"indexer":{"kind":"bool","field":"up"}},
     "uuid":{"unique":true,"allow_missing":true,"indexer":{"kind":"uuid","field":"uuid"}}}}}}"#;
 
-/// Texts to draw from.
-type Texts = &'static [&'static str];
+/// Texts to draw from, with blanks between them.
+type Texts = &'static str;
 
-/// The members of a row, each with its values; an empty one leaves the member out.
-const MEMBERS: [(&str, Texts); 9] = [
+/// The members of a row, each with its values; `-` leaves the member out.
+static MEMBERS: [(&str, Texts); 9] = [
     (
         "name",
-        &[
-            r#""a""#,
-            r#""b""#,
-            r#""B""#,
-            r#""c""#,
-            r#""ab""#,
-            r#""ba""#,
-            r#""abc""#,
-            r#""aB""#,
-            r#""a\u0000""#,
-            r#""a\u0000b""#,
-            r#""a\u0000a""#,
-            r#""\u0000""#,
-            r#""bb""#,
-            r#""cc""#,
-            r#""ca""#,
-            r#""d""#,
-            r#""dd""#,
-            r#""da""#,
-            r#""e""#,
-            r#""""#,
-            "7",
-            "",
-        ],
+        r#""a" "b" "B" "c" "ab" "ba" "abc" "aB" "a\u0000" "a\u0000b" "a\u0000a" "\u0000"
+        "bb" "cc" "ca" "d" "dd" "da" "e" "" 7 -"#,
     ),
-    (
-        "age",
-        &[
-            "0", "1", "2", "0", "1", "2", "97", "98", "255", "1", "2", "0", "", "256", "true",
-        ],
-    ),
+    ("age", "0 1 2 0 1 2 97 98 255 1 2 0 - 256 true"),
     (
         "debt",
-        &[
-            "", "", "", "", "null", "-1", "0", "1", "-32768", "32767", "300", "-300", "2", "3",
-            "32768",
-        ],
+        "- - - - null -1 0 1 -32768 32767 300 -300 2 3 32768",
     ),
-    (
-        "dc",
-        &[
-            r#""a""#,
-            r#""a""#,
-            r#""b""#,
-            r#""c""#,
-            r#""a\u0000""#,
-            r#""d""#,
-            r#""""#,
-            "",
-        ],
-    ),
-    (
-        "rack",
-        &["-128", "-2", "0", "1", "5", "127", "2", "", "null"],
-    ),
+    ("dc", r#""a" "a" "b" "c" "a\u0000" "d" "" -"#),
+    ("rack", "-128 -2 0 1 5 127 2 - null"),
     (
         "meta",
-        &[
-            "",
-            "",
-            "",
-            "",
-            "",
-            "",
-            "",
-            "null",
-            "{}",
-            r#"{"a":"x"}"#,
-            r#"{"a":"y"}"#,
-            r#"{"b":"","a":"z"}"#,
-            r#"{"":"x"}"#,
-            r#"{"ab":"x","b":"x"}"#,
-            r#"{"a":1}"#,
-        ],
+        r#"- - - - - - - null {} {"a":"x"} {"a":"y"} {"b":"","a":"z"} {"":"x"}
+        {"ab":"x","b":"x"} {"a":1}"#,
     ),
     (
         "tags",
-        &[
-            "",
-            "null",
-            "[]",
-            r#"["a"]"#,
-            r#"["b"]"#,
-            r#"["a","b"]"#,
-            r#"["b","a","b"]"#,
-            r#"["","c"]"#,
-            r#"["a\u0000","a"]"#,
-            r#"["ab","a","ab"]"#,
-            r#"[""]"#,
-            r#"["c"]"#,
-            r#"["a\u0000b"]"#,
-            r#"["a",1]"#,
-        ],
+        r#"- null [] ["a"] ["b"] ["a","b"] ["b","a","b"] ["","c"] ["a\u0000","a"]
+        ["ab","a","ab"] [""] ["c"] ["a\u0000b"] ["a",1]"#,
     ),
-    (
-        "up",
-        &[
-            "true", "false", "true", "false", "", "null", "true", "false", "0",
-        ],
-    ),
+    ("up", "true false true false - null true false 0"),
     (
         "uuid",
-        &[
-            "",
-            "",
-            "",
-            "",
-            "null",
-            r#""""#,
-            r#""12345678-9abc-def0-1234-56789abcdef0""#,
-            r#""12345678-9ABC-DEF0-1234-56789ABCDEF1""#,
-            r#""12340000-0000-0000-0000-000000000000""#,
-            r#""ffffffff-ffff-ffff-ffff-ffffffffffff""#,
-            r#""00000000-0000-0000-0000-000000000000""#,
-            r#""12""#,
-        ],
+        r#"- - - - null "" "12345678-9abc-def0-1234-56789abcdef0"
+        "12345678-9ABC-DEF0-1234-56789ABCDEF1" "12340000-0000-0000-0000-000000000000"
+        "ffffffff-ffff-ffff-ffff-ffffffffffff" "00000000-0000-0000-0000-000000000000"
+        "12""#,
     ),
 ];
 
 /// The indexes, and a name of none, each with its prefix form's name and with arguments.
-const INDEXES: [(&str, &str, Texts); 11] = [
+static INDEXES: [(&str, &str, Texts); 11] = [
     (
         "age",
         "age_prefix",
-        &[
-            "[]", "[0]", "[1]", "[2]", "[97]", "[255]", "[256]", "[true]",
-        ],
+        "[] [0] [1] [2] [97] [255] [256] [true]",
     ),
     (
         "debt",
         "debt_prefix",
-        &[
-            "[]", "[-1]", "[0]", "[2]", "[300]", "[-32768]", "[32767]", "[32768]", "[null]",
-        ],
+        "[] [-1] [0] [2] [300] [-32768] [32767] [32768] [null]",
     ),
     (
         "id",
         "id_prefix",
-        &[
-            "[]",
-            r#"["a"]"#,
-            r#"["B"]"#,
-            r#"["ab"]"#,
-            r#"[""]"#,
-            r#"["a\u0000"]"#,
-            r#"["a\u0000b"]"#,
-            r#"["a\u0000b\u0000"]"#,
-            r#"["d"]"#,
-            r#"["abcd"]"#,
-            "[1]",
-            r#"["a","b"]"#,
-        ],
+        r#"[] ["a"] ["B"] ["ab"] [""] ["a\u0000"] ["a\u0000b"] ["a\u0000b\u0000"] ["d"]
+        ["abcd"] [1] ["a","b"]"#,
     ),
-    ("local", "local_prefix", &["[]", "[true]", "[false]", "[0]"]),
+    ("local", "local_prefix", "[] [true] [false] [0]"),
     (
         "meta",
         "meta_prefix",
-        &[
-            "[]",
-            r#"["a"]"#,
-            r#"["a","x"]"#,
-            r#"["b",""]"#,
-            r#"["ab"]"#,
-            r#"[""]"#,
-            r#"["a","x","y"]"#,
-            r#"["a",1]"#,
-        ],
+        r#"[] ["a"] ["a","x"] ["b",""] ["ab"] [""] ["a","x","y"] ["a",1]"#,
     ),
-    ("none", "none_prefix", &["[]", "[1]"]),
+    ("none", "none_prefix", "[] [1]"),
     (
         "place",
         "place_prefix",
-        &[
-            "[]",
-            r#"["a",1]"#,
-            r#"["a",-2]"#,
-            r#"["b",127]"#,
-            r#"["a\u0000",0]"#,
-            r#"["a"]"#,
-            r#"["c"]"#,
-            r#"[""]"#,
-            r#"["a",128]"#,
-            "[1]",
-            r#"["a",1,1]"#,
-        ],
+        r#"[] ["a",1] ["a",-2] ["b",127] ["a\u0000",0] ["a"] ["c"] [""] ["a",128] [1]
+        ["a",1,1]"#,
     ),
-    (
-        "tagged",
-        "tagged_prefix",
-        &["[]", "[true]", "[false]", "[null]"],
-    ),
+    ("tagged", "tagged_prefix", "[] [true] [false] [null]"),
     (
         "tags",
         "tags_prefix",
-        &[
-            "[]",
-            r#"["a"]"#,
-            r#"["b"]"#,
-            r#"["ab"]"#,
-            r#"["c"]"#,
-            r#"["a\u0000"]"#,
-            r#"[""]"#,
-            "[false]",
-        ],
+        r#"[] ["a"] ["b"] ["ab"] ["c"] ["a\u0000"] [""] [false]"#,
     ),
-    ("up", "up_prefix", &["[]", "[true]", "[false]", "[1]"]),
+    ("up", "up_prefix", "[] [true] [false] [1]"),
     (
         "uuid",
         "uuid_prefix",
-        &[
-            "[]",
-            r#"["12345678-9abc-def0-1234-56789abcdef0"]"#,
-            r#"["1"]"#,
-            r#"["12"]"#,
-            r#"["12-34"]"#,
-            r#"["ff"]"#,
-            r#"[""]"#,
-            r#"["00000000-0000-0000-0000-000000000000"]"#,
-            "[1]",
-        ],
+        r#"[] ["12345678-9abc-def0-1234-56789abcdef0"] ["1"] ["12"] ["12-34"] ["ff"] [""]
+        ["00000000-0000-0000-0000-000000000000"] [1]"#,
     ),
 ];
 
-const ASKS: [Ask; 7] = [
+static ASKS: [Ask; 7] = [
     Ask::First,
     Ask::Last,
     Ask::Get,
@@ -297,15 +149,14 @@ impl Random {
         x % bound
     }
 
-    /// One of some texts; the empty one where there is none.
+    /// One of some texts.
     fn text(&mut self, texts: Texts) -> &'static str {
-        if texts.is_empty() {
-            return "";
+        let count = texts.split_whitespace().count() as u64;
+        if count == 0 {
+            return "-";
         }
-        match texts.get(self.below(texts.len() as u64) as usize) {
-            Some(text) => text,
-            None => "",
-        }
+        let at = self.below(count) as usize;
+        texts.split_whitespace().nth(at).unwrap_or("-")
     }
 
     fn ask(&mut self) -> Ask {
@@ -367,9 +218,9 @@ impl Random {
     }
 }
 
-/// Adds a member to the text of a row, but for an empty value.
+/// Adds a member to the text of a row, but for `-`.
 fn add_member(text: &mut String, name: &str, value: &str) -> Result<(), AllocError> {
-    if value.is_empty() {
+    if value == "-" {
         Ok(())
     } else {
         Ok(write!(text, ",\"{name}\":{value}")?)
@@ -386,6 +237,6 @@ pub fn whole(alloc: Global, index: &'static str) -> Result<Question, AllocError>
 }
 
 /// The names of the indexes.
-pub const NAMES: [&str; 10] = [
+pub static NAMES: [&str; 10] = [
     "age", "debt", "id", "local", "meta", "place", "tagged", "tags", "up", "uuid",
 ];

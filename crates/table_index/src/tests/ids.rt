@@ -1,9 +1,8 @@
 //! Writes near the end of the ids, and the notices of a change.
 ghost use Rattle.std.specs.Prelude.{◌≤◌, ◌^◌};
 
-use super::ask::asked;
 use super::work::{Base, Work};
-use super::{SCHEMA, def_of, right, row_of};
+use super::{SCHEMA, Told, asked, def_of, right, row_of};
 use crate::{Notices, WipeError};
 use mdb_schema::{Ask, WriteError};
 use std::alloc::{AllocError, Global};
@@ -27,25 +26,22 @@ fn with_ids(alloc: Global, count: u64) -> Result<Work, AllocError> {
     table.txn()
 }
 
-/// How a put is answered.
-type Told = Result<bool, WriteError>;
-
 /// Whether the put of a row is answered so. Then the change isn't spoiled.
-fn is_put_in(alloc: Global, work: &mut Work, case: &Case) -> Result<bool, AllocError> {
+fn is_put_in(alloc: Global, work: &mut Work, case: &Case) -> Told {
     let row = row_of(alloc, case.1)?;
     Ok(work.put(&row) == case.2 && !work.spoiled())
 }
 
 /// The same, where so many ids are left.
-fn is_put(alloc: Global, case: &Case) -> Result<bool, AllocError> {
+fn is_put(alloc: Global, case: &Case) -> Told {
     let mut work = with_ids(alloc, case.0)?;
     is_put_in(alloc, &mut work, case)
 }
 
 /// How many ids there are at the opening, a row, and how its put is answered.
-type Case = (u64, &'static str, Told);
+type Case = (u64, &'static str, Result<bool, WriteError>);
 
-const PUTS: [Case; 4] = [
+static PUTS: [Case; 4] = [
     (A_ROW + 2, r#"{"name":"ann"}"#, Ok(false)),
     (A_ROW + 1, r#"{"name":"ann"}"#, Err(WriteError::IdsSpent)),
     (5_000, r#"{"name":"ann"}"#, Err(WriteError::IdsSpent)),
@@ -61,7 +57,7 @@ fn a_put_without_ids_is_refused_last(rt: HostRuntime) -> Result<(), Fail> {
 }
 
 /// Rows of which one is listed twice by the tags that begin with `a`.
-const ROWS: [&str; 2] = [
+static ROWS: [&str; 2] = [
     r#"{"name":"ann","tags":["ab","ac","b"]}"#,
     r#"{"name":"bob","tags":["ab"]}"#,
 ];
@@ -83,14 +79,14 @@ fn fill(alloc: Global, work: &mut Work) -> Result<(), AllocError> {
 }
 
 /// Whether a wipe of the tags that begin so is answered so, with these rows.
-fn is_wiped_in(alloc: Global, work: &mut Work, case: &Wipe) -> Result<bool, AllocError> {
+fn is_wiped_in(alloc: Global, work: &mut Work, case: &Wipe) -> Told {
     fill(alloc, work)?;
     let query = asked(alloc, Ask::Get, "tags_prefix", case.1)?;
     Ok(work.remove_all(&query) == case.2)
 }
 
 /// The same, where so many ids are left at the opening.
-fn is_wiped(alloc: Global, case: &Wipe) -> Result<bool, AllocError> {
+fn is_wiped(alloc: Global, case: &Wipe) -> Told {
     let mut work = with_ids(alloc, case.0)?;
     is_wiped_in(alloc, &mut work, case)
 }
@@ -100,7 +96,7 @@ fn is_wiped(alloc: Global, case: &Wipe) -> Result<bool, AllocError> {
 type Wipe = (u64, &'static str, Result<u64, WipeError>);
 
 /// Three entries are listed of two rows.
-const WIPES: [Wipe; 4] = [
+static WIPES: [Wipe; 4] = [
     (2 * A_ROW + 100, r#"["a"]"#, Ok(2)),
     (2 * A_ROW, r#"["a"]"#, Err(WipeError::IdsSpent)),
     (2 * A_ROW, r#"["b"]"#, Ok(1)),
@@ -130,7 +126,7 @@ type Noticed = (&'static str, usize, usize);
 // In the tree of names the root goes, whose edges are `ann` and `bob`; a tag `d` is a new edge of
 // the root of the other, and a name with the first letters of another splits its node, which keeps
 // its leaf.
-const NOTICED: [Noticed; 4] = [
+static NOTICED: [Noticed; 4] = [
     ("no row", 0, 0),
     (r#"{"name":"cy"}"#, 1, 0),
     (r#"{"name":"cy","tags":["d"]}"#, 1, 1),
@@ -165,7 +161,7 @@ fn noticed(alloc: Global, table: &Base, text: &str) -> Result<Notices, AllocErro
 }
 
 /// Whether a change that puts a row has notices of so many cells.
-fn is_noticed(alloc: Global, table: &Base, case: &Noticed) -> Result<bool, AllocError> {
+fn is_noticed(alloc: Global, table: &Base, case: &Noticed) -> Told {
     let notices = noticed(alloc, table, case.0)?;
     Ok(have(&notices, case.1, case.2))
 }

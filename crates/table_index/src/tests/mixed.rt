@@ -3,7 +3,7 @@
 use super::drawn::{NAMES, Question, Random, SCHEMA, Write, whole};
 use super::plain::PlainTable;
 use super::work::{Base, Work};
-use super::{begun, def_of, right};
+use super::{Told, begun, def_of, right};
 use crate::WipeError;
 use mdb_datum::Row;
 use mdb_schema::{Answer, AskError, Rows, WriteError};
@@ -49,7 +49,7 @@ pub fn is_answered_alike(
     table: &Base,
     plain: &PlainTable,
     question: &Question,
-) -> Result<bool, AllocError> {
+) -> Told {
     let told = told(alloc, table, question);
     if told == Err(AskError::Memory) {
         return Err(AllocError);
@@ -58,17 +58,12 @@ pub fn is_answered_alike(
 }
 
 /// Whether both list the same rows of an index in the same order.
-fn is_listed_alike(
-    alloc: Global,
-    table: &Base,
-    plain: &PlainTable,
-    name: &'static str,
-) -> Result<bool, AllocError> {
+fn is_listed_alike(alloc: Global, table: &Base, plain: &PlainTable, name: &'static str) -> Told {
     is_answered_alike(alloc, table, plain, &whole(alloc, name)?)
 }
 
 /// Whether each index lists the same rows in the same order.
-fn are_listed_alike(alloc: Global, table: &Base, plain: &PlainTable) -> Result<bool, AllocError> {
+fn are_listed_alike(alloc: Global, table: &Base, plain: &PlainTable) -> Told {
     for name in &NAMES {
         if !is_listed_alike(alloc, table, plain, name)? {
             return Ok(false);
@@ -78,10 +73,7 @@ fn are_listed_alike(alloc: Global, table: &Base, plain: &PlainTable) -> Result<b
 }
 
 /// Whether both answer a put the same. Want of memory is no answer.
-fn is_put_alike(
-    told: Result<bool, WriteError>,
-    expected: Result<bool, WriteError>,
-) -> Result<bool, AllocError> {
+fn is_put_alike(told: Result<bool, WriteError>, expected: Result<bool, WriteError>) -> Told {
     if told == Err(WriteError::Memory) {
         return Err(AllocError);
     }
@@ -97,7 +89,7 @@ fn removed(txn: &mut Work, row: &Row) -> Result<Vec<u8>, WriteError> {
 fn is_removed_alike(
     told: Result<Vec<u8>, WriteError>,
     expected: Result<Vec<u8>, WriteError>,
-) -> Result<bool, AllocError> {
+) -> Told {
     if told == Err(WriteError::Memory) {
         return Err(AllocError);
     }
@@ -105,10 +97,7 @@ fn is_removed_alike(
 }
 
 /// Whether both answer a wipe the same. Want of memory is no answer.
-fn is_wiped_alike(
-    told: Result<u64, WipeError>,
-    expected: Result<u64, AskError>,
-) -> Result<bool, AllocError> {
+fn is_wiped_alike(told: Result<u64, WipeError>, expected: Result<u64, AskError>) -> Told {
     match told {
         Ok(count) => Ok(expected == Ok(count)),
         Err(WipeError::Refused(error)) => Ok(expected == Err(error)),
@@ -117,12 +106,7 @@ fn is_wiped_alike(
     }
 }
 
-fn write_both(
-    txn: &mut Work,
-    plain: &mut PlainTable,
-    alloc: Global,
-    write: &Write,
-) -> Result<bool, AllocError> {
+fn write_both(txn: &mut Work, plain: &mut PlainTable, alloc: Global, write: &Write) -> Told {
     match write {
         Write::Put(row) => is_put_alike(txn.put(row), plain.put(alloc, row)),
         Write::Remove(row) => is_removed_alike(removed(txn, row), plain.remove(alloc, row)),
@@ -139,23 +123,13 @@ fn write_both(
 }
 
 /// Whether a drawn question is answered alike.
-fn is_drawn_alike(
-    alloc: Global,
-    random: &mut Random,
-    table: &Base,
-    plain: &PlainTable,
-) -> Result<bool, AllocError> {
+fn is_drawn_alike(alloc: Global, random: &mut Random, table: &Base, plain: &PlainTable) -> Told {
     let question = random.question(alloc)?;
     is_answered_alike(alloc, table, plain, &question)
 }
 
 /// Whether drawn questions are answered alike.
-fn are_drawn_alike(
-    alloc: Global,
-    random: &mut Random,
-    table: &Base,
-    plain: &PlainTable,
-) -> Result<bool, AllocError> {
+fn are_drawn_alike(alloc: Global, random: &mut Random, table: &Base, plain: &PlainTable) -> Told {
     for _ in 0..4 {
         if !is_drawn_alike(alloc, random, table, plain)? {
             return Ok(false);
@@ -165,54 +139,29 @@ fn are_drawn_alike(
 }
 
 /// Whether a drawn write is answered alike.
-fn write_drawn(
-    alloc: Global,
-    random: &mut Random,
-    txn: &mut Work,
-    plain: &mut PlainTable,
-) -> Result<bool, AllocError> {
+fn write_drawn(alloc: Global, random: &mut Random, txn: &mut Work, plain: &mut PlainTable) -> Told {
     let write = random.write(alloc)?;
     write_both(txn, plain, alloc, &write)
 }
 
 /// Whether both hold the same rows, and answer drawn questions alike.
-fn is_same(
-    alloc: Global,
-    random: &mut Random,
-    table: &Base,
-    plain: &PlainTable,
-) -> Result<bool, AllocError> {
+fn is_same(alloc: Global, random: &mut Random, table: &Base, plain: &PlainTable) -> Told {
     Ok(are_listed_alike(alloc, table, plain)? && are_drawn_alike(alloc, random, table, plain)?)
 }
 
 /// The same of a change.
-fn are_alike(
-    alloc: Global,
-    random: &mut Random,
-    txn: &mut Work,
-    plain: &PlainTable,
-) -> Result<bool, AllocError> {
+fn are_alike(alloc: Global, random: &mut Random, txn: &mut Work, plain: &PlainTable) -> Told {
     let table = txn.stand()?;
     is_same(alloc, random, &table, plain)
 }
 
 /// Whether a drawn write is answered alike, and leaves the same rows.
-fn step_both(
-    alloc: Global,
-    random: &mut Random,
-    txn: &mut Work,
-    plain: &mut PlainTable,
-) -> Result<bool, AllocError> {
+fn step_both(alloc: Global, random: &mut Random, txn: &mut Work, plain: &mut PlainTable) -> Told {
     Ok(write_drawn(alloc, random, txn, plain)? && are_alike(alloc, random, txn, plain)?)
 }
 
 /// Makes drawn writes in both, until one is told otherwise.
-fn run_both(
-    alloc: Global,
-    txn: &mut Work,
-    plain: &mut PlainTable,
-    steps: u64,
-) -> Result<bool, AllocError> {
+fn run_both(alloc: Global, txn: &mut Work, plain: &mut PlainTable, steps: u64) -> Told {
     let mut random = Random(0x9e37_79b9_7f4a_7c15);
     for _ in 0..steps {
         if !step_both(alloc, &mut random, txn, plain)? {
@@ -228,13 +177,13 @@ fn plain_of(alloc: Global) -> Result<PlainTable, AllocError> {
 }
 
 /// Whether a long run in a change is as on a plain list.
-fn is_run_by(alloc: Global, txn: &mut Work) -> Result<bool, AllocError> {
+fn is_run_by(alloc: Global, txn: &mut Work) -> Told {
     let mut plain = plain_of(alloc)?;
-    run_both(alloc, txn, &mut plain, 2_000)
+    run_both(alloc, txn, &mut plain, 1_500)
 }
 
 /// The same on a new table.
-fn is_run_alike(alloc: Global) -> Result<bool, AllocError> {
+fn is_run_alike(alloc: Global) -> Told {
     let mut txn = begun(alloc, SCHEMA)?;
     is_run_by(alloc, &mut txn)
 }

@@ -4,10 +4,9 @@
 //! without the table's name; `docs/FORMATS.md` has the words. The rows of an answer follow its
 //! number on the same line. Beside those words `take-all` and `take-prefix` are the wipes that give
 //! their rows.
-use super::ask::asked;
 use super::words::{MEMORY, ask_of, ask_word, told_index, wipe_word, write_word};
 use super::work::{Base, Work};
-use super::{begun, row_of};
+use super::{asked, begun, row_of};
 use crate::WipeError;
 use mdb_datum::Row;
 use mdb_schema::{Answer, AskError, Query, Rows, WriteError};

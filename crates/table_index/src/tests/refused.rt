@@ -1,22 +1,22 @@
 //! A refused write leaves what each index lists.
 use super::played::{USERS, play, write};
 use super::work::Work;
-use super::{begun, right};
+use super::{Told, begun, right};
 use std::alloc::{AllocError, Global};
 use std::test::Fail;
 
 /// What the table holds.
-const ROWS: &str = r#"insert {"name":"ann","age":1,"mail":"a","tags":["x","y"]} => inserted
+static ROWS: &str = r#"insert {"name":"ann","age":1,"mail":"a","tags":["x","y"]} => inserted
 insert {"name":"b\u0000c","age":2,"mail":"b","tags":["x"]} => inserted
 get tags ["x"] => rows 2 {"age":1,"mail":"a","name":"ann","tags":["x","y"]} {"age":2,"mail":"b","name":"b\u0000c","tags":["x"]}
 "#;
 
 /// What each index lists.
-const EACH_INDEX: &str = "get age []\nget id []\nget mail []\nget tags []";
+static EACH_INDEX: &str = "get age []\nget id []\nget mail []\nget tags []";
 
 /// Writes that are refused. Some have the `id` of a row that is there, and keys before the refused
 /// one that no row has.
-const REFUSED: &str = r#"insert {"age":9} => refused no-id
+static REFUSED: &str = r#"insert {"age":9} => refused no-id
 insert {"name":1,"age":9} => refused wrong-kind id
 insert {"name":"ann"} => refused missing age
 insert {"name":"ann","age":"x"} => refused wrong-kind age
@@ -36,19 +36,19 @@ delete-prefix id ["a"] => refused no-prefix-name
 delete-prefix age_prefix [1] => refused no-prefix-form"#;
 
 /// Whether a line is answered as it says.
-fn is_answered(alloc: Global, txn: &mut Work, line: &str) -> Result<bool, AllocError> {
+fn is_answered(alloc: Global, txn: &mut Work, line: &str) -> Told {
     let answer = play(alloc, txn, line)?;
     Ok(answer.as_str().strip_suffix('\n') == Some(line))
 }
 
 /// Whether a line is answered as it says, and each index lists the same after it.
-fn leaves_all(alloc: Global, txn: &mut Work, line: &str) -> Result<bool, AllocError> {
+fn leaves_all(alloc: Global, txn: &mut Work, line: &str) -> Told {
     let before = play(alloc, txn, EACH_INDEX)?;
     Ok(is_answered(alloc, txn, line)? && lists(alloc, txn, &before)?)
 }
 
 /// Whether each index lists these rows.
-fn lists(alloc: Global, txn: &mut Work, rows: &str) -> Result<bool, AllocError> {
+fn lists(alloc: Global, txn: &mut Work, rows: &str) -> Told {
     let listed = play(alloc, txn, EACH_INDEX)?;
     Ok(listed.as_str() == rows)
 }

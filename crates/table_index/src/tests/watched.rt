@@ -1,18 +1,17 @@
 //! The watch of a question moves exactly where a change copies or drops what it guards.
 ghost use Rattle.std.specs.Prelude.{◌≡◌};
 
-use super::ask::asked;
 use super::played::{USERS, filled, write};
-use super::right;
 use super::words::ask_of;
 use super::work::{Base, Work};
+use super::{Told, asked, right};
 use crate::{Notices, Spot, Table, Watched};
 use mdb_schema::{AskError, TableDef};
 use std::alloc::{AllocError, Global};
 use std::test::Fail;
 
 /// The rows of the table, which stand at the paths `foo` and `football`, each with its end byte.
-const ROWS: &str = r#"insert {"age":1,"name":"foo"} => inserted
+static ROWS: &str = r#"insert {"age":1,"name":"foo"} => inserted
 insert {"age":2,"name":"football"} => inserted
 "#;
 
@@ -30,7 +29,7 @@ const WITHOUT_FOOTBALL: &str = "delete {\"name\":\"football\"} => deleted\n";
 
 /// A look-up of a missing key is guarded by the node where the key leaves the tree: that of the
 /// common prefix `foo`, or of `football` where the key goes on towards it.
-const CASES: [Case; 11] = [
+static CASES: [Case; 11] = [
     ("first", "id", r#"["fool"]"#, FOOL, true),
     ("first", "id", r#"["foo"]"#, FOOL, false),
     ("first", "id", r#"["foot"]"#, FOOT, true),
@@ -94,7 +93,7 @@ fn changed(alloc: Global, base: &Base, script: &str) -> Result<Work, Fail> {
 }
 
 /// Whether a watch moves by a change exactly where that is said.
-fn moves_so(work: Work, spot: &Spot, want: bool) -> Result<bool, AllocError> {
+fn moves_so(work: Work, spot: &Spot, want: bool) -> Told {
     let (table, notices) = work.freeze()?;
     Ok(is_right(&table, &notices, spot, want))
 }
@@ -121,14 +120,14 @@ fn a_watch_moves_with_what_it_guards(rt: HostRuntime) -> Result<(), Fail> {
 }
 
 /// Questions that aren't watched, whatever other rule they break.
-const UNWATCHED: [(&str, &str, &str); 3] = [
+static UNWATCHED: [(&str, &str, &str); 3] = [
     ("lower", "id", r#"["foo"]"#),
     ("reverse-lower", "none", "[]"),
     ("longest", "id", r#"["foo"]"#),
 ];
 
 /// Whether a question is refused since it can't be watched.
-fn is_unwatched(alloc: Global, base: &Base, case: &(&str, &str, &str)) -> Result<bool, AllocError> {
+fn is_unwatched(alloc: Global, base: &Base, case: &(&str, &str, &str)) -> Told {
     let query = asked(alloc, ask_of(case.0), case.1, case.2)?;
     Ok(matches!(base.table().ask_watch(&query), Err(AskError::Unwatchable)))
 }

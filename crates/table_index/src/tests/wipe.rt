@@ -1,27 +1,22 @@
 //! Wipes, told by their counts and by those of the wipes that come after them.
-use super::ask::asked;
 use super::played::write;
 use super::work::{Base, Work};
-use super::{SCHEMA, begun, right, table_of};
+use super::{SCHEMA, Told, asked, begun, right, table_of};
 use crate::WipeError;
 use mdb_schema::{Ask, AskError, Query};
-use std::alloc::{AllocError, Global};
+use std::alloc::Global;
 use std::test::Fail;
 
 /// Rows of which one has two tags that begin with `a`, and one has none.
-const ROWS: &str = r#"insert {"name":"abe","tags":[]} => inserted
+static ROWS: &str = r#"insert {"name":"abe","tags":[]} => inserted
 insert {"name":"ann","tags":["ab","ac","b"]} => inserted
 insert {"name":"bob","tags":["ab"]} => inserted
 insert {"name":"cy","tags":["b"]} => inserted
 "#;
 
 /// A wipe of those rows; then how many rows with tags are left, and how many others.
-const CASES: [&str; 6] = [
+static CASES: [&str; 5] = [
     r#"delete-prefix tags_prefix ["a"] => deleted 2
-delete-all tags [] => deleted 1
-delete-all id [] => deleted 1
-"#,
-    r#"delete-all tags_prefix ["a"] => deleted 2
 delete-all tags [] => deleted 1
 delete-all id [] => deleted 1
 "#,
@@ -63,13 +58,18 @@ fn each_listed_row_goes_once(rt: HostRuntime) -> Result<(), Fail> {
     Ok(())
 }
 
-/// Wipes that are refused, each by its rule: by prefix or not, of an index, with arguments.
-const REFUSED: [Refused; 5] = [
-    (false, "age", "[]", AskError::UnknownIndex),
-    (true, "id", "[1]", AskError::NoPrefixName),
-    (true, "age_prefix", "[]", AskError::UnknownIndex),
-    (false, "tags", "[1]", AskError::ArgKind),
-    (false, "id", "[\"a\",\"b\"]", AskError::ArgCount),
+/// A wipe of a table without rows: by prefix or not, of an index, with arguments; and the rule that
+/// it breaks, if any.
+type Case = (bool, &'static str, &'static str, Option<AskError>);
+
+static RULES: [Case; 7] = [
+    (false, "age", "[]", Some(AskError::UnknownIndex)),
+    (true, "id", "[1]", Some(AskError::NoPrefixName)),
+    (true, "age_prefix", "[]", Some(AskError::UnknownIndex)),
+    (false, "tags", "[1]", Some(AskError::ArgKind)),
+    (false, "id", r#"["a","b"]"#, Some(AskError::ArgCount)),
+    (false, "tags", "[]", None),
+    (true, "tags_prefix", "[]", None),
 ];
 
 /// Why a wipe is refused, as a table tells it before a change.
@@ -81,7 +81,7 @@ fn checked(table: &Base, by_prefix: bool, query: &Query) -> Option<WipeError> {
     }
 }
 
-/// Why a wipe is refused.
+/// Why a wipe is refused in a change.
 fn taken(txn: &mut Work, by_prefix: bool, query: &Query) -> Option<WipeError> {
     if by_prefix {
         txn.take_prefix(query).err()
@@ -90,36 +90,24 @@ fn taken(txn: &mut Work, by_prefix: bool, query: &Query) -> Option<WipeError> {
     }
 }
 
-/// Whether a wipe is refused so in a change, which isn't spoiled.
-fn is_refused_by(txn: &mut Work, by_prefix: bool, query: &Query, want: Option<WipeError>) -> bool {
-    taken(txn, by_prefix, query) == want && !txn.spoiled()
-}
-
-/// Whether a wipe is refused so before a change, and in one.
-fn is_refused_in(
-    table: &Base,
-    by_prefix: bool,
-    query: &Query,
-    want: Option<WipeError>,
-) -> Result<bool, AllocError> {
-    let before = checked(table, by_prefix, query) == want;
+/// Whether a wipe is refused so in a new change, which isn't spoiled.
+fn is_taken(table: &Base, query: &Query, by_prefix: bool, want: Option<WipeError>) -> Told {
     let mut txn = table.txn()?;
-    Ok(before && is_refused_by(&mut txn, by_prefix, query, want))
+    Ok(taken(&mut txn, by_prefix, query) == want && !txn.spoiled())
 }
 
-/// A wipe that is refused.
-type Refused = (bool, &'static str, &'static str, AskError);
-
-/// Whether it is refused so.
-fn is_refused(alloc: Global, table: &Base, case: &Refused) -> Result<bool, AllocError> {
+/// Whether a wipe is refused as it says, before a change and in one.
+fn is_told(alloc: Global, table: &Base, case: &Case) -> Told {
+    let want = case.3.map(WipeError::Refused);
     let query = asked(alloc, Ask::Longest, case.1, case.2)?;
-    is_refused_in(table, case.0, &query, Some(WipeError::Refused(case.3)))
+    let before = checked(table, case.0, &query) == want;
+    Ok(before && is_taken(table, &query, case.0, want)?)
 }
 
-/// Fails with the first wipe that isn't refused so.
-fn each_is_refused(alloc: Global, table: &Base) -> Result<(), Fail> {
-    for case in &REFUSED {
-        right(is_refused(alloc, table, case)?, case.1)?;
+/// Fails with the first wipe that isn't.
+fn each_is_told(alloc: Global, table: &Base) -> Result<(), Fail> {
+    for case in &RULES {
+        right(is_told(alloc, table, case)?, case.1)?;
     }
     Ok(())
 }
@@ -127,32 +115,5 @@ fn each_is_refused(alloc: Global, table: &Base) -> Result<(), Fail> {
 #[test]
 fn a_broken_rule_is_told_before_a_change(rt: HostRuntime) -> Result<(), Fail> {
     let table = table_of(rt.alloc(), SCHEMA)?;
-    each_is_refused(rt.alloc(), &table)
-}
-
-/// Whether a wipe of a whole index breaks no rule.
-fn is_allowed(
-    alloc: Global,
-    table: &Base,
-    by_prefix: bool,
-    index: &str,
-) -> Result<bool, AllocError> {
-    let query = asked(alloc, Ask::Longest, index, "[]")?;
-    Ok(checked(table, by_prefix, &query).is_none())
-}
-
-/// Whether a wipe is allowed by the name of an index and by that of a prefix form.
-fn are_allowed(alloc: Global, table: &Base) -> Result<bool, AllocError> {
-    Ok(is_allowed(alloc, table, false, "tags")? && is_allowed(alloc, table, true, "tags_prefix")?)
-}
-
-/// The same on a new table.
-fn are_allowed_anew(alloc: Global) -> Result<bool, AllocError> {
-    let table = table_of(alloc, SCHEMA)?;
-    are_allowed(alloc, &table)
-}
-
-#[test]
-fn a_wipe_without_rows_is_allowed(rt: HostRuntime) -> Result<(), Fail> {
-    right(are_allowed_anew(rt.alloc())?, "a refusal")
+    each_is_told(rt.alloc(), &table)
 }

@@ -3,19 +3,11 @@
 use super::drawn::{NAMES, Random, SCHEMA, Write, whole};
 use super::mixed::told;
 use super::work::{Base, Work};
-use super::{right, table_of};
+use super::{Told, begun, right};
 use crate::WipeError;
 use mdb_schema::WriteError;
 use std::alloc::{AllocError, Global};
 use std::test::Fail;
-
-fn drawn_writes(alloc: Global, random: &mut Random) -> Result<Vec<Write>, AllocError> {
-    let mut writes = Vec::new(alloc);
-    for _ in 0..40 {
-        writes.push(random.write(alloc)?)?;
-    }
-    Ok(writes)
-}
 
 /// The texts of the rows of an index.
 fn rows_of(alloc: Global, table: &Base, name: &'static str) -> Result<Vec<u8>, AllocError> {
@@ -46,94 +38,52 @@ fn finds_no_memory(txn: &mut Work, write: &Write) -> bool {
     }
 }
 
-/// Makes writes until one finds no memory, and tells whether that one alone spoils the change.
-fn one_spoils(txn: &mut Work, writes: &[Write]) -> bool {
-    for write in writes {
-        if txn.spoiled() {
-            return false;
+/// Makes drawn writes until one finds no memory, and tells whether that one alone spoils the change.
+fn one_spoils(alloc: Global, random: &mut Random, txn: &mut Work) -> Told {
+    for _ in 0..40 {
+        let write = random.write(alloc)?;
+        if finds_no_memory(txn, &write) != txn.spoiled() {
+            return Ok(false);
         }
-        let refused = finds_no_memory(txn, write);
-        if refused {
-            return txn.spoiled();
+        if txn.spoiled() {
+            return Ok(true);
         }
     }
-    !txn.spoiled()
+    Ok(true)
 }
 
-/// Whether each index lists the same rows as before.
-fn lists(alloc: Global, table: &Base, before: &[Vec<u8>]) -> Result<bool, AllocError> {
-    Ok(listed(alloc, table)?.as_slice() == before)
+/// The same of a new change of a table.
+fn one_spoils_anew(alloc: Global, random: &mut Random, table: &Base) -> Told {
+    let mut txn = table.txn()?;
+    one_spoils(alloc, random, &mut txn)
 }
 
-/// Makes these writes in a change, and tells whether the table stays as it was.
-fn is_kept(
-    alloc: Global,
-    table: &Base,
-    txn: &mut Work,
-    writes: &[Write],
-) -> Result<bool, AllocError> {
+/// The same, and whether each index of the table lists the same rows as before.
+fn is_kept(alloc: Global, random: &mut Random, table: &Base) -> Told {
     let before = listed(alloc, table)?;
-    Ok(one_spoils(txn, writes) && lists(alloc, table, &before)?)
+    let spoils = one_spoils_anew(alloc, random, table)?;
+    Ok(spoils && listed(alloc, table)? == before)
 }
 
-/// The same of the table after the change and of a new change, where the first one isn't spoiled.
-fn is_kept_after(alloc: Global, txn: &mut Work, later: &[Write]) -> Result<bool, AllocError> {
+/// The same of the table after a change, where that isn't spoiled.
+fn is_kept_after(alloc: Global, txn: &mut Work) -> Told {
+    let mut random = Random(0x2545_f491_4f6c_dd1d);
+    if !one_spoils(alloc, &mut random, txn)? {
+        return Ok(false);
+    }
     if txn.spoiled() {
         return Ok(true);
     }
-    let table = txn.stand()?;
-    is_kept_anew(alloc, &table, later)
+    is_kept(alloc, &mut random, &txn.stand()?)
 }
 
-/// The same of a new change.
-fn is_kept_anew(alloc: Global, table: &Base, writes: &[Write]) -> Result<bool, AllocError> {
-    let mut txn = table.txn()?;
-    is_kept(alloc, table, &mut txn, writes)
+/// The same on a new table. It is so whichever allocation of a write fails.
+fn is_always_kept(alloc: Global) -> Told {
+    let mut txn = begun(alloc, SCHEMA)?;
+    Ok(is_kept_after(alloc, &mut txn).unwrap_or(true))
 }
 
-/// Whether a table stays as it was while a change is made, and so does the one after the change.
-fn are_kept_by(
-    alloc: Global,
-    table: &Base,
-    txn: &mut Work,
-    writes: &[Write],
-    later: &[Write],
-) -> Result<bool, AllocError> {
-    Ok(is_kept(alloc, table, txn, writes)? && is_kept_after(alloc, txn, later)?)
-}
-
-/// The same of a new change.
-fn are_kept(
-    alloc: Global,
-    table: &Base,
-    writes: &[Write],
-    later: &[Write],
-) -> Result<bool, AllocError> {
-    let mut txn = table.txn()?;
-    are_kept_by(alloc, table, &mut txn, writes, later)
-}
-
-/// Two lists of writes.
-fn two_lists(alloc: Global) -> Result<(Vec<Write>, Vec<Write>), AllocError> {
-    let mut random = Random(0x2545_f491_4f6c_dd1d);
-    let writes = drawn_writes(alloc, &mut random)?;
-    Ok((writes, drawn_writes(alloc, &mut random)?))
-}
-
-/// Whether a table stays as it was over drawn writes, whichever of their allocations fails.
-fn is_always_kept(alloc: Global, table: &Base) -> Result<bool, AllocError> {
-    let (writes, later) = two_lists(alloc)?;
-    Ok(are_kept(alloc, table, &writes, &later).unwrap_or(true))
-}
-
-/// The same of a new table.
-fn is_always_kept_anew(alloc: Global) -> Result<bool, AllocError> {
-    let table = table_of(alloc, SCHEMA)?;
-    is_always_kept(alloc, &table)
-}
-
-// It passes whichever allocation of a write fails.
 #[test]
 fn a_refused_write_leaves_the_table(rt: HostRuntime) -> Result<(), Fail> {
-    right(is_always_kept_anew(rt.alloc())?, "another table")
+    right(is_always_kept(rt.alloc())?, "another table")
 }
