@@ -41,7 +41,7 @@ fn row_of(alloc: Global, text: &str) -> Result<Row, Fail> {
     Ok(Row::of(alloc, object_of(alloc, text)?)?)
 }
 
-const REWRITTEN: [(&str, &str); 23] = [
+static REWRITTEN: [(&str, &str); 23] = [
     ("null", "null"),
     (" \t\r\n true ", "true"),
     ("false", "false"),
@@ -81,7 +81,7 @@ fn documents_read_as_their_compact_text(rt: HostRuntime) -> Result<(), Fail> {
     Ok(())
 }
 
-const NO_JSON: [&[u8]; 32] = [
+static NO_JSON: [&[u8]; 32] = [
     b"",
     b" ",
     b"{",
@@ -116,7 +116,7 @@ const NO_JSON: [&[u8]; 32] = [
     b"/**/1",
 ];
 
-const NO_TEXT: [&[u8]; 9] = [
+static NO_TEXT: [&[u8]; 9] = [
     b"\xef\xbb\xbf1",
     b"\"\xff\"",
     b"\"\xc3\"",
@@ -150,7 +150,7 @@ fn bytes_that_are_no_text_are_refused(rt: HostRuntime) -> Result<(), Fail> {
     Ok(())
 }
 
-const NOT_WHOLE: [&str; 11] = [
+static NOT_WHOLE: [&str; 11] = [
     "1.0",
     "-0",
     "-0.0",
@@ -196,7 +196,7 @@ fn is_judged(
     is_refused(alloc, &text, cause)
 }
 
-const NESTED: [(usize, &str, Option<DocError>); 11] = [
+static NESTED: [(usize, &str, Option<DocError>); 11] = [
     (99, "1", None),
     (100, "1", None),
     (100, "", None),
@@ -227,25 +227,50 @@ fn is_written(alloc: Global, document: &Datum, want: &str) -> Result<bool, Alloc
     Ok(found.as_slice() == want.as_bytes())
 }
 
+/// Whether a text is written so.
+fn is_text_written(alloc: Global, text: &str, want: &str) -> Result<bool, AllocError> {
+    let document = Datum::Str(Text::of(alloc, text)?);
+    is_written(alloc, &document, want)
+}
+
+/// Whether a number is.
+fn is_number_written(alloc: Global, number: i128, want: &str) -> Result<bool, AllocError> {
+    is_written(alloc, &Datum::Whole(number), want)
+}
+
 #[test]
 fn texts_and_numbers_are_written(rt: HostRuntime) -> Result<(), Fail> {
-    let alloc = rt.alloc();
-    let text = Datum::Str(Text::of(alloc, "a\n\"")?);
-    assert!(rt; is_written(alloc, &text, "\"a\\n\\\"\"")?);
-    let least = Datum::Whole(i128::MIN);
-    assert!(rt; is_written(alloc, &least, "-170141183460469231731687303715884105728")?);
+    assert!(rt; is_text_written(rt.alloc(), "a\n\"", "\"a\\n\\\"\"")?);
+    let least = "-170141183460469231731687303715884105728";
+    assert!(rt; is_number_written(rt.alloc(), i128::MIN, least)?);
     Ok(())
+}
+
+/// The items `null` and `true`.
+fn two_items(alloc: Global) -> Result<Items, AllocError> {
+    let mut items = Items::new(alloc);
+    items.push(Datum::Nil)?;
+    items.push(Datum::Flag(true))?;
+    Ok(items)
+}
+
+/// Whether those are all the items.
+fn are_two(items: &Items) -> bool {
+    let first = matches!(items.iter().next(), Some(Datum::Nil));
+    let next = matches!(items.get(1), Some(Datum::Flag(true)));
+    items.len() == 2 && items.get(2).is_none() && first && next
+}
+
+/// Whether they are kept and written in order.
+fn are_items_kept(alloc: Global) -> Result<bool, AllocError> {
+    let items = two_items(alloc)?;
+    let kept = are_two(&items);
+    Ok(kept && is_written(alloc, &Datum::Items(items), "[null,true]")?)
 }
 
 #[test]
 fn items_are_kept_in_order(rt: HostRuntime) -> Result<(), Fail> {
-    let mut items = Items::new(rt.alloc());
-    items.push(Datum::Nil)?;
-    items.push(Datum::Flag(true))?;
-    assert!(rt; items.len() == 2 && items.get(2).is_none());
-    assert!(rt; matches!(items.get(1), Some(Datum::Flag(true))));
-    assert!(rt; matches!(items.iter().next(), Some(Datum::Nil)));
-    assert!(rt; is_written(rt.alloc(), &Datum::Items(items), "[null,true]")?);
+    assert!(rt; are_items_kept(rt.alloc())?);
     Ok(())
 }
 
@@ -257,14 +282,18 @@ fn is_named(members: &Members, at: usize, want: &str) -> bool {
     }
 }
 
+/// Whether members are an `age` of 7 and a `name`.
+fn are_age_and_name(members: &Members) -> bool {
+    let age = matches!(members.get("age"), Some(Datum::Whole(7)));
+    let both = is_named(members, 0, "age") && is_named(members, 1, "name");
+    let two = members.len() == 2 && members.pair(2).is_none() && members.iter().count() == 2;
+    age && both && two && members.get("nam").is_none()
+}
+
 #[test]
 fn members_are_found_by_name_and_place(rt: HostRuntime) -> Result<(), Fail> {
     let members = object_of(rt.alloc(), "{\"name\":\"x\",\"age\":7}")?;
-    assert!(rt; members.len() == 2 && members.pair(2).is_none());
-    assert!(rt; matches!(members.get("age"), Some(Datum::Whole(7))));
-    assert!(rt; members.get("nam").is_none());
-    assert!(rt; is_named(&members, 0, "age") && is_named(&members, 1, "name"));
-    assert!(rt; members.iter().count() == 2);
+    assert!(rt; are_age_and_name(&members));
     Ok(())
 }
 
@@ -279,28 +308,65 @@ fn has_number(row: &Row, name: &str, want: i128) -> bool {
     matches!(row.get(name), Some(Datum::Whole(n)) if *n == want)
 }
 
+/// The members of a row, each with its number.
+static NUMBERS: [(&str, i128); 5] = [("", 0), ("ab", 1), ("b", 2), ("bb", 3), ("c", 4)];
+
+/// Names of which the row has none.
+static ABSENT: [&str; 4] = ["a", "ba", "bbb", "d"];
+
+/// Whether a row has each number.
+fn has_numbers(row: &Row) -> bool {
+    for (name, want) in &NUMBERS {
+        if !has_number(row, name, *want) {
+            return false;
+        }
+    }
+    true
+}
+
+/// Whether a row has none of the names.
+fn has_none(row: &Row) -> bool {
+    for name in &ABSENT {
+        if row.get(name).is_some() {
+            return false;
+        }
+    }
+    true
+}
+
 #[test]
 fn a_member_of_a_row_is_found_by_name(rt: HostRuntime) -> Result<(), Fail> {
     let row = row_of(rt.alloc(), "{\"b\":2,\"ab\":1,\"\":0,\"bb\":3,\"c\":4}")?;
-    for (name, want) in &[("", 0), ("ab", 1), ("b", 2), ("bb", 3), ("c", 4)] {
-        assert!(rt; has_number(&row, name, *want), "{name}");
-    }
-    for name in &["a", "ba", "bbb", "d"] {
-        assert!(rt; row.get(name).is_none(), "{name}");
-    }
-    assert!(rt; row_of(rt.alloc(), "{}")?.get("").is_none());
+    assert!(rt; has_numbers(&row) && has_none(&row));
     Ok(())
+}
+
+#[test]
+fn a_row_without_members_has_none(rt: HostRuntime) -> Result<(), Fail> {
+    let row = row_of(rt.alloc(), "{}")?;
+    assert!(rt; row.get("").is_none() && row.members().len() == 0);
+    Ok(())
+}
+
+/// A row's text twice behind other bytes.
+fn written_twice(alloc: Global, row: &Row) -> Result<Vec<u8>, AllocError> {
+    let mut out = b"row ".to_vec(alloc)?;
+    row.append_doc(&mut out)?;
+    row.append_doc(&mut out)?;
+    Ok(out)
 }
 
 #[test]
 fn a_row_is_written_behind_other_bytes(rt: HostRuntime) -> Result<(), Fail> {
     let row = row_of(rt.alloc(), "{\"b\":[2],\"a\":null}")?;
-    let mut out = b"row ".to_vec(rt.alloc())?;
-    row.append_doc(&mut out)?;
-    row.append_doc(&mut out)?;
-    let want = b"row {\"a\":null,\"b\":[2]}{\"a\":null,\"b\":[2]}";
-    assert!(rt; out.as_slice() == want.as_slice());
+    let out = written_twice(rt.alloc(), &row)?;
+    assert!(rt; out.as_slice() == b"row {\"a\":null,\"b\":[2]}{\"a\":null,\"b\":[2]}".as_slice());
     Ok(())
+}
+
+/// Whether this is the text of a row.
+fn is_doc(doc: Result<Vec<u8>, AllocError>) -> Result<bool, AllocError> {
+    Ok(doc?.as_slice() == b"{\"a\":1,\"b\":2}".as_slice())
 }
 
 #[test]
@@ -308,8 +374,7 @@ fn a_row_is_shared_by_threads(rt: HostRuntime) -> Result<(), Fail> {
     let row = row_of(rt.alloc(), "{\"b\":2,\"a\":1}")?;
     let second = row.share()?;
     let (lent, moved) = thread::join(&rt, || row.doc(), move || second.doc());
-    assert!(rt; lent?.as_slice() == b"{\"a\":1,\"b\":2}".as_slice());
-    assert!(rt; moved?.as_slice() == b"{\"a\":1,\"b\":2}".as_slice());
-    assert!(rt; row.members().len() == 2);
+    let both = is_doc(lent)? && is_doc(moved)?;
+    assert!(rt; both);
     Ok(())
 }
