@@ -2,7 +2,7 @@
 mod built;
 mod parts;
 
-use crate::{Edges, Node};
+use crate::{Edges, Node, Tree};
 use built::{draws_two, empty_tree};
 use mdb_datum::{Datum, Row};
 use std::test::Fail;
@@ -32,20 +32,30 @@ fn is_node(node: &Node, prefix: &[u8], has_leaf: bool, labels: &[u8]) -> bool {
 
 // ---- trees as a whole
 
+/// Whether a tree has no key.
+fn is_empty(tree: &Tree) -> bool {
+    let rootless = tree.len() == 0 && is_node(tree.root(), b"", false, b"");
+    let keyless = tree.get(b"k").is_none() && tree.longest(b"k").is_none();
+    rootless && keyless && tree.seek(b"").is_some() && tree.seek(b"k").is_none()
+}
+
 #[test]
 fn a_new_tree_is_empty(rt: HostRuntime) -> Result<(), Fail> {
     let tree = empty_tree(rt.alloc())?;
-    assert!(rt; tree.len() == 0 && is_node(tree.root(), b"", false, b""));
-    assert!(rt; tree.get(b"k").is_none() && tree.longest(b"k").is_none());
-    assert!(rt; tree.seek(b"").is_some() && tree.seek(b"k").is_none());
+    assert!(rt; is_empty(&tree));
     Ok(())
+}
+
+/// Whether both watches of a missing key are the cell 7.
+fn is_watched_at_7(tree: &Tree) -> bool {
+    let (cell, row) = tree.get_watch(b"k");
+    cell.id() == 7 && row.is_none() && tree.seek_watch(b"k").id() == 7
 }
 
 #[test]
 fn an_empty_tree_is_watched_at_its_root(rt: HostRuntime) -> Result<(), Fail> {
     let tree = empty_tree(rt.alloc())?;
-    let (cell, row) = tree.get_watch(b"k");
-    assert!(rt; cell.id() == 7 && row.is_none() && tree.seek_watch(b"k").id() == 7);
+    assert!(rt; is_watched_at_7(&tree));
     Ok(())
 }
 

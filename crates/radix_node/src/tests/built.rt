@@ -5,7 +5,7 @@ ghost use Rattle.mdb_datum.specs.Row.{IsCanonicalRow};
 ghost use Rattle.radix_node.specs.Edges.{EdgesRise};
 ghost use Rattle.radix_node.specs.Node.{edges_of, nodes_in};
 
-use crate::{Edge, Edges, Ids, Node, Tree};
+use crate::{Edge, Edges, Ids, Leaf, Node, NodeRef, Tree};
 use mdb_datum::{Datum, Members, Row, read_doc};
 use std::alloc::{AllocError, Global};
 use std::sync::Arc;
@@ -33,10 +33,47 @@ pub fn cell(alloc: Global, id: u64) -> Result<Arc<WatchCell>, AllocError> {
     open_cell(alloc, &book, &front, id)
 }
 
-/// An edge to a node without leaf and edges.
+/// A node without leaf and edges, whose cell has the id 1.
+pub fn bare(alloc: Global, prefix: &[u8]) -> Result<NodeRef, AllocError> {
+    Node::of(alloc, prefix, None, Edges::new(alloc), cell(alloc, 1)?)
+}
+
+/// An edge to such a node.
 pub fn edge(alloc: Global, label: u8, prefix: &[u8]) -> Result<Edge, AllocError> {
-    let node = Node::of(alloc, prefix, None, Edges::new(alloc), cell(alloc, 1)?)?;
-    Ok(Edge::of(label, node))
+    Ok(Edge::of(label, bare(alloc, prefix)?))
+}
+
+/// A leaf of the key `p`, whose cell has this id.
+pub fn leaf(alloc: Global, row: &Row, id: u64) -> Result<Arc<Leaf, Global>, AllocError> {
+    Leaf::of(alloc, b"p", row, cell(alloc, id)?)
+}
+
+/// A leaf of a row that a text reads as.
+fn leaf_by(alloc: Global, text: &str, id: u64) -> Result<Arc<Leaf, Global>, Fail> {
+    let row = row(alloc, text)?;
+    Ok(leaf(alloc, &row, id)?)
+}
+
+/// A node of the prefix `p` with edges `a` and `b`, whose cell has this id.
+fn with_leaf(
+    alloc: Global,
+    leaf: Option<Arc<Leaf, Global>>,
+    id: u64,
+) -> Result<NodeRef, AllocError> {
+    let cell = cell(alloc, id)?;
+    let edges = edges_by(alloc, b"ab")?;
+    Node::of(alloc, b"p", leaf, edges, cell)
+}
+
+/// Such a node without a leaf.
+pub fn forked(alloc: Global, id: u64) -> Result<NodeRef, AllocError> {
+    with_leaf(alloc, None, id)
+}
+
+/// Such a node with a leaf.
+pub fn leafed(alloc: Global, text: &str, leaf_id: u64, id: u64) -> Result<NodeRef, Fail> {
+    let leaf = leaf_by(alloc, text, leaf_id)?;
+    Ok(with_leaf(alloc, Some(leaf), id)?)
 }
 
 /// Edges by these labels.

@@ -3,9 +3,9 @@ ghost use Rattle.std.specs.Prelude.{◌≤◌, length};
 ghost use Rattle.radix_node.specs.Edges.{EdgesRise};
 ghost use Rattle.radix_node.specs.Node.{edges_of, nodes_in};
 
-use super::built::{cell, edge, edges_by, row};
+use super::built::{bare, cell, edge, edges_by, forked, leaf, leafed, row};
 use super::{is_node, is_row, labels_are};
-use crate::{Edges, Leaf, Node};
+use crate::{Edges, Node, NodeRef};
 use mdb_datum::Row;
 use std::alloc::{AllocError, Global};
 use std::test::Fail;
@@ -40,24 +40,39 @@ fn all_256_labels_are_found_and_in_order(rt: HostRuntime) -> Result<(), Fail> {
     Ok(())
 }
 
+/// Whether labels of `abd` are at their places, and others go between them.
+fn are_placed(edges: &Edges) -> bool
+    requires { EdgesRise (nodes_in (edges_of edges.now)) }
+{
+    let within = edges.find(b'c') == Err(2) && edges.find(b'd') == Ok(2);
+    within && edges.find(0) == Err(0) && edges.find(255) == Err(3)
+}
+
 #[test]
 fn a_missing_label_has_the_place_where_it_would_go(rt: HostRuntime) -> Result<(), Fail> {
     let edges = edges_by(rt.alloc(), b"dab")?;
-    assert!(rt; edges.find(b'c') == Err(2) && edges.find(b'd') == Ok(2));
-    assert!(rt; edges.find(0) == Err(0) && edges.find(255) == Err(3));
+    assert!(rt; are_placed(&edges));
     Ok(())
+}
+
+/// Whether a put of an edge `b` gives an old one.
+fn is_put(alloc: Global, edges: &mut Edges) -> Result<bool, AllocError>
+    requires { EdgesRise (nodes_in (edges_of edges.old)) }
+{
+    let old = edges.put(edge(alloc, b'b', b"new")?)?;
+    Ok(old.is_some())
+}
+
+/// Whether the second of two edges is to this prefix.
+fn is_second(edges: &Edges, prefix: &[u8]) -> bool {
+    edges.len() == 2 && edges.get(1).is_some_and(|e| e.node().prefix() == prefix)
 }
 
 #[test]
 fn put_gives_the_old_edge(rt: HostRuntime) -> Result<(), Fail> {
     let mut edges = edges_by(rt.alloc(), b"ab")?;
-    let old = edges.put(edge(rt.alloc(), b'b', b"new")?)?;
-    assert!(rt; old.is_some() && edges.len() == 2);
-    assert!(rt;
-        edges
-            .get(1)
-            .is_some_and(|e| e.node().prefix() == b"new".as_slice())
-    );
+    let put = is_put(rt.alloc(), &mut edges)?;
+    assert!(rt; put && is_second(&edges, b"new"));
     Ok(())
 }
 
@@ -79,15 +94,18 @@ fn cut(edges: &Edges) -> Result<bool, AllocError>
 #[test]
 fn edges_are_copied_with_another_in_place_of_some(rt: HostRuntime) -> Result<(), Fail> {
     let edges = edges_by(rt.alloc(), b"bdac")?;
-    assert!(rt; edges.len() == 4);
-    assert!(rt; spliced(&edges, rt.alloc())? && cut(&edges)?);
+    if edges.len() != 4 {
+        return Err(Fail::from("not four edges"));
+    }
+    let both = spliced(&edges, rt.alloc())? && cut(&edges)?;
+    assert!(rt; both);
     Ok(())
 }
 
 // ---- nodes
 
 /// A key, what it has after the prefix `foo`, and how many bytes they have in common.
-const AFTER_FOO: [(&[u8], Option<&[u8]>, usize); 4] = [
+static AFTER_FOO: [(&[u8], Option<&[u8]>, usize); 4] = [
     (b"football", Some(b"tball"), 3),
     (b"foo", Some(b""), 3),
     (b"fox", None, 2),
@@ -105,80 +123,76 @@ fn is_after(node: &Node, keys: &[(&[u8], Option<&[u8]>, usize)]) -> bool {
 
 #[test]
 fn what_a_key_has_after_a_prefix(rt: HostRuntime) -> Result<(), Fail> {
-    let foo = Node::of(
-        rt.alloc(),
-        b"foo",
-        None,
-        Edges::new(rt.alloc()),
-        cell(rt.alloc(), 1)?,
-    )?;
+    let foo = bare(rt.alloc(), b"foo")?;
     assert!(rt; is_after(foo.node(), &AFTER_FOO));
     Ok(())
 }
 
-fn copies_change_one_part(node: &Node, alloc: Global) -> Result<bool, AllocError> {
+/// Whether a copy has another prefix.
+fn has_prefix(node: &Node, alloc: Global) -> Result<bool, AllocError> {
     let moved = node.with_prefix(b"q", cell(alloc, 3)?)?;
-    let bare = node.with_edges(Edges::new(alloc), cell(alloc, 4)?)?;
-    let ids = [moved.node().cell().id(), bare.node().cell().id()];
-    Ok(
-        ids == [3, 4]
-            && is_node(moved.node(), b"q", true, b"ab")
-            && is_node(bare.node(), b"p", true, b""),
-    )
+    let copy = moved.node();
+    Ok(copy.cell().id() == 3 && is_node(copy, b"q", true, b"ab"))
 }
 
-fn copy_has_leaf(node: &Node, alloc: Global, row: &Row) -> Result<bool, AllocError> {
-    let keyed = node.with_leaf(
-        Leaf::of(alloc, b"p", row, cell(alloc, 3)?)?,
-        cell(alloc, 4)?,
-    )?;
+/// Whether a copy has no edges.
+fn has_no_edges(node: &Node, alloc: Global) -> Result<bool, AllocError> {
+    let shorn = node.with_edges(Edges::new(alloc), cell(alloc, 4)?)?;
+    let copy = shorn.node();
+    Ok(copy.cell().id() == 4 && is_node(copy, b"p", true, b""))
+}
+
+#[test]
+fn a_copy_changes_one_part(rt: HostRuntime) -> Result<(), Fail> {
+    let node = leafed(rt.alloc(), "{\"n\":1}", 2, 1)?;
+    let both = has_prefix(node.node(), rt.alloc())? && has_no_edges(node.node(), rt.alloc())?;
+    assert!(rt; both);
+    Ok(())
+}
+
+/// A copy with a leaf of a row.
+fn keyed(node: &Node, alloc: Global, row: &Row) -> Result<NodeRef, AllocError> {
+    node.with_leaf(leaf(alloc, row, 3)?, cell(alloc, 4)?)
+}
+
+/// Whether a copy has that leaf, and the same prefix and edges.
+fn has_leaf(node: &Node, alloc: Global, row: &Row) -> Result<bool, AllocError> {
+    let keyed = keyed(node, alloc, row)?;
     let again = keyed.node().share_row()?;
     Ok(is_node(keyed.node(), b"p", true, b"ab") && is_row(again.as_ref(), 2))
 }
 
 #[test]
-fn a_copy_changes_one_part(rt: HostRuntime) -> Result<(), Fail> {
-    let row = row(rt.alloc(), "{\"n\":1}")?;
-    let leaf = Leaf::of(rt.alloc(), b"p", &row, cell(rt.alloc(), 2)?)?;
-    let node = Node::of(
-        rt.alloc(),
-        b"p",
-        Some(leaf),
-        edges_by(rt.alloc(), b"ab")?,
-        cell(rt.alloc(), 1)?,
-    )?;
-    assert!(rt; copies_change_one_part(node.node(), rt.alloc())?);
-    Ok(())
-}
-
-#[test]
 fn a_copy_has_another_leaf(rt: HostRuntime) -> Result<(), Fail> {
+    let node = forked(rt.alloc(), 1)?;
     let row = row(rt.alloc(), "{\"n\":2}")?;
-    let node = Node::of(
-        rt.alloc(),
-        b"p",
-        None,
-        edges_by(rt.alloc(), b"ab")?,
-        cell(rt.alloc(), 1)?,
-    )?;
-    assert!(rt; copy_has_leaf(node.node(), rt.alloc(), &row)?);
+    assert!(rt; has_leaf(node.node(), rt.alloc(), &row)?);
     Ok(())
 }
 
-/// Which cells of a node are listed, where ids below a bound are.
+/// Bounds, and how many cells have an id below: those of the edges' nodes have the id 1.
+static BOUNDS: [(u64, usize); 4] = [(6, 4), (5, 3), (3, 2), (1, 0)];
+
+/// Whether so many cells of a node are listed, where ids below a bound are.
 fn lists(node: &Node, below: u64, count: usize, alloc: Global) -> Result<bool, AllocError> {
     let mut cells = Vec::new(alloc);
     node.push_cells(below, &mut cells)?;
     Ok(cells.len() == count)
 }
 
+/// Whether they are for each bound.
+fn lists_each(node: &Node, alloc: Global) -> Result<bool, AllocError> {
+    for (below, count) in &BOUNDS {
+        if !lists(node, *below, *count, alloc)? {
+            return Ok(false);
+        }
+    }
+    Ok(true)
+}
+
 #[test]
 fn cells_are_listed_below_a_bound(rt: HostRuntime) -> Result<(), Fail> {
-    let row = row(rt.alloc(), "{}")?;
-    let leaf = Leaf::of(rt.alloc(), b"p", &row, cell(rt.alloc(), 5)?)?;
-    let edges = edges_by(rt.alloc(), b"ab")?;
-    let node = Node::of(rt.alloc(), b"p", Some(leaf), edges, cell(rt.alloc(), 3)?)?;
-    assert!(rt; lists(node.node(), 6, 4, rt.alloc())? && lists(node.node(), 5, 3, rt.alloc())?);
-    assert!(rt; lists(node.node(), 3, 2, rt.alloc())? && lists(node.node(), 1, 0, rt.alloc())?);
+    let node = leafed(rt.alloc(), "{}", 5, 3)?;
+    assert!(rt; lists_each(node.node(), rt.alloc())?);
     Ok(())
 }
