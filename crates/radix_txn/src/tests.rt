@@ -85,54 +85,62 @@ fn nodes_after(
     Ok(nodes_are(&tree, nodes))
 }
 
-const BESIDE_KEYS: [&[u8]; 3] = [b"foo\0", b"football\0", b"fool\0"];
+const OLD_KEYS: [&[u8]; 2] = [b"foo\0", b"football\0"];
 
-#[test]
-fn a_missing_key_goes_beside_the_others(rt: HostRuntime) -> Result<(), Fail> {
-    assert!(rt; nodes_after(rt.alloc(), &BESIDE_KEYS, &[], &BESIDE)?);
-    Ok(())
-}
+const BESIDE_KEYS: [&[u8]; 3] = [b"foo\0", b"football\0", b"fool\0"];
 
 const FORKED_KEYS: [&[u8]; 3] = [b"foo\0", b"football\0", b"foot\0"];
 
-#[test]
-fn a_node_is_split_where_the_key_parts_from_it(rt: HostRuntime) -> Result<(), Fail> {
-    assert!(rt; nodes_after(rt.alloc(), &FORKED_KEYS, &[], &FORKED)?);
-    Ok(())
-}
-
-const OLD_KEYS: [&[u8]; 2] = [b"foo\0", b"football\0"];
-
-const FOOTBALL: [&[u8]; 1] = [b"football\0"];
-
-#[test]
-fn a_node_left_with_one_edge_is_merged(rt: HostRuntime) -> Result<(), Fail> {
-    assert!(rt; nodes_after(rt.alloc(), &OLD_KEYS, &FOOTBALL, &FOO)?);
-    Ok(())
-}
-
-const MISSING: [&[u8]; 2] = [b"foo", b"g"];
-
-#[test]
-fn a_missing_key_takes_nothing(rt: HostRuntime) -> Result<(), Fail> {
-    assert!(rt; nodes_after(rt.alloc(), &FORKED_KEYS, &MISSING, &FORKED)?);
-    Ok(())
-}
+const ROOT_KEYS: [&[u8]; 3] = [b"ab", b"ac", b""];
 
 const ONE: [Line; 2] = [(b"", b"", false, b"a"), (b"a", b"b", true, b"")];
 
-const ROOT_KEYS: [&[u8]; 3] = [b"ab", b"ac", b""];
+/// What is shown, keys that are put, keys that are taken out then, and the nodes that are left.
+type Shape = (
+    &'static str,
+    &'static [&'static [u8]],
+    &'static [&'static [u8]],
+    &'static [Line<'static>],
+);
 
-const ALL_BUT_ONE: [&[u8]; 2] = [b"ac", b""];
+static SHAPES: [Shape; 5] = [
+    (
+        "a missing key goes beside the others",
+        &BESIDE_KEYS,
+        &[],
+        &BESIDE,
+    ),
+    (
+        "a node is split where the key parts",
+        &FORKED_KEYS,
+        &[],
+        &FORKED,
+    ),
+    (
+        "a node left with one edge is merged",
+        &OLD_KEYS,
+        &[b"football\0"],
+        &FOO,
+    ),
+    (
+        "a missing key takes nothing",
+        &FORKED_KEYS,
+        &[b"foo", b"g"],
+        &FORKED,
+    ),
+    ("the root is not merged", &ROOT_KEYS, &[b"ac", b""], &ONE),
+];
 
 #[test]
-fn the_root_is_not_merged(rt: HostRuntime) -> Result<(), Fail> {
-    assert!(rt; nodes_after(rt.alloc(), &ROOT_KEYS, &ALL_BUT_ONE, &ONE)?);
+fn keys_that_come_and_go_leave_these_nodes(rt: HostRuntime) -> Result<(), Fail> {
+    for (name, keys, taken, nodes) in &SHAPES {
+        assert!(rt; nodes_after(rt.alloc(), keys, taken, nodes)?, "{name}");
+    }
     Ok(())
 }
 
 /// What each prefix takes from the forked tree, and the nodes that are left.
-const TAKEN: [(&[u8], u64, &[Line]); 10] = [
+static TAKEN: [(&[u8], u64, &[Line]); 10] = [
     (b"", 3, &EMPTY),
     (b"f", 3, &EMPTY),
     (b"foo", 3, &EMPTY),

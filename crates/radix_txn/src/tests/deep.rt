@@ -7,7 +7,7 @@ use std::alloc::{AllocError, Global};
 use std::test::Fail;
 use std::thread;
 
-const LETTERS: [u8; 2048] = [b'a'; 2048];
+static LETTERS: [u8; 2048] = [b'a'; 2048];
 
 /// Puts all the keys, the shortest or the longest first.
 fn put_all(work: &mut Work, row: &Row, longest_first: bool) -> Result<(), AllocError> {

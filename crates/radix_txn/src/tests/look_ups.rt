@@ -5,10 +5,10 @@ use radix_node::{Node, Tree};
 use std::test::Fail;
 
 /// The words `foo`, `foot` and `football`, each ended by a byte 00.
-const FORKED: [&[u8]; 3] = [b"foo\0", b"foot\0", b"football\0"];
+static FORKED: [&[u8]; 3] = [b"foo\0", b"foot\0", b"football\0"];
 
 /// Each begins the next one, and has its length for its number.
-const NESTED: [&[u8]; 4] = [b"", b"a", b"ab", b"abc"];
+static NESTED: [&[u8]; 4] = [b"", b"a", b"ab", b"abc"];
 
 fn is_node(node: &Node, prefix: &[u8], has_leaf: bool, labels: &[u8]) -> bool {
     node.prefix() == prefix && node.leaf().is_some() == has_leaf && labels_are(node.edges(), labels)
@@ -21,7 +21,7 @@ fn is_node(node: &Node, prefix: &[u8], has_leaf: bool, labels: &[u8]) -> bool {
 type Line = (&'static [u8], &'static [u8], bool, &'static [u8]);
 
 /// In the forked tree.
-const NODES: [Line; 9] = [
+static NODES: [Line; 9] = [
     (b"", b"", false, b"f"),
     (b"f", b"oo", false, b"\0t"),
     (b"foo", b"oo", false, b"\0t"),
@@ -56,7 +56,7 @@ fn a_prefix_leads_to_the_node_of_its_keys(rt: HostRuntime) -> Result<(), Fail> {
     Ok(())
 }
 
-const NOWHERE: [&[u8]; 6] = [b"g", b"fa", b"foo\0\0", b"fooz", b"footbz", b"football\0x"];
+static NOWHERE: [&[u8]; 6] = [b"g", b"fa", b"foo\0\0", b"fooz", b"footbz", b"football\0x"];
 
 fn leads_nowhere(tree: &Tree, prefixes: &[&[u8]]) -> bool {
     for prefix in prefixes {
@@ -76,7 +76,7 @@ fn a_prefix_of_no_key_leads_nowhere(rt: HostRuntime) -> Result<(), Fail> {
 
 // ---- look-ups
 
-const THERE: [(&[u8], bool); 10] = [
+static THERE: [(&[u8], bool); 10] = [
     (b"foo\0", true),
     (b"foot\0", true),
     (b"football\0", true),
@@ -106,7 +106,7 @@ fn whole_keys_alone_are_found(rt: HostRuntime) -> Result<(), Fail> {
 }
 
 /// A key, and the number of the row under the longest key that is a prefix of it.
-const LONGEST: [(&[u8], u64); 6] = [
+static LONGEST: [(&[u8], u64); 6] = [
     (b"", 0),
     (b"x", 0),
     (b"ax", 1),
@@ -146,7 +146,7 @@ fn keys_that_begin_each_other_are_told_apart(rt: HostRuntime) -> Result<(), Fail
     Ok(())
 }
 
-const LONG: [u8; 2048] = [b'k'; 2048];
+static LONG: [u8; 2048] = [b'k'; 2048];
 
 fn has_long(tree: &Tree) -> bool {
     tree.get(&LONG).is_some() && tree.get(&LONG[..2047]).is_none()

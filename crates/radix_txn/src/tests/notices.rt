@@ -10,10 +10,10 @@ use std::test::Fail;
 /// keys that begin with it.
 type Line = (&'static [u8], &'static [u8], bool, bool);
 
-const OLD: [&[u8]; 2] = [b"foo\0", b"football\0"];
+static OLD: [&[u8]; 2] = [b"foo\0", b"football\0"];
 
 /// After each insert into the tree of `foo` and `football`.
-const INSERTS: [Line; 10] = [
+static INSERTS: [Line; 10] = [
     // the missing key goes beside both: their leaves stay, and the node above them is copied
     (b"fool\0", b"fool\0", true, true),
     (b"fool\0", b"foo\0", false, false),
@@ -102,7 +102,7 @@ fn an_insert_fires_what_it_copies(rt: HostRuntime) -> Result<(), Fail> {
     Ok(())
 }
 
-const MERGED: [Told; 2] = [(b"foo\0", false, true), (b"football\0", true, true)];
+static MERGED: [Told; 2] = [(b"foo\0", false, true), (b"football\0", true, true)];
 
 /// The tree of `foo` and `football` before and after `football` is taken out: the node above is
 /// merged with that of `foo`, whose leaf stays.
@@ -118,7 +118,7 @@ fn a_merge_fires_the_child_and_keeps_its_leaf(rt: HostRuntime) -> Result<(), Fai
     Ok(())
 }
 
-const PUT_AGAIN: [Told; 1] = [(b"foo\0", true, true)];
+static PUT_AGAIN: [Told; 1] = [(b"foo\0", true, true)];
 
 /// A row that is put again fires as another one would.
 fn put_again(alloc: Global) -> Result<bool, AllocError> {
@@ -140,7 +140,7 @@ fn an_equal_row_fires_too(rt: HostRuntime) -> Result<(), Fail> {
     Ok(())
 }
 
-const PUT_ABOVE: [Told; 2] = [(b"foo", true, true), (b"foo\0", false, false)];
+static PUT_ABOVE: [Told; 2] = [(b"foo", true, true), (b"foo\0", false, false)];
 
 /// The key `foo` ends at the node above both others, which has no leaf: they stay as they are.
 fn put_above(alloc: Global) -> Result<bool, AllocError> {
@@ -154,9 +154,9 @@ fn a_leaf_above_others_leaves_them(rt: HostRuntime) -> Result<(), Fail> {
     Ok(())
 }
 
-const THREE: [&[u8]; 3] = [b"foo\0", b"football\0", b"foot\0"];
+static THREE: [&[u8]; 3] = [b"foo\0", b"football\0", b"foot\0"];
 
-const TAKEN: [Told; 2] = [(b"foo\0", false, true), (b"foot\0", true, true)];
+static TAKEN: [Told; 2] = [(b"foo\0", false, true), (b"foot\0", true, true)];
 
 /// The keys that begin with `foot` are taken out: the leaf of `foo` alone stays.
 fn taken(alloc: Global) -> Result<bool, AllocError> {

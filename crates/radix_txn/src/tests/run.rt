@@ -10,7 +10,7 @@ use std::test::Fail;
 type Plain = BTreeMap<Vec<u8>, u64>;
 
 /// The letters of keys.
-const LETTERS: [u8; 4] = [0, b'a', b'b', 255];
+static LETTERS: [u8; 4] = [0, b'a', b'b', 255];
 
 /// Numbers by Marsaglia's shifts, the same in each run.
 #[derive(Drop)]
