@@ -6,7 +6,7 @@ ghost use Rattle.mem_txn.specs.Transactions.{changes_of};
 use super::{Told, Txn, committed, schema_of};
 use crate::{BeginRefused, Db, Pass, Passes, ReadTxn, Snapshot, Tried};
 use mdb_datum::{Datum, Row};
-use mdb_schema::{Answer, Ask, Rows};
+use mdb_schema::{Answer, Ask, AskError, Rows};
 use std::alloc::{AllocError, Global};
 use std::sync::Wait;
 use std::test::Fail;
@@ -166,14 +166,19 @@ fn in_order(alloc: Global, rows: &Rows) -> Result<Option<(u64, u64)>, AllocError
     Ok(Some(counts))
 }
 
-/// The users of a state, by age.
-pub(super) fn are_in_order(alloc: Global, read: &ReadTxn, counts: (u64, u64)) -> Told {
-    let query = super::query_of(alloc, Ask::Get, ("users", "age"), "[]")?;
-    match read.ask(&query) {
+/// Whether an answer lists so many users of each, in order.
+fn are_counted(alloc: Global, answer: Result<Answer, AskError>, counts: (u64, u64)) -> Told {
+    match answer {
         Ok(Answer::Many(rows)) => Ok(in_order(alloc, &rows)? == Some(counts)),
         Ok(Answer::One(_)) => Ok(false),
         Err(_) => Err(AllocError),
     }
+}
+
+/// Whether a state has so many users of each, by age.
+pub(super) fn are_in_order(alloc: Global, read: &ReadTxn, counts: (u64, u64)) -> Told {
+    let query = super::query_of(alloc, Ask::Get, ("users", "age"), "[]")?;
+    are_counted(alloc, read.ask(&query), counts)
 }
 
 /// Whether a try of a caller finds another's transaction open.

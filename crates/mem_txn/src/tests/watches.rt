@@ -82,16 +82,23 @@ pub fn watched_of(read: &ReadTxn, query: &Query) -> Result<(Answer, Held), Alloc
 }
 
 /// The held watch of a question that has this answer.
-fn held_of(alloc: Global, read: &ReadTxn, asked: &Asked) -> Result<Held, AllocError>
-    ensures { IfOk result (λ h. (q : query.Query) × IsHeldOf read.now q h) }
+fn held_so(alloc: Global, read: &ReadTxn, query: &Query, told: &str) -> Result<Held, AllocError>
+    ensures { IfOk result (λ h. IsHeldOf read.now query.now h) }
 {
-    let query = query_as(alloc, asked)?;
-    let (answer, held) = watched_of(read, &query)?;
-    if is_told(alloc, &answer, asked.3)? {
+    let (answer, held) = watched_of(read, query)?;
+    if is_told(alloc, &answer, told)? {
         Ok(held)
     } else {
         Err(AllocError)
     }
+}
+
+/// The same of a question of a list.
+fn held_of(alloc: Global, read: &ReadTxn, asked: &Asked) -> Result<Held, AllocError>
+    ensures { IfOk result (λ h. (q : query.Query) × IsHeldOf read.now q h) }
+{
+    let query = query_as(alloc, asked)?;
+    held_so(alloc, read, &query, asked.3)
 }
 
 /// The same, asked after all commits that there are.

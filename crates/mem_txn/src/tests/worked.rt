@@ -460,12 +460,22 @@ fn is_kept(alloc: Global, kept: &Snapshot) -> Told {
     is_answered(alloc, kept.ask(&query_as(alloc, &KEPT)?), KEPT.3)
 }
 
+static NOTHING: [Asked; 1] = [NO_USERS];
+
+/// Whether a snapshot has its row, and the last state none.
+fn are_apart(alloc: Global, kept: Result<Snapshot, AllocError>, last: &ReadTxn) -> Told {
+    match kept {
+        Ok(kept) => Ok(is_kept(alloc, &kept)? && are_read(alloc, last, 0, &NOTHING)?),
+        Err(_) => Err(AllocError),
+    }
+}
+
 /// Whether a snapshot stays, and the database has nothing of its transaction.
 fn is_outlived<R: Wait>(rt: &R, alloc: Global) -> Told {
     let (db, passes, pass) = opened(alloc)?;
     let (pass, kept) = outlived(rt, alloc, &db, pass);
     let last = closed(rt, db, passes, pass);
-    Ok(is_kept(alloc, &kept?)? && are_read(alloc, &last, 0, &[NO_USERS])?)
+    are_apart(alloc, kept, &last)
 }
 
 #[test]
