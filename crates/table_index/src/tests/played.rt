@@ -48,10 +48,10 @@ pub fn filled(alloc: Global, schema: &str, script: &str) -> Result<Base, Fail> {
     stood(alloc, &mut txn, script)
 }
 
-/// The table after a script.
+/// A second owner of the table after a script.
 fn stood(alloc: Global, txn: &mut Work, script: &str) -> Result<Base, Fail> {
     write(alloc, txn, script)?;
-    Ok(txn.stand()?)
+    Ok(txn.stand()?.share()?)
 }
 
 /// Fails with the lines and the answers that came where they aren't those of a script.
