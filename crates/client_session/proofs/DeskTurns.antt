@@ -1,20 +1,21 @@
 -- From the turn of what is open to the reply of a desk.
 use Rattle.std.proofs.Common.{arith, ◌≡◌, refl, ap, subst, sym, ◌∙◌, ℕ, ◌≤◌, false, List, [], ◌∷◌, ◌++◌, length, map, Option, Some, None, Result, Ok, Err, IfOk, IsErr, MatchOption, cond, slice_get}
 use Rattle.std.specs.Prelude.{option_map, is_some, if◌then◌else◌, Bool, true}
+use Rattle.std.specs.BTreeMap.{get_by_text}
 use Rattle.std.specs.Str.{bytes_eq}
 use Rattle.std.specs.Bool.{⊤}
-use Rattle.std.proofs.lemmas.List.{append-nil, length-append, take-append-le}
-use Rattle.mdb_schema.specs.State.{empty_state}
+use Rattle.std.proofs.lemmas.List.{append-nil}
 use Rattle.mem_txn.specs.Changes.{present_view}
 use Rattle.mem_txn.specs.Transactions.{AnswersSnapshot, changes_of, items_of}
 use Rattle.mem_txn.specs.declared.write_txn.WriteTxn.{WriteTxn}
 use Rattle.std.proofs.lemmas.Slice.Eq.{bytes_eq-Decides}
 use Rattle.mdb_datum.specs.Bytes.{Bytes}
-use Rattle.mdb_schema.specs.History.{Commit, History, after_commits, after_writes}
+use Rattle.mdb_schema.specs.History.{Commit, History}
 use Rattle.mdb_schema.specs.Schema.{DbSchema}
 use Rattle.mem_txn.specs.CellHistory.{Forest}
+use Rattle.mem_txn.specs.Checked.{IsBeginning}
 use Rattle.mem_txn.specs.Database.{Caller, Reading, View}
-use Rattle.client_script.proofs.LongerHistory.{no_entry, IsWithin, StandsWithin, AllWithin, told_longer, answered_within}
+use Rattle.client_script.proofs.LongerHistory.{no_entry, told_longer, answered_within}
 use Rattle.client_script.specs.Client.{Transaction, closed, reading, writing, Writing, Client, Sight, Snapshot, snapshot_named, state_seen, some_open}
 use Rattle.client_script.specs.Reply as said
 use Rattle.client_script.specs.Session.{IsEntry, Answers, of_rows}
@@ -30,7 +31,9 @@ use Rattle.mdb_schema.specs.Refusals.{AnswersAsk, ask_error}
 use Rattle.mdb_schema.specs.declared.answer.Answer.{Answer}
 use Rattle.mdb_schema.specs.declared.ask_error.AskError.{AskError}
 use Rattle.client_session.specs.Steps.{HasNotLost}
-use Rattle.client_session.proofs.BegunNumbers.{answered_none, StartsNone, starts_none}
+use Rattle.client_session.proofs.ToldCounts.{TellsNone, answered_none}
+use Rattle.client_session.proofs.FollowsOn.{follows_then, holds_on, knows_on, seen_more, within_more}
+use Rattle.client_session.proofs.KeptSteps.{seen_step}
 use Rattle.client_session.proofs.OpenTurns.{looks_self}
 use Rattle.client_session.proofs.RequestTurns.{rule_of_question, name_of_question, none_numbered}
 use Rattle.client_session.specs.declared.rule.Rule.TheVariants as rules
@@ -38,14 +41,18 @@ use Rattle.client_session.specs.inner.Refusal.{question_rule}
 use Rattle.client_session.specs.inner.RuleName.{rule_name}
 use Rattle.client_script.specs.declared.command.Command.{Command}
 use Rattle.client_session.specs.declared.desk.Desk.{Desk}
+use Rattle.client_session.specs.declared.kept.Kept.{Kept}
+use Rattle.client_session.specs.declared.kept.Kept.TheVariants as kinds
+use Rattle.client_session.specs.declared.named.Named.{Named}
 use Rattle.client_session.specs.declared.«open».Open.{Open}
 use Rattle.client_session.specs.declared.«open».Open.TheVariants as opens
 use Rattle.client_session.specs.declared.reply.Reply.TheVariants as replied_by
 use Rattle.client_session.specs.inner.ReplyOf.{reply_of}
 use Rattle.std.specs.declared.alloc.AllocError.{AllocError}
-use Rattle.client_session.specs.inner.DeskView.{Follows, LooksAndReplies, Presents, Replied, RepliesTo, StepsTo, view_of}
-use Rattle.client_session.specs.inner.KeptView.{seen_in}
-use Rattle.client_session.specs.inner.OpenView.{IsNumbered, Looks, LooksAndTurns, TriesWrite, TurnsTo, caller_of, transaction_of, Stands, made}
+use Rattle.client_session.specs.inner.DeskView.{Follows, IsHeldUp, IsKeptOf, LooksAndReplies, Presents, RepliesTo, StepsTo, view_of}
+use Rattle.client_session.specs.inner.KeptView.{kept_view, seen_in}
+use Rattle.client_session.specs.inner.OpenView.{Grows, IsNumbered, LooksAndTurns, TriesWrite, TurnsTo, caller_of, transaction_of, Stands, made}
+use Rattle.client_session.specs.inner.WatchingView.{Holds, IsReadBy, Knows}
 
 -- ---- the entry of a commit
 
@@ -83,73 +90,24 @@ entry_of (opens.Nothing pass) r numbered = no_entry (pass.seen ++ made pass.numb
 entry_of (opens.Reading pass txn) r numbered = no_entry (pass.seen ++ made pass.number (reading txn.view.number) r) pass.number (reading txn.view.number) r (none_told pass.number (number_printed r) numbered)
 entry_of (opens.Writing txn) r numbered = entry_made (changes_of txn).caller.seen (changes_of txn).caller.number (record { number = length (changes_of txn).caller.seen; writes = (changes_of txn).writes; texts = items_of txn }) r refl
 
--- ---- a longer history
-
-within_more : (n k : ℕ) (v : Client) → n ≤ k → IsWithin n v → IsWithin k v
-within_more n k v le within = record { transaction = stands v.transaction within.transaction; snapshots = all v.snapshots within.snapshots }
-  where
-    stands : (t : Transaction) → StandsWithin n t → StandsWithin k t
-    stands closed w = tt
-    stands (reading m) w = omega arith
-    stands (writing t) w = omega arith
-
-    all : (ss : List Snapshot) → AllWithin n ss → AllWithin k ss
-    all [] w = tt
-    all (s ∷ ss) w = (let at = w.0 in omega arith, all ss w.1)
-
-seen_longer : (schema : DbSchema) (H more : History) (s : Sight) → s.number ≤ length H → state_seen schema (H ++ more) s ≡ state_seen schema H s
-seen_longer schema H more s there = ap (λ (first : History). after_writes schema (after_commits schema (empty_state schema) first) s.writes) (take-append-le s.number H more there)
-
--- a snapshot sees what it saw
-view_more : (p q : Caller) (more : History) (s : Sight) → q.schema ≡ p.schema → p.seen ++ more ≡ q.seen → s.number ≤ length p.seen → view_of q s ≡ view_of p s
-view_more p q more s same longer le =
-    (λ i. let r : View = record { schema = same i; number = s.number; state = state_seen (same i) (sym longer i) s } in r)
-    ∙ ap (λ state. record { schema = p.schema; number = s.number; state = state }) (seen_longer p.schema p.seen more s le)
-
-views_more : (p q : Caller) (more : History) (name : Bytes) (ss : List Snapshot) → q.schema ≡ p.schema → p.seen ++ more ≡ q.seen → AllWithin (length p.seen) ss → option_map (view_of q) (snapshot_named name ss) ≡ option_map (view_of p) (snapshot_named name ss)
-views_more p q more name [] same longer within = refl
-views_more p q more name (s ∷ ss) same longer within = one (bytes_eq s.name name) (views_more p q more name ss same longer within.1)
-  where
-    one : (b : Bool) → option_map (view_of q) (snapshot_named name ss) ≡ option_map (view_of p) (snapshot_named name ss) → option_map (view_of q) (if b then Some s.sight else snapshot_named name ss) ≡ option_map (view_of p) (if b then Some s.sight else snapshot_named name ss)
-    one true later = ap Some (view_more p q more s.sight same longer within.0)
-    one false later = later
-
--- a client's knowledge fits a caller that has seen more
-pub follows_longer : (d at : Desk) (v : Client) → Looks d.«open» at.«open» → at.snapshots ≡ d.snapshots → Follows d v → Follows at v
-follows_longer d at v looks same follows =
-    let p = caller_of d.«open» in
-    let q = caller_of at.«open» in
-    let long = length-append p.seen looks.later.seen.0 in
-    let whole = ap length looks.later.seen.1 in
-    let longer : length p.seen ≤ length q.seen = omega (arith, long, whole) in
-    let last = follows.last in
-    record {
-      transaction = follows.transaction ∙ sym looks.transaction;
-      last = omega (arith, last, longer);
-      within = within_more (length p.seen) (length q.seen) v longer follows.within;
-      snapshots = λ name.
-          ap (λ s. seen_in s name) same
-          ∙ follows.snapshots name
-          ∙ sym (views_more p q looks.later.seen.0 name v.snapshots looks.later.schema looks.later.seen.1 follows.within.snapshots);
-      stands = looks.stands;
-    }
-
 -- ---- a line that looks at no further commits
 
-pub replies_at_once : (c : Command) (d d' : Desk) (r : said.Reply) → StartsNone c → Stands d.«open» → RepliesTo c d d' r → LooksAndReplies c d d' r
-replies_at_once c d d' r starts stands replies = record {
+pub replies_at_once : (c : Command) (d d' : Desk) (r : said.Reply) → TellsNone c → Stands d.«open» → RepliesTo c d d' r → LooksAndReplies c d d' r
+replies_at_once c d d' r none stands replies = record {
   at = d;
   looks = looks_self d.«open» stands;
   snapshots = refl;
-  replies = replies;
+  watching = refl;
+  replied = λ v before follows. replies v follows;
   loads = λ v follows.
-      let a = (replies.replied v follows).answers in
-      answered_none (caller_of d.«open»).schema (caller_of d'.«open»).seen (caller_of d.«open»).number a.now v (replies.replied v follows).next c r (looks_self d.«open» stands).read starts a.says;
+      let step = replies v follows in
+      let a = step.answers in
+      answered_none (caller_of d.«open»).schema (caller_of d'.«open»).seen (caller_of d.«open»).number a.now v step.next c r (looks_self d.«open» stands).read none a.says;
 }
 
 -- ---- a line's reply
 
-module _ (c : Command) (d d' : Desk) (r : said.Reply) (known : is_of_watches c ≡ false) (to : TurnsTo c d.«open» d'.«open» r) (same : d'.snapshots ≡ d.snapshots) where
+module _ (c : Command) (d d' : Desk) (r : said.Reply) (known : is_of_watches c ≡ false) (to : TurnsTo c d.«open» d'.«open» r) (same : d'.snapshots ≡ d.snapshots) (watching : d'.watching ≡ d.watching) where
   p : Caller
   p = caller_of d.«open»
 
@@ -166,12 +124,20 @@ module _ (c : Command) (d d' : Desk) (r : said.Reply) (known : is_of_watches c �
   seen_grown : (caller_of d'.«open»).seen ≡ p.seen ++ more
   seen_grown = ap (λ (q : Caller). q.seen) grown
 
-  longer : length p.seen ≤ length (caller_of d'.«open»).seen
-  longer = rw (seen_grown, length-append p.seen more) (search (arith))
+  begins : IsBeginning p (caller_of d'.«open»)
+  begins = record {
+    schema = ap (λ (q : Caller). q.schema) grown;
+    book = ap (λ (q : Caller). q.book) grown;
+    seen = (more, sym seen_grown);
+    trees = (trees, sym (ap (λ (q : Caller). q.trees) grown));
+  }
 
-  replied : (v : Client) → Follows d v → Replied c d d' r v
+  longer : length p.seen ≤ length (caller_of d'.«open»).seen
+  longer = seen_more p (caller_of d'.«open») begins
+
+  pub replies : RepliesTo c d d' r
   unfolding p more
-  replied v follows =
+  replies v follows =
       let t = to.turns v follows.transaction follows.last in
       let answers : Answers p.schema (caller_of d'.«open»).seen p.number v c r t.next = record {
         now = length p.seen;
@@ -183,53 +149,50 @@ module _ (c : Command) (d d' : Desk) (r : said.Reply) (known : is_of_watches c �
       record {
         next = t.next;
         answers = answers;
-        follows = record {
-          transaction = t.transaction;
-          last = t.last;
-          within = answered_within p.schema (caller_of d'.«open»).seen p.number v c r t.next (within_more (length p.seen) (length (caller_of d'.«open»).seen) v longer follows.within) answers;
-          snapshots = λ name.
-              ap (λ s. seen_in s name) same
-              ∙ follows.snapshots name
-              ∙ sym (views_more p (caller_of d'.«open») more name v.snapshots (ap (λ (q : Caller). q.schema) grown) (sym seen_grown) follows.within.snapshots)
-              ∙ ap (λ ss. option_map (view_of (caller_of d'.«open»)) (snapshot_named name ss)) (sym t.snapshots);
-          stands = to.stands;
-        };
+        follows = follows_then d d' v t.next begins t.transaction t.last (answered_within p.schema (caller_of d'.«open»).seen p.number v c r t.next (within_more (length p.seen) (length (caller_of d'.«open»).seen) v longer follows.within) answers) t.snapshots same (knows_on d d' v t.next begins watching t.watching follows.knows) (holds_on d d' begins watching follows.holds) to.stands follows;
+        grows = to.grows;
+        numbered = to.numbered;
       }
-
-  pub replies : RepliesTo c d d' r
-  replies = record { replied = replied; grows = to.grows; numbered = to.numbered }
 
 -- ---- the goals of a desk
 
-pub replies_told : (c c' : Command) (d : Desk) (o : Open) (s s' : DbSchema) (told : Result replied_by.the_data AllocError) → c' ≡ c → s ≡ s' → is_of_watches c ≡ false → IfOk told (λ r. TurnsTo c d.«open» o (reply_of s r)) → IfOk told (λ r. RepliesTo c' d (record { «open» = o; snapshots = d.snapshots }) (reply_of s' r))
-replies_told c c' d o s s' (Ok r) is same known to = subst (λ (x : Command). RepliesTo x d (record { «open» = o; snapshots = d.snapshots }) (reply_of s' r)) (sym is) (subst (λ (x : DbSchema). RepliesTo c d (record { «open» = o; snapshots = d.snapshots }) (reply_of x r)) same (replies c d (record { «open» = o; snapshots = d.snapshots }) (reply_of s r) known to refl))
+-- the desk with this open, and all else as it was
+abbrev pub desk_with : Desk → Open → Desk
+desk_with d o = record { «open» = o; snapshots = d.snapshots; watching = d.watching }
+
+pub replies_told : (c c' : Command) (d : Desk) (o : Open) (s s' : DbSchema) (told : Result replied_by.the_data AllocError) → c' ≡ c → s ≡ s' → is_of_watches c ≡ false → IfOk told (λ r. TurnsTo c d.«open» o (reply_of s r)) → IfOk told (λ r. RepliesTo c' d (desk_with d o) (reply_of s' r))
+replies_told c c' d o s s' (Ok r) is same known to = subst (λ (x : Command). RepliesTo x d (desk_with d o) (reply_of s' r)) (sym is) (subst (λ (x : DbSchema). RepliesTo c d (desk_with d o) (reply_of x r)) same (replies c d (desk_with d o) (reply_of s r) known to refl refl))
 replies_told c c' d o s s' (Err e) is same known to = tt
 
 -- a line that begins or ends a transaction
-pub looked_told : (c c' : Command) (d : Desk) (o : Open) (s s' : DbSchema) (told : Result replied_by.the_data AllocError) → c' ≡ c → s ≡ s' → is_of_watches c ≡ false → IfOk told (λ r. LooksAndTurns c d.«open» o (reply_of s r)) → IfOk told (λ r. LooksAndReplies c' d (record { «open» = o; snapshots = d.snapshots }) (reply_of s' r))
+pub looked_told : (c c' : Command) (d : Desk) (o : Open) (s s' : DbSchema) (told : Result replied_by.the_data AllocError) → c' ≡ c → s ≡ s' → is_of_watches c ≡ false → IfOk told (λ r. LooksAndTurns c d.«open» o (reply_of s r)) → IfOk told (λ r. LooksAndReplies c' d (desk_with d o) (reply_of s' r))
 looked_told c c' d o s s' (Ok r) is same known to =
-    let at : Desk = record { «open» = to.at; snapshots = d.snapshots } in
-    let reply : RepliesTo c at (record { «open» = o; snapshots = d.snapshots }) (reply_of s r) = replies c at (record { «open» = o; snapshots = d.snapshots }) (reply_of s r) known to.turns refl in
-    subst (λ (x : Command). LooksAndReplies x d (record { «open» = o; snapshots = d.snapshots }) (reply_of s' r)) (sym is) (subst (λ (x : DbSchema). LooksAndReplies c d (record { «open» = o; snapshots = d.snapshots }) (reply_of x r)) same (record { at = at; looks = to.looks; snapshots = refl; replies = reply; loads = λ v follows. to.loads v follows.transaction follows.last }))
+    let at : Desk = desk_with d to.at in
+    let reply : RepliesTo c at (desk_with d o) (reply_of s r) = replies c at (desk_with d o) (reply_of s r) known to.turns refl refl in
+    subst (λ (x : Command). LooksAndReplies x d (desk_with d o) (reply_of s' r)) (sym is) (subst (λ (x : DbSchema). LooksAndReplies c d (desk_with d o) (reply_of x r)) same (record { at = at; looks = to.looks; snapshots = refl; watching = refl; replied = λ v before follows. reply v follows; loads = λ v follows. to.loads v follows.transaction follows.last }))
 looked_told c c' d o s s' (Err e) is same known to = tt
 
-pub once_told : (c : Command) (d d' : Desk) (s : DbSchema) (told : Result replied_by.the_data AllocError) → StartsNone c → Stands d.«open» → IfOk told (λ r. RepliesTo c d d' (reply_of s r)) → IfOk told (λ r. LooksAndReplies c d d' (reply_of s r))
+pub once_told : (c : Command) (d d' : Desk) (s : DbSchema) (told : Result replied_by.the_data AllocError) → TellsNone c → Stands d.«open» → IfOk told (λ r. RepliesTo c d d' (reply_of s r)) → IfOk told (λ r. LooksAndReplies c d d' (reply_of s r))
 once_told c d d' s (Ok r) starts stands to = replies_at_once c d d' (reply_of s r) starts stands to
 once_told c d d' s (Err e) starts stands to = tt
 
 -- a `write` that makes one try
-pub tried_told : (n : ℕ) (c : Command) (d : Desk) (o : Open) (s s' : DbSchema) (told : Result (Option replied_by.the_data) AllocError) → c ≡ command.Write → s ≡ s' → IfOk told (λ r. TriesWrite n d.«open» o (option_map (reply_of s) r)) → IfOk told (λ r. StepsTo n c d (record { «open» = o; snapshots = d.snapshots }) (option_map (reply_of s') r))
+pub tried_told : (n : ℕ) (c : Command) (d : Desk) (o : Open) (s s' : DbSchema) (told : Result (Option replied_by.the_data) AllocError) → c ≡ command.Write → s ≡ s' → IfOk told (λ r. TriesWrite n d.«open» o (option_map (reply_of s) r)) → IfOk told (λ r. StepsTo n c d (desk_with d o) (option_map (reply_of s') r))
 tried_told n c d o s s' (Ok (Some r)) is same tries = (
   looked_told command.Write c d o s s' (Ok r) is same refl tries.0,
   subst (λ (x : Command). HasNotLost x (caller_of d.«open») (caller_of o)) (sym is) tries.1,
 )
-tried_told n c d o s s' (Ok None) is same tries = record { write = is; lost = tries.1; looks = tries.0; snapshots = refl }
+tried_told n c d o s s' (Ok None) is same tries = subst (λ (x : Command). IsHeldUp n x d (desk_with d o)) (sym is) (record { looks = tries.0; snapshots = refl; watching = refl; why = tries.1 })
 tried_told n c d o s s' (Err e) is same tries = tt
 
 -- ---- snapshots
 
 no_more : (p : Caller) → p ≡ record p { seen = p.seen ++ []; trees = p.trees ++ []; own = p.own ++ [] }
 no_more p = λ i. record p { seen = sym (append-nil p.seen) i; trees = sym (append-nil p.trees) i; own = sym (append-nil p.own) i }
+
+-- a reply that tells no commit makes none
+pub none_grown : (p : Caller) (t : Transaction) (r : said.Reply) → made p.number t r ≡ [] → Grows p p t r
+none_grown p t r makes = ([], no_more p ∙ ap (λ (cs : History). record p { seen = p.seen ++ cs; trees = p.trees ++ []; own = p.own ++ cs }) (sym makes))
 
 refused_makes : (rule : Bytes) (n : ℕ) (t : Transaction) → made n t (said.refused rule) ≡ []
 refused_makes rule n closed = refl
@@ -249,19 +212,17 @@ kept_makes (writing k) s n (writing t) = refl
 
 -- a line that changes nothing
 pub kept_desk : (c : Command) (d : Desk) (r : said.Reply) → is_of_watches c ≡ false → Stands d.«open» → number_printed r ≡ [] → ((n : ℕ) (t : Transaction) → made n t r ≡ []) → ((v : Client) → Follows d v → outcome v (turn (caller_of d.«open»).schema (caller_of d.«open»).seen (length (caller_of d.«open»).seen) v c) ≡ (r, v)) → RepliesTo c d d r
-kept_desk c d r known stands none makes says = record {
-  replied = λ v follows. record {
-    next = v;
-    answers = record {
-      now = length (caller_of d.«open»).seen;
-      not_older = follows.last;
-      there = search (arith);
-      says = of_rows known (by_turn (says v follows));
-      entry = no_entry (caller_of d.«open»).seen (caller_of d.«open»).number v.transaction r none;
-    };
-    follows = follows;
+kept_desk c d r known stands none makes says v follows = record {
+  next = v;
+  answers = record {
+    now = length (caller_of d.«open»).seen;
+    not_older = follows.last;
+    there = search (arith);
+    says = of_rows known (by_turn (says v follows));
+    entry = no_entry (caller_of d.«open»).seen (caller_of d.«open»).number v.transaction r none;
   };
-  grows = ([], no_more (caller_of d.«open») ∙ ap (λ (cs : History). record (caller_of d.«open») { seen = (caller_of d.«open»).seen ++ cs; trees = (caller_of d.«open»).trees ++ []; own = (caller_of d.«open»).own ++ cs }) (sym (makes (caller_of d.«open»).number (transaction_of d.«open»))));
+  follows = follows;
+  grows = none_grown (caller_of d.«open») (transaction_of d.«open») r (makes (caller_of d.«open»).number (transaction_of d.«open»));
   numbered = none_numbered (caller_of d.«open») (transaction_of d.«open») r none (makes (caller_of d.«open»).number (transaction_of d.«open»));
 }
 
@@ -360,51 +321,92 @@ kept_found p true s view found sees none = rw (none refl) (ap Some sees)
 kept_found p false s view None sees none = refl
 kept_found p false s view (Some x) sees none = refl
 
-keep_replies : (d d' : Desk) (name : Bytes) (s : Sight) (view : View) (r : said.Reply) → some_open (transaction_of d.«open») ≡ Ok s → caller_of d'.«open» ≡ caller_of d.«open» → transaction_of d'.«open» ≡ transaction_of d.«open» → Stands d'.«open» → is_some (seen_in d.snapshots name) ≡ false → ((q : Bytes) → seen_in d'.snapshots q ≡ cond (bytes_eq name q) (Some view) (seen_in d.snapshots q)) → view ≡ view_of (caller_of d.«open») s → r ≡ snapshot_reply (transaction_of d.«open») s → RepliesTo (command.Snapshot name) d d' r
-keep_replies d d' name s view r opened caller same stands free kept sees reply = record {
-  replied = λ v follows.
-      let unnamed : snapshot_named name v.snapshots ≡ None = not_named (caller_of d.«open») (snapshot_named name v.snapshots) (ap is_some (sym (follows.snapshots name)) ∙ free) in
-      let told : outcome v (turn (caller_of d.«open»).schema (caller_of d.«open»).seen (length (caller_of d.«open»).seen) v (command.Snapshot name)) ≡ (snapshot_reply (transaction_of d.«open») s, with_snapshot name s v) = rw (follows.transaction, opened, unnamed) refl in
-      let answers : Answers (caller_of d.«open»).schema (caller_of d'.«open»).seen (caller_of d.«open»).number v (command.Snapshot name) r (with_snapshot name s v) = record {
-        now = length (caller_of d.«open»).seen;
+-- the snapshot is of what is seen, and the others are as before
+kept_more : (p : Caller) (same : Bool) (k : Kept) (s : Sight) (old : Option Kept) (found : Option Sight) → IsKeptOf p (Some k) (Some s) → (same ≡ true → found ≡ None) → IsKeptOf p old found → IsKeptOf p (cond same (Some k) old) (or_else found (if same then Some s else None))
+kept_more p true k s old found new none is = subst (λ (x : Option Sight). IsKeptOf p (Some k) (or_else x (Some s))) (sym (none refl)) new
+kept_more p false k s old None new none is = is
+kept_more p false k s old (Some x) new none is = is
+
+module _ (d : Desk) (o : Open) (snaps : Named Kept) (name : Bytes) (s : Sight) (k : Kept) (r : said.Reply) (opened : some_open (transaction_of d.«open») ≡ Ok s) (caller : caller_of o ≡ caller_of d.«open») (same : transaction_of o ≡ transaction_of d.«open») (stands : Stands o) (free : is_some (seen_in d.snapshots name) ≡ false) (kept : (q : Bytes) → get_by_text snaps.kept q ≡ cond (bytes_eq name q) (Some k) (get_by_text d.snapshots.kept q)) (sees : kept_view k ≡ view_of (caller_of d.«open») s) (keeps : IsKeptOf (caller_of d.«open») (Some k) (Some s)) (reply : r ≡ snapshot_reply (transaction_of d.«open») s) where
+  holder : Caller
+  holder = caller_of d.«open»
+
+  d' : Desk
+  d' = record { «open» = o; snapshots = snaps; watching = d.watching }
+
+  none : number_printed r ≡ []
+  none = ap number_printed reply ∙ kept_prints (transaction_of d.«open») s
+
+  makes : made holder.number (transaction_of d.«open») r ≡ []
+  unfolding holder
+  makes = ap (made holder.number (transaction_of d.«open»)) reply ∙ kept_makes (transaction_of d.«open») s holder.number (transaction_of d.«open»)
+
+  unnamed : (v : Client) → Follows d v → snapshot_named name v.snapshots ≡ None
+  unnamed v follows = not_named (caller_of d.«open») (snapshot_named name v.snapshots) (ap is_some (sym (follows.snapshots name)) ∙ free)
+
+  not_there : (v : Client) → Follows d v → (q : Bytes) → bytes_eq name q ≡ true → snapshot_named q v.snapshots ≡ None
+  not_there v follows q is = subst (λ (x : Bytes). snapshot_named x v.snapshots ≡ None) (bytes_same name q is) (unnamed v follows)
+
+  answers : (v : Client) → Follows d v → Answers holder.schema (caller_of o).seen holder.number v (command.Snapshot name) r (with_snapshot name s v)
+  unfolding holder
+  answers v follows =
+      let free_name = unnamed v follows in
+      let told : outcome v (turn holder.schema holder.seen (length holder.seen) v (command.Snapshot name)) ≡ (snapshot_reply (transaction_of d.«open») s, with_snapshot name s v) = rw (follows.transaction, opened, free_name) refl in
+      record {
+        now = length holder.seen;
         not_older = follows.last;
         there = rw caller (search (arith));
-        says = of_rows refl (by_turn (ap (λ (q : Caller). outcome v (turn (caller_of d.«open»).schema q.seen (length (caller_of d.«open»).seen) v (command.Snapshot name))) caller ∙ told ∙ ap (λ (x : said.Reply). (x, with_snapshot name s v)) (sym reply)));
-        entry = no_entry (caller_of d'.«open»).seen (caller_of d.«open»).number v.transaction r (ap number_printed reply ∙ kept_prints (transaction_of d.«open») s);
-      } in
-      record {
-        next = with_snapshot name s v;
-        answers = answers;
-        follows = record {
-          transaction = follows.transaction ∙ sym same;
-          last = rw caller follows.last;
-          within = answered_within (caller_of d.«open»).schema (caller_of d'.«open»).seen (caller_of d.«open»).number v (command.Snapshot name) r (with_snapshot name s v) (rw caller follows.within) answers;
-          snapshots = λ q.
-              kept q
-              ∙ ap (cond (bytes_eq name q) (Some view)) (follows.snapshots q)
-              ∙ kept_found (caller_of d.«open») (bytes_eq name q) s view (snapshot_named q v.snapshots) sees (λ is. subst (λ (x : Bytes). snapshot_named x v.snapshots ≡ None) (bytes_same name q is) unnamed)
-              ∙ ap (option_map (view_of (caller_of d.«open»))) (sym (named_more q name s v.snapshots))
-              ∙ ap (λ (p : Caller). option_map (view_of p) (snapshot_named q (v.snapshots ++ record { name = name; sight = s } ∷ []))) (sym caller);
-          stands = stands;
-        };
-      };
-  grows = ([], caller ∙ no_more (caller_of d.«open») ∙ ap (λ (cs : History). record (caller_of d.«open») { seen = (caller_of d.«open»).seen ++ cs; trees = (caller_of d.«open»).trees ++ []; own = (caller_of d.«open»).own ++ cs }) (sym (ap (made (caller_of d.«open»).number (transaction_of d.«open»)) reply ∙ kept_makes (transaction_of d.«open») s (caller_of d.«open»).number (transaction_of d.«open»))));
-  numbered = none_numbered (caller_of d.«open») (transaction_of d.«open») r (ap number_printed reply ∙ kept_prints (transaction_of d.«open») s) (ap (made (caller_of d.«open»).number (transaction_of d.«open»)) reply ∙ kept_makes (transaction_of d.«open») s (caller_of d.«open»).number (transaction_of d.«open»));
-}
+        says = of_rows refl (by_turn (ap (λ (q : Caller). outcome v (turn holder.schema q.seen (length holder.seen) v (command.Snapshot name))) caller ∙ told ∙ ap (λ (x : said.Reply). (x, with_snapshot name s v)) (sym reply)));
+        entry = no_entry (caller_of o).seen holder.number v.transaction r none;
+      }
+
+  kept_follows : (v : Client) → Follows d v → Follows d' (with_snapshot name s v)
+  unfolding holder d'
+  kept_follows v follows = record {
+    transaction = follows.transaction ∙ sym same;
+    last = rw caller follows.last;
+    within = answered_within holder.schema (caller_of o).seen holder.number v (command.Snapshot name) r (with_snapshot name s v) (rw caller follows.within) (answers v follows);
+    snapshots = λ q.
+        seen_step (get_by_text snaps.kept q) (bytes_eq name q) k (get_by_text d.snapshots.kept q) (kept q)
+        ∙ ap (cond (bytes_eq name q) (Some (kept_view k))) (follows.snapshots q)
+        ∙ kept_found holder (bytes_eq name q) s (kept_view k) (snapshot_named q v.snapshots) sees (not_there v follows q)
+        ∙ ap (option_map (view_of holder)) (sym (named_more q name s v.snapshots))
+        ∙ ap (λ (x : Caller). option_map (view_of x) (snapshot_named q (v.snapshots ++ record { name = name; sight = s } ∷ []))) (sym caller);
+    kept = λ q.
+        subst (λ (x : Caller). IsKeptOf x (get_by_text snaps.kept q) (snapshot_named q (v.snapshots ++ record { name = name; sight = s } ∷ []))) (sym caller)
+        (subst (λ (x : Option Kept). IsKeptOf holder x (snapshot_named q (v.snapshots ++ record { name = name; sight = s } ∷ []))) (sym (kept q))
+        (subst (λ (x : Option Sight). IsKeptOf holder (cond (bytes_eq name q) (Some k) (get_by_text d.snapshots.kept q)) x) (sym (named_more q name s v.snapshots))
+        (kept_more holder (bytes_eq name q) k s (get_by_text d.snapshots.kept q) (snapshot_named q v.snapshots) keeps (not_there v follows q) (follows.kept q))));
+    knows = subst (λ (x : Caller). Knows x d.watching v.watching) (sym caller) follows.knows;
+    holds = subst (λ (x : Caller). Holds x d.watching) (sym caller) follows.holds;
+    stands = stands;
+  }
+
+  pub keep_replies : RepliesTo (command.Snapshot name) d (record { «open» = o; snapshots = snaps; watching = d.watching }) r
+  unfolding holder d'
+  keep_replies v follows = record {
+    next = with_snapshot name s v;
+    answers = answers v follows;
+    follows = kept_follows v follows;
+    grows = subst (λ (x : Caller). Grows holder x (transaction_of d.«open») r) (sym caller) (none_grown holder (transaction_of d.«open») r makes);
+    numbered = none_numbered holder (transaction_of d.«open») r none makes;
+  }
 
 -- the two sorts of snapshots
-pub present_reading : (o : Open) (pass : Caller) (txn : Reading) (kept : View) (n : ℕ) → o ≡ opens.Reading pass txn → Stands o → kept ≡ txn.view → n ≡ txn.view.number → Presents o kept (said.kept_at n)
+pub present_reading : (o : Open) (pass : Caller) (txn kept : Reading) (n : ℕ) → o ≡ opens.Reading pass txn → Stands o → kept ≡ txn → n ≡ txn.view.number → Presents o (kinds.Committed kept) (said.kept_at n)
 present_reading o pass txn kept n is stands same number =
     let s : Sight = record { number = txn.view.number; writes = []; uncommitted = false } in
     let here : Stands (opens.Reading pass txn) = subst Stands is stands in
+    let by : IsReadBy pass txn s = record { committed = refl; writes = refl; number = refl; read = here.2 } in
     record {
       sight = s;
       opened = ap (λ (x : Open). some_open (transaction_of x)) is;
-      sees = same ∙ here.1 ∙ sym (ap (λ (x : Open). view_of (caller_of x) s) is);
+      sees = ap (λ (r : Reading). r.view) same ∙ here.1 ∙ sym (ap (λ (x : Open). view_of (caller_of x) s) is);
+      keeps = subst (λ (x : Open). IsReadBy (caller_of x) kept s) (sym is) (subst (λ (r : Reading). IsReadBy pass r s) (sym same) by);
       reply = ap said.kept_at number ∙ sym (ap (λ (x : Open). snapshot_reply (transaction_of x) s) is);
     }
 
-pub present_writing : (o : Open) (txn : WriteTxn Bytes) (kept : View) (n : ℕ) → o ≡ opens.Writing txn → Stands o → AnswersSnapshot (changes_of txn).spoiled (present_view (changes_of txn)) (Ok kept) → n ≡ length (changes_of txn).caller.seen → Presents o kept (said.kept_within n)
+pub present_writing : (o : Open) (txn : WriteTxn Bytes) (kept : View) (n : ℕ) → o ≡ opens.Writing txn → Stands o → AnswersSnapshot (changes_of txn).spoiled (present_view (changes_of txn)) (Ok kept) → n ≡ length (changes_of txn).caller.seen → Presents o (kinds.Uncommitted kept) (said.kept_within n)
 present_writing o txn kept n is stands answers number =
     let s : Sight = record { number = length (changes_of txn).caller.seen; writes = (changes_of txn).writes; uncommitted = true } in
     let sound : (changes_of txn).spoiled ≡ false = subst Stands is stands in
@@ -413,9 +415,10 @@ present_writing o txn kept n is stands answers number =
       sight = s;
       opened = ap (λ (x : Open). some_open (transaction_of x)) is;
       sees = sees ∙ sym (ap (λ (x : Open). view_of (caller_of x) s) is);
+      keeps = refl;
       reply = ap said.kept_within number ∙ sym (ap (λ (x : Open). snapshot_reply (transaction_of x) s) is);
     }
 
 -- a snapshot under a new name
-pub kept_new : (d d' : Desk) (name : Bytes) (view : View) (r : said.Reply) → Presents d.«open» view r → caller_of d'.«open» ≡ caller_of d.«open» → transaction_of d'.«open» ≡ transaction_of d.«open» → Stands d'.«open» → is_some (seen_in d.snapshots name) ≡ false → ((q : Bytes) → seen_in d'.snapshots q ≡ cond (bytes_eq name q) (Some view) (seen_in d.snapshots q)) → RepliesTo (command.Snapshot name) d d' r
-kept_new d d' name view r present caller same stands free kept = keep_replies d d' name present.sight view r present.opened caller same stands free kept present.sees present.reply
+pub kept_new : (d : Desk) (o : Open) (snaps : Named Kept) (name : Bytes) (k : Kept) (r : said.Reply) → Presents d.«open» k r → caller_of o ≡ caller_of d.«open» → transaction_of o ≡ transaction_of d.«open» → Stands o → is_some (seen_in d.snapshots name) ≡ false → ((q : Bytes) → get_by_text snaps.kept q ≡ cond (bytes_eq name q) (Some k) (get_by_text d.snapshots.kept q)) → RepliesTo (command.Snapshot name) d (record { «open» = o; snapshots = snaps; watching = d.watching }) r
+kept_new d o snaps name k r present caller same stands free kept = keep_replies d o snaps name present.sight k r present.opened caller same stands free kept present.sees present.keeps present.reply

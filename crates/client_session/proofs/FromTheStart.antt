@@ -10,7 +10,7 @@ use Rattle.client_script.specs.Reply.{Reply, lines_text}
 use Rattle.client_script.specs.Session.{Runs, Session}
 use Rattle.client_script.specs.declared.line.Line.{Line}
 use Rattle.client_session.specs.Answered.{AreRising, HasAnswered, IsLater, commit_at}
-use Rattle.client_session.specs.Begun.{AreAmong, begun_numbers}
+use Rattle.client_session.specs.Counts.{AreAmong, counts_told}
 use Rattle.client_session.specs.Progress.{Progress, begun}
 
 -- the replies to a whole script, all of which were told since this pass
@@ -21,7 +21,7 @@ pub record HasToldAll (script : List Line) (old : Caller) (t : Progress) : Type 
   pub later : IsLater old t.caller
   pub read : List ℕ
   pub counts : t.caller.counts ≡ old.counts ++ read
-  pub loads : AreAmong (begun_numbers replies) read
+  pub loads : AreAmong (counts_told replies) read
   pub made : List Commit
   pub own : t.caller.own ≡ old.own ++ made
   pub told : map (commit_at t.caller.seen) (printed replies) ≡ map Some made

@@ -1,13 +1,24 @@
-mod BegunNumbers
-mod OneMoreLine
+mod CellsOfSets
 mod DeskTurns
+mod FollowsOn
+mod HeldOn
+mod IndexPlaces
 mod KeptSteps
-mod KnownLines
+mod LooksTold
+mod OneMoreLine
 mod OpenTurns
+mod QuietBefore
+mod QuietMembers
 mod ReplyLines
 mod RequestTurns
 mod RowRules
 mod SessionSteps
+mod SetsJoined
+mod ToldCounts
 mod UntoldCommits
+mod WaitsTold
+mod WatchTurns
+mod WatchesNamed
+mod WatchesTold
 pub mod FromTheStart
 pub mod Threads

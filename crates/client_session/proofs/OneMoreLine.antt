@@ -1,7 +1,7 @@
 -- One more line of a script.
-use mathlib.Core.List.{IsPrefix}
 use Rattle.std.proofs.Common.{arith, ◌≡◌, ◌-◌, ◌≤◌, Option, refl, ap, subst, sym, ◌∙◌, ℕ, zero, suc, ◌+◌, List, [], ◌∷◌, ◌++◌, length, map, take, Some, None, Result, Ok, Err, OnErr, OnOk, false, true, slice_get, le_refl}
-use Rattle.std.specs.Prelude.{is_err}
+use Rattle.std.specs.Prelude.{is_err, option_map}
+use Rattle.std.specs.BTreeMap.{get_by_text}
 use Rattle.std.specs.List.{enumerate_from}
 use Rattle.std.proofs.Math.Seq.{take-suc}
 use Rattle.std.proofs.lemmas.List.{append-nil, append_assoc, length-append, map-append}
@@ -9,28 +9,31 @@ use Rattle.std.proofs.lemmas.Option.{slice_get_within, get_or_from_slice_get}
 use Rattle.mdb_datum.specs.Bytes.{Bytes}
 use Rattle.mdb_schema.specs.History.{Commit, History}
 use Rattle.mdb_schema.specs.Schema.{DbSchema}
+use Rattle.mem_txn.proofs.HeldAlong.{prefix_twice}
 use Rattle.mem_txn.specs.CellHistory.{Forest}
 use Rattle.mem_txn.specs.Database.{Caller, Database, IsOf}
 use Rattle.client_script.proofs.LongerHistory.{runs_longer, runs_more, start_within}
-use Rattle.client_session.specs.Begun.{AreAmong, begun_numbers, number_begun}
-use Rattle.client_script.specs.Client.{Client, at_start}
+use Rattle.client_session.specs.Counts.{AreAmong, counts_told, count_told}
+use Rattle.client_script.specs.Client.{Client, at_start, nothing_watched}
 use Rattle.client_script.specs.Legal.{callers, printed, number_printed}
 use Rattle.client_script.specs.Reply.{Reply, line_text, lines_text}
-use Rattle.client_script.specs.Session.{AreKnown, Answers, Runs}
+use Rattle.client_script.specs.Session.{Answers, Runs}
 use Rattle.client_script.specs.declared.line.Line.{Line}
-use Rattle.client_script.specs.Turn.{is_of_watches}
 use Rattle.std.specs.declared.alloc.AllocError.{AllocError}
-use Rattle.client_session.proofs.BegunNumbers.{among_append, among_more, begun_more}
-use Rattle.client_session.proofs.DeskTurns.{follows_longer}
+use Rattle.client_session.proofs.ToldCounts.{among_append, among_more, counts_more}
+use Rattle.client_session.proofs.FollowsOn.{follows_longer}
 use Rattle.client_session.proofs.OpenTurns.{later_self}
 use Rattle.client_session.specs.Answered.{AreRising, IsLater, IsUntold, commit_at}
 use Rattle.client_session.specs.declared.desk.Desk.{Desk}
 use Rattle.client_session.specs.declared.open.Open.TheVariants as opens
-use Rattle.client_session.specs.declared.snapshots.Snapshots.{Snapshots}
-use Rattle.client_session.specs.inner.KeptView.{seen_in}
+use Rattle.client_session.specs.declared.kept.Kept.{Kept}
+use Rattle.client_session.specs.declared.named.Named.{Named}
+use Rattle.client_session.specs.declared.watching.Watching.{Watching}
+use Rattle.client_session.specs.inner.KeptView.{kept_view}
 use Rattle.client_session.specs.inner.Carried.{Adds, AddsSome, AnswersLine, Carried, CarriedOn, CarriesOut, IsOfCommit, SoFar, Stops, StopsLine}
-use Rattle.client_session.specs.inner.DeskView.{Follows, Replied, RepliesTo}
+use Rattle.client_session.specs.inner.DeskView.{Follows, IsKeptOf, Replied}
 use Rattle.client_session.specs.inner.OpenView.{Looks, caller_of, transaction_of, made}
+use Rattle.client_session.specs.inner.WatchingView.{Holds, Knows}
 
 -- the texts of lines, one more
 lines_more : (schema : DbSchema) (H : History) (n : ℕ) (v : Client) (ls : List Line) (rs : List Reply) (end : Client) (l : Line) (r : Reply) → Runs schema H n v ls rs end → lines_text (ls ++ l ∷ []) (rs ++ r ∷ []) ≡ lines_text ls rs ++ line_text l.number r
@@ -115,22 +118,19 @@ made_rising H (c ∷ cs) (m ∷ ms) n low before e rising =
 
 -- ---- a caller that has seen more
 
-prefix_again : {A : Type 0} (xs ys zs : List A) → IsPrefix xs ys → IsPrefix ys zs → IsPrefix xs zs
-prefix_again xs ys zs one two = (one.0 ++ two.0, sym (append_assoc xs one.0 two.0) ∙ ap (λ (l : List _). l ++ two.0) one.1 ∙ two.1)
-
 pub later_again : (p q r : Caller) → IsLater p q → IsLater q r → IsLater p r
 later_again p q r one two = record {
   number = two.number ∙ one.number;
   database = two.database ∙ one.database;
   schema = two.schema ∙ one.schema;
   book = two.book ∙ one.book;
-  trees = prefix_again p.trees q.trees r.trees one.trees two.trees;
-  seen = prefix_again p.seen q.seen r.seen one.seen two.seen;
-  counts = prefix_again p.counts q.counts r.counts one.counts two.counts;
-  tries = prefix_again p.tries q.tries r.tries one.tries two.tries;
+  trees = prefix_twice p.trees q.trees r.trees one.trees two.trees;
+  seen = prefix_twice p.seen q.seen r.seen one.seen two.seen;
+  counts = prefix_twice p.counts q.counts r.counts one.counts two.counts;
+  tries = prefix_twice p.tries q.tries r.tries one.tries two.tries;
 }
 
-module _ (pass : Caller) (before : List Reply) (done : List Line) (d at : Desk) (now : Bytes) (carried : Carried pass before done d now) (looks : Looks d.«open» at.«open») (same : at.snapshots ≡ d.snapshots) where
+module _ (pass : Caller) (before : List Reply) (done : List Line) (d at : Desk) (now : Bytes) (carried : Carried pass before done d now) (looks : Looks d.«open» at.«open») (same : at.snapshots ≡ d.snapshots) (watching : at.watching ≡ d.watching) where
   old : Caller
   old = caller_of d.«open»
 
@@ -150,7 +150,7 @@ module _ (pass : Caller) (before : List Reply) (done : List Line) (d at : Desk) 
     replies = carried.replies;
     client = carried.client;
     runs = subst (λ (H : History). Runs pass.schema H pass.number at_start done (before ++ carried.replies) carried.client) seen_is (runs_longer pass.schema old.seen more pass.number at_start done (before ++ carried.replies) carried.client (start_within (length old.seen)) carried.runs);
-    follows = follows_longer d at carried.client looks same carried.follows;
+    follows = follows_longer d at carried.client looks same watching carried.follows;
     written = carried.written;
     later = later_again pass old (caller_of at.«open») carried.later looks.later;
     made = carried.made;
@@ -159,32 +159,29 @@ module _ (pass : Caller) (before : List Reply) (done : List Line) (d at : Desk) 
     rising = rising_wider (length pass.seen) (length old.seen) (length (caller_of at.«open»).seen) (printed carried.replies) as_long carried.rising;
     read = carried.read ++ looks.read;
     counts = looks.counts ∙ ap (λ (ns : List ℕ). ns ++ looks.read) carried.counts ∙ append_assoc pass.counts carried.read looks.read;
-    loads = among_more (begun_numbers carried.replies) carried.read looks.read carried.loads;
+    loads = among_more (counts_told carried.replies) carried.read looks.read carried.loads;
   }
 
-module _ (pass : Caller) (before : List Reply) (done : List Line) (d d' : Desk) (now after : Bytes) (l : Line) (r : Reply) (carried : Carried pass before done d now) (replies : RepliesTo l.command d d' r) (written : after ≡ now ++ line_text l.number r) (loads : AreAmong (begun_numbers carried.replies ++ number_begun r) carried.read) where
+module _ (pass : Caller) (before : List Reply) (done : List Line) (d d' : Desk) (now after : Bytes) (l : Line) (r : Reply) (carried : Carried pass before done d now) (step : Replied l.command d d' r carried.client) (written : after ≡ now ++ line_text l.number r) (loads : AreAmong (counts_told carried.replies ++ count_told r) carried.read) where
   p : Caller
   p = caller_of d.«open»
 
   new : History
   new = made p.number (transaction_of d.«open») r
 
-  step : Replied l.command d d' r carried.client
-  step = replies.replied carried.client carried.follows
-
   trees : List Forest
-  trees = replies.grows.0
+  trees = step.grows.0
 
   grown : caller_of d'.«open» ≡ record p { seen = p.seen ++ new; trees = p.trees ++ trees; own = p.own ++ new }
   unfolding p new trees
-  grown = replies.grows.1
+  grown = step.grows.1
 
   -- the replies so far, and this one
   all_replies : (before ++ carried.replies) ++ r ∷ [] ≡ before ++ (carried.replies ++ r ∷ [])
   all_replies = append_assoc before carried.replies (r ∷ [])
 
   runs_more_line : Runs pass.schema (caller_of d'.«open»).seen pass.number at_start (done ++ l ∷ []) (before ++ (carried.replies ++ r ∷ [])) step.next
-  unfolding p new step
+  unfolding p new
   runs_more_line = subst (λ (rs : List Reply). Runs pass.schema (caller_of d'.«open»).seen pass.number at_start (done ++ l ∷ []) rs step.next) all_replies (runs_more pass.schema (caller_of d'.«open»).seen pass.number at_start done (before ++ carried.replies) carried.client step.next l r
       (subst (λ (H : History). Runs pass.schema H pass.number at_start done (before ++ carried.replies) carried.client) (sym (ap (λ (q : Caller). q.seen) grown)) (runs_longer pass.schema p.seen new pass.number at_start done (before ++ carried.replies) carried.client (start_within (length p.seen)) carried.runs))
       (subst (λ (s : DbSchema). Answers s (caller_of d'.«open»).seen pass.number carried.client l.command r step.next) carried.later.schema
@@ -204,7 +201,7 @@ module _ (pass : Caller) (before : List Reply) (done : List Line) (d d' : Desk) 
   })
 
   pub one_more : Carried pass before (done ++ l ∷ []) d' after
-  unfolding p new step
+  unfolding p new
   one_more = record {
     replies = carried.replies ++ r ∷ [];
     client = step.next;
@@ -223,23 +220,26 @@ module _ (pass : Caller) (before : List Reply) (done : List Line) (d d' : Desk) 
         ∙ ap (λ (H : History). map (commit_at H) (printed carried.replies ++ number_printed r)) (ap (λ (q : Caller). q.seen) grown)
         ∙ map-append (commit_at (p.seen ++ new)) (printed carried.replies) (number_printed r)
         ∙ ap (λ (os : List (Option Commit)). os ++ map (commit_at (p.seen ++ new)) (number_printed r)) (told_longer p.seen new (printed carried.replies) carried.made carried.told)
-        ∙ ap (λ (os : List (Option Commit)). map Some carried.made ++ os) (made_told p.seen new (number_printed r) p.number replies.numbered)
+        ∙ ap (λ (os : List (Option Commit)). map Some carried.made ++ os) (made_told p.seen new (number_printed r) p.number step.numbered)
         ∙ sym (map-append Some carried.made new);
-    rising = subst (λ (ms : List ℕ). AreRising (length pass.seen) ms (length (caller_of d'.«open»).seen)) (sym (printed_more carried.replies r)) (subst (λ (q : Caller). AreRising (length pass.seen) (printed carried.replies ++ number_printed r) (length q.seen)) (sym grown) (made_rising p.seen new (number_printed r) p.number (length pass.seen) (printed carried.replies) replies.numbered carried.rising));
+    rising = subst (λ (ms : List ℕ). AreRising (length pass.seen) ms (length (caller_of d'.«open»).seen)) (sym (printed_more carried.replies r)) (subst (λ (q : Caller). AreRising (length pass.seen) (printed carried.replies ++ number_printed r) (length q.seen)) (sym grown) (made_rising p.seen new (number_printed r) p.number (length pass.seen) (printed carried.replies) step.numbered carried.rising));
     read = carried.read;
     counts = ap (λ (q : Caller). q.counts) grown ∙ carried.counts;
-    loads = subst (λ (ns : List ℕ). AreAmong ns carried.read) (sym (begun_more carried.replies r)) loads;
+    loads = subst (λ (ns : List ℕ). AreAmong ns carried.read) (sym (counts_more carried.replies r)) loads;
   }
 
 -- ---- the loop over the lines
 
 -- a desk at the start of a session
-pub first : (pass : Caller) (snaps : Snapshots) → ((name : Bytes) → seen_in snaps name ≡ None) → Follows (record { «open» = opens.Nothing pass; snapshots = snaps }) at_start
-first pass snaps none = record {
+pub first : (pass : Caller) (snaps : Named Kept) (g : Watching) → ((name : Bytes) → get_by_text snaps.kept name ≡ None) → Knows pass g nothing_watched → Holds pass g → Follows (record { «open» = opens.Nothing pass; snapshots = snaps; watching = g }) at_start
+first pass snaps g none knows holds = record {
   transaction = refl;
   last = search (arith);
   within = start_within (length pass.seen);
-  snapshots = none;
+  snapshots = λ name. ap (option_map kept_view) (none name);
+  kept = λ name. subst (λ (k : Option Kept). IsKeptOf pass k None) (sym (none name)) tt;
+  knows = knows;
+  holds = holds;
   stands = tt;
 }
 
@@ -273,9 +273,9 @@ one_more_is n = search (arith)
 line_more : (pass : Caller) (before : List Reply) (done : List Line) (d d' : Desk) (now after : Bytes) (l : Line) → Carried pass before done d now → AnswersLine l d d' now after → Carried pass before (done ++ l ∷ []) d' after
 unfolding seen_more
 line_more pass before done d d' now after l carried line =
-    let more = seen_more pass before done d line.replies.at now carried line.replies.looks line.replies.snapshots in
-    one_more pass before done line.replies.at d' now after l line.reply more line.replies.replies line.written
-    (among_append (begun_numbers carried.replies) (number_begun line.reply) carried.read line.replies.looks.read carried.loads (line.replies.loads carried.client more.follows))
+    let more = seen_more pass before done d line.replies.at now carried line.replies.looks line.replies.snapshots line.replies.watching in
+    one_more pass before done line.replies.at d' now after l line.reply more (line.replies.replied carried.client carried.follows more.follows) line.written
+    (among_append (counts_told carried.replies) (count_told line.reply) carried.read line.replies.looks.read carried.loads (line.replies.loads carried.client more.follows))
 
 pub next : (pass : Caller) (lines : List Line) (from at : ℕ) (d d' : Desk) (text now after : Bytes) (l : Line) → slice_get lines at ≡ Some l → CarriedOn pass lines from at text d now → AnswersLine l d d' now after → CarriedOn pass lines from (at + 1) text d' after
 next pass lines from at d d' text now after l there c line = record {
@@ -299,7 +299,7 @@ kept_lines pass new before lines d now after later same c =
       later = later_again pass p new c.later later;
       read = c.read ++ more.0;
       counts = sym more.1 ∙ ap (λ (ns : List ℕ). ns ++ more.0) c.counts ∙ append_assoc pass.counts c.read more.0;
-      loads = among_more (begun_numbers c.replies) c.read more.0 c.loads;
+      loads = among_more (counts_told c.replies) c.read more.0 c.loads;
     }
 
 pub kept_some : (pass new : Caller) (script : List Line) (from to : ℕ) (d : Desk) (text now after : Bytes) → IsLater (caller_of d.«open») new → after ≡ now → CarriedOn pass script from to text d now → AddsSome pass new script from to text after
@@ -358,10 +358,9 @@ carried_ok pass back script from to d text after (Err e) is carried = tt
 pub own_later : (db : Database) (p q : Caller) → IsOf db p → IsLater p q → IsOf db q
 own_later db p q own later = (later.database ∙ own.0, later.schema ∙ own.1)
 
-pub known_at : (lines : List Line) (at : ℕ) (l : Line) → AreKnown lines → slice_get lines at ≡ Some l → is_of_watches l.command ≡ false
-known_at [] at l known there = cc
-known_at (x ∷ lines) zero l known there = let e : x ≡ l = cc in subst (λ (y : Line). is_of_watches y.command ≡ false) e known.0
-known_at (x ∷ lines) (suc at) l known there = known_at lines at l known.1 there
+-- and holds what is watched
+pub holds_now : (pass : Caller) (script : List Line) (from at : ℕ) (d : Desk) (text now : Bytes) → CarriedOn pass script from at text d now → Holds (caller_of d.«open») d.watching
+holds_now pass script from at d text now on = let c = on.carried in let follows = c.follows in follows.holds
 
 pub was_ok : {P : Type 0} (r : Result (Unit {0}) AllocError) → is_err r ≡ false → OnOk r P → P
 was_ok (Ok x) ok holds = holds

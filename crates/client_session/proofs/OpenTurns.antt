@@ -5,6 +5,8 @@ use Rattle.std.specs.declared.alloc.AllocError.{AllocError}
 use Rattle.std.proofs.lemmas.List.{append-nil, length-append}
 use Rattle.mdb_datum.specs.Bytes.{Bytes}
 use Rattle.mem_txn.specs.Changes.{Changes, begun}
+use Rattle.mem_txn.specs.Checked.{IsBeginning}
+use Rattle.mem_txn.proofs.SeenBegins.{begins_itself}
 use Rattle.mem_txn.specs.Database.{Caller, HasRead, HasSeen, Reading, reading_of}
 use Rattle.mem_txn.specs.Transactions.{AnswersBegin, AnswersTry, HasWon, IsCommitted, IsRefused, changes_of, items_of, deferred_items}
 use Rattle.mem_txn.specs.declared.outcome.BeginRefused.{BeginRefused}
@@ -25,13 +27,17 @@ use Rattle.client_session.specs.declared.open.Open.{Open}
 use Rattle.client_session.specs.declared.open.Open.TheVariants as opens
 use Rattle.client_session.specs.declared.reply.Reply.TheVariants as replies
 use Rattle.client_session.specs.inner.ReplyOf.{reply_of}
-use Rattle.client_session.specs.inner.OpenView.{Grows, IsNumbered, Looks, LooksAndTurns, Stands, TurnsTo, caller_of, transaction_of}
-use Rattle.client_session.proofs.BegunNumbers.{StartsNone, starts_none}
+use Rattle.client_session.specs.inner.OpenView.{Grows, IsNumbered, Looks, LooksAndTurns, Stands, TurnsTo, WasRead, caller_of, transaction_of}
+use Rattle.client_session.proofs.ToldCounts.{TellsNone, told_none}
 use Rattle.mdb_schema.specs.Schema.{DbSchema}
 
 -- a caller that has seen no more
 no_more : (p : Caller) → p ≡ record p { seen = p.seen ++ []; trees = p.trees ++ []; own = p.own ++ [] }
 no_more p = λ i. record p { seen = sym (append-nil p.seen) i; trees = sym (append-nil p.trees) i; own = sym (append-nil p.own) i }
+
+-- what is read at once is read from what the caller has seen
+was_read : (p : Caller) → WasRead p (reading_of p)
+was_read p = (p, begins_itself p, refl)
 
 read_turns : (pass : Caller) → TurnsTo command.Read (opens.Nothing pass) (opens.Reading pass (reading_of pass)) (read_at (length pass.seen))
 read_turns pass = record {
@@ -40,9 +46,10 @@ read_turns pass = record {
     says = by_turn (rw is refl);
     transaction = refl;
     snapshots = refl;
+    watching = refl;
     last = search (arith);
   };
-  stands = (search (arith), refl);
+  stands = (search (arith), refl, was_read pass);
   grows = ([], no_more pass);
   numbered = refl;
 }
@@ -52,6 +59,10 @@ later_self p = record { number = refl; database = refl; schema = refl; book = re
 
 pub later_same : (p q : Caller) → q ≡ p → IsLater p q
 later_same p q same = subst (λ (r : Caller). IsLater p r) (sym same) (later_self p)
+
+-- so what was seen before is its beginning
+pub beginning_later : (p q : Caller) → IsLater p q → IsBeginning p q
+beginning_later p q later = record { schema = later.schema; book = later.book; seen = later.seen; trees = later.trees }
 
 -- what holds at all holds after an error
 pub on_err : {A E P : Type 0} → (r : Result A E) → P → OnErr r P
@@ -99,6 +110,7 @@ end_turns pass txn = record {
     says = by_turn (rw is refl);
     transaction = refl;
     snapshots = refl;
+    watching = refl;
     last = le;
   };
   stands = tt;
@@ -121,6 +133,7 @@ write_turns old txn few changes items = record {
     says = by_turn (rw (is, lt-ltb (length old.seen) commit_limit few) refl);
     transaction = sym (ap (λ (c : Changes). writing (record { number = length c.caller.seen; writes = c.writes; texts = items_of txn })) changes ∙ ap (λ (texts : List Bytes). writing (record { number = length old.seen; writes = []; texts = texts })) items);
     snapshots = refl;
+    watching = refl;
     last = subst (λ (c : Changes). length old.seen ≤ length c.caller.seen) (sym changes) (search (arith));
   };
   stands = ap (λ (c : Changes). c.spoiled) changes;
@@ -148,6 +161,7 @@ spent_turns pass spent = record {
     says = by_turn (rw (is, ap (λ (n : ℕ). nat_lt n commit_limit) spent) refl);
     transaction = is;
     snapshots = refl;
+    watching = refl;
     last = le;
   };
   stands = tt;
@@ -179,6 +193,7 @@ abort_turns pass txn same = record {
     says = by_turn (rw is refl);
     transaction = refl;
     snapshots = refl;
+    watching = refl;
     last = subst (λ (p : Caller). v.last ≤ length p.seen) (sym same) le;
   };
   stands = tt;
@@ -196,6 +211,7 @@ commit_turns txn c is_committed = record {
     says = by_turn (rw (is, is_committed.number, is_committed.items) refl);
     transaction = refl;
     snapshots = refl;
+    watching = refl;
     last = rw (is_committed.pass, length-append (changes_of txn).caller.seen _) (search (arith));
   };
   stands = tt;
@@ -237,7 +253,7 @@ open_turns : (c : Command) (o : Open) → Stands o → Grows (caller_of o) (call
     → ((v : Client) → v.transaction ≡ transaction_of o → outcome v (turn (caller_of o).schema (caller_of o).seen (length (caller_of o).seen) v c) ≡ (refused (codes "transaction-open"), v))
     → LooksAndTurns c o o (refused (codes "transaction-open"))
 open_turns c o stands grows numbered says = refused_once c o (codes "transaction-open") stands (record {
-  turns = λ v is le. record { next = v; says = by_turn (says v is); transaction = is; snapshots = refl; last = le };
+  turns = λ v is le. record { next = v; says = by_turn (says v is); transaction = is; snapshots = refl; watching = refl; last = le };
   stands = stands;
   grows = grows;
   numbered = numbered;
@@ -253,17 +269,17 @@ write_refused (opens.Nothing p) stands not = absurd (not p refl)
 write_refused (opens.Reading p txn) stands not = open_turns command.Write (opens.Reading p txn) stands ([], no_more p) refl (λ v is. rw is refl)
 write_refused (opens.Writing txn) stands not = open_turns command.Write (opens.Writing txn) stands ([], no_more (changes_of txn).caller) refl (λ v is. rw is refl)
 
-turns_once : (c : Command) (o o' : Open) (r : Reply) → StartsNone c → Stands o → TurnsTo c o o' r → LooksAndTurns c o o' r
+turns_once : (c : Command) (o o' : Open) (r : Reply) → TellsNone c → Stands o → TurnsTo c o o' r → LooksAndTurns c o o' r
 turns_once c o o' r is stands turns = record {
   at = o;
   looks = looks_self o stands;
   turns = turns;
-  loads = λ v same le. let t = turns.turns v same le in starts_none (caller_of o).schema (caller_of o).seen (length (caller_of o).seen) v t.next c r (looks_self o stands).read is t.says;
+  loads = λ v same le. let t = turns.turns v same le in told_none (caller_of o).schema (caller_of o).seen (length (caller_of o).seen) v t.next c r (looks_self o stands).read is t.says;
 }
 
-pub told_once : (c c' : Command) (o o' : Open) (s : DbSchema) (told : Result replies.the_data AllocError) → c' ≡ c → StartsNone c → Stands o → IfOk told (λ r. TurnsTo c o o' (reply_of s r)) → IfOk told (λ r. LooksAndTurns c' o o' (reply_of s r))
+pub told_once : (c c' : Command) (o o' : Open) (s : DbSchema) (told : Result replies.the_data AllocError) → c' ≡ c → TellsNone c → Stands o → IfOk told (λ r. TurnsTo c o o' (reply_of s r)) → IfOk told (λ r. LooksAndTurns c' o o' (reply_of s r))
 told_once c c' o o' s (Ok r) is starts stands turns = subst (λ (x : Command). LooksAndTurns x o o' (reply_of s r)) (sym is) (turns_once c o o' (reply_of s r) starts stands turns)
 told_once c c' o o' s (Err e) is starts stands turns = tt
 
-pub told_pair : (c c' : Command) (o : Open) (s : DbSchema) (turn : Open × replies.the_data) (result : Open × Result replies.the_data AllocError) → c' ≡ c → StartsNone c → Stands o → result ≡ (turn.0, Ok turn.1) → TurnsTo c o turn.0 (reply_of s turn.1) → IfOk result.1 (λ r. LooksAndTurns c' o result.0 (reply_of s r))
+pub told_pair : (c c' : Command) (o : Open) (s : DbSchema) (turn : Open × replies.the_data) (result : Open × Result replies.the_data AllocError) → c' ≡ c → TellsNone c → Stands o → result ≡ (turn.0, Ok turn.1) → TurnsTo c o turn.0 (reply_of s turn.1) → IfOk result.1 (λ r. LooksAndTurns c' o result.0 (reply_of s r))
 told_pair c c' o s turn result is starts stands gives turns = subst (λ (p : Open × Result replies.the_data AllocError). IfOk p.1 (λ r. LooksAndTurns c' o p.0 (reply_of s r))) (sym gives) (subst (λ (x : Command). LooksAndTurns x o turn.0 (reply_of s turn.1)) (sym is) (turns_once c o turn.0 (reply_of s turn.1) starts stands turns))

@@ -77,6 +77,7 @@ accepted c w table reply is_write txn txn' after steps changes items sound makes
     says = by_turn (ap (outcome v) (is_write (changes_of txn).caller.schema (changes_of txn).caller.seen (length (changes_of txn).caller.seen) v) ∙ rw (is, steps) refl);
     transaction = ap (λ (t : Changes). (next_changes v t (items_of txn)).transaction) (sym changes) ∙ ap (λ (texts : List Bytes). (next_changes v (changes_of txn') texts).transaction) (sym items);
     snapshots = refl;
+    watching = refl;
     last = subst (λ (t : Changes). v.last ≤ length t.caller.seen) (sym changes) le;
   };
   stands = ap (λ (t : Changes). t.spoiled) changes ∙ sound;
@@ -155,6 +156,7 @@ same_turns c txn txn' rule breaks changes items sound = record {
     says = by_turn (ap (outcome v) (breaks v is));
     transaction = is ∙ ap (λ (t : Changes). (next_changes v t (items_of txn)).transaction) (sym changes) ∙ ap (λ (texts : List Bytes). (next_changes v (changes_of txn') texts).transaction) (sym items);
     snapshots = refl;
+    watching = refl;
     last = subst (λ (t : Changes). v.last ≤ length t.caller.seen) (sym changes) le;
   };
   stands = ap (λ (t : Changes). t.spoiled) changes ∙ sound;
@@ -188,6 +190,7 @@ spent_turns c writes txn txn' ws reply allowed full changes items sound = record
     });
     transaction = is ∙ ap (λ (t : Changes). (next_changes v t (items_of txn)).transaction) (sym changes) ∙ ap (λ (texts : List Bytes). (next_changes v (changes_of txn') texts).transaction) (sym items);
     snapshots = refl;
+    watching = refl;
     last = subst (λ (t : Changes). v.last ≤ length t.caller.seen) (sym changes) le;
   };
   stands = ap (λ (t : Changes). t.spoiled) changes ∙ sound;
@@ -318,6 +321,7 @@ wiped_turns c wiping is_wipe txn txn' gone lists changes items sound = record {
     says = by_turn (ap (outcome v) (is_wipe (changes_of txn).caller.schema (changes_of txn).caller.seen (length (changes_of txn).caller.seen) v) ∙ rw (is, lists) refl);
     transaction = ap (λ (t : Changes). (next_changes v t (items_of txn)).transaction) (sym changes) ∙ ap (λ (texts : List Bytes). (next_changes v (changes_of txn') texts).transaction) (sym items);
     snapshots = refl;
+    watching = refl;
     last = subst (λ (t : Changes). v.last ≤ length t.caller.seen) (sym changes) le;
   };
   stands = ap (λ (t : Changes). t.spoiled) changes ∙ sound;
@@ -446,6 +450,7 @@ kept_turns c old new r caller same stands says makes prints = record {
     says = by_turn (says v is);
     transaction = is ∙ sym same;
     snapshots = refl;
+    watching = refl;
     last = subst (λ (p : Caller). v.last ≤ length p.seen) (sym caller) le;
   };
   stands = stands;
@@ -532,6 +537,7 @@ defer_turns self txn txn' text item is copied changes items sound = subst (λ (s
     says = by_turn (rw open_is refl);
     transaction = ap (λ (t : Changes). (next_changes v t (items_of txn ++ text ∷ [])).transaction) (sym changes) ∙ ap (λ (texts : List Bytes). (next_changes v (changes_of txn') texts).transaction) (sym (items ∙ ap (λ (x : Bytes). items_of txn ++ x ∷ []) copied));
     snapshots = refl;
+    watching = refl;
     last = subst (λ (t : Changes). v.last ≤ length t.caller.seen) (sym changes) le;
   };
   stands = ap (λ (t : Changes). t.spoiled) changes ∙ sound;

@@ -8,16 +8,18 @@ use Rattle.mem_txn.specs.Database.{Caller}
 use Rattle.client_script.specs.Client.{at_start}
 use Rattle.client_script.specs.Reply.{Reply, lines_text}
 use Rattle.client_script.specs.Session.{Runs, Session}
+use Rattle.client_script.specs.declared.command.Command.{Command}
+use Rattle.client_script.specs.declared.command.Command.TheVariants as command
 use Rattle.client_script.specs.declared.line.Line.{Line}
-use Rattle.client_session.proofs.OneMoreLine.{all_carried, from_here, kept_some, next, stops_here}
+use Rattle.client_session.proofs.OneMoreLine.{all_carried, from_here, kept_some, next, seen_more, stops_here}
 use Rattle.client_session.proofs.OpenTurns.{later_self}
 use Rattle.client_session.specs.Answered.{AreTold, HasAnswered, HasStopped, IsLater, IsUntold, Tells}
 use Rattle.client_session.specs.Progress.{Progress}
-use Rattle.client_session.specs.Steps.{AnswersStep, HasNotLost}
+use Rattle.client_session.specs.Steps.{AnswersStep, HasNotLost, IsBlocked, Waits}
 use Rattle.client_session.specs.declared.desk.Desk.{Desk}
 use Rattle.client_session.specs.declared.stepped.Stepped.TheVariants as stepped
 use Rattle.client_session.specs.inner.Carried.{AddsSome, AnswersLine, CarriedOn, CarriesOut, SoFar, StepsLine, Stops, StopsLine}
-use Rattle.client_session.specs.inner.DeskView.{Follows, IsTaken}
+use Rattle.client_session.specs.inner.DeskView.{Follows, IsHeldBack, IsHeldUp, IsWaiting}
 use Rattle.client_session.specs.inner.OpenView.{caller_of}
 use Rattle.client_session.specs.inner.StoredSession.{HasDone, IsUnfinished, caller_in}
 
@@ -213,8 +215,53 @@ was_stopped {P} r e is holds = subst (λ (x : Result Bool AllocError). OnErr x P
 pub line_answered : (callers : ℕ) (l : Line) (d d' : Desk) (text text' : Bytes) (r : Result Bool AllocError) (b : Bool) → r ≡ Ok b → b ≡ true → OnOk r (StepsLine callers l d d' text text' r) → AnswersLine l d d' text text' × HasNotLost l.command (caller_of d.«open») (caller_of d'.«open»)
 line_answered callers l d d' text text' r b is so told = subst (λ (x : Result Bool AllocError). OnOk x (StepsLine callers l d d' text text' x)) (is ∙ ap Ok so) told
 
-pub line_taken : (callers : ℕ) (l : Line) (d d' : Desk) (text text' : Bytes) (r : Result Bool AllocError) (b : Bool) → r ≡ Ok b → b ≡ false → OnOk r (StepsLine callers l d d' text text' r) → IsTaken callers l.command d d' × (text' ≡ text)
-line_taken callers l d d' text text' r b is so told = subst (λ (x : Result Bool AllocError). OnOk x (StepsLine callers l d d' text text' x)) (is ∙ ap Ok so) told
+pub line_held_up : (callers : ℕ) (l : Line) (d d' : Desk) (text text' : Bytes) (r : Result Bool AllocError) (b : Bool) → r ≡ Ok b → b ≡ false → OnOk r (StepsLine callers l d d' text text' r) → IsHeldUp callers l.command d d' × (text' ≡ text)
+line_held_up callers l d d' text text' r b is so told = subst (λ (x : Result Bool AllocError). OnOk x (StepsLine callers l d d' text text' x)) (is ∙ ap Ok so) told
+
+-- a line that is held up is still to do
+module _ (client : ℕ) (script : List Line) (d d' : Desk) (n : ℕ) (text text' : Bytes) (failed failed' : Bool) (so_far : SoFar script n d text) where
+  sooner : Progress
+  sooner = progress_of client script (Some d) n text failed
+
+  later : Progress
+  later = progress_of client script (Some d') n text' failed'
+
+  waits : (c : Command) → IsWaiting c d d' → Waits sooner later c
+  unfolding sooner later
+  waits c held = record {
+    replies = so_far.replies;
+    client = so_far.client;
+    runs = so_far.runs;
+    written = so_far.written;
+    stayed = held.quiet so_far.client so_far.follows;
+    later = held.looks.later;
+    tries = held.tries;
+    own = held.looks.own;
+  }
+
+  pub blocked : (callers : ℕ) (c : Command) → IsHeldBack callers c d d' → IsBlocked callers (progress_of client script (Some d) n text failed) (progress_of client script (Some d') n text' failed') c
+  unfolding sooner later
+  blocked callers command.Write held = held
+  blocked callers command.Read held = waits command.Read held
+  blocked callers command.End held = waits command.End held
+  blocked callers command.Commit held = waits command.Commit held
+  blocked callers command.Abort held = waits command.Abort held
+  blocked callers (command.Insert table row) held = waits (command.Insert table row) held
+  blocked callers (command.Delete table row) held = waits (command.Delete table row) held
+  blocked callers (command.DeleteAll q) held = waits (command.DeleteAll q) held
+  blocked callers (command.DeletePrefix q) held = waits (command.DeletePrefix q) held
+  blocked callers (command.Defer said) held = waits (command.Defer said) held
+  blocked callers (command.Question q) held = waits (command.Question q) held
+  blocked callers (command.Snapshot name) held = waits (command.Snapshot name) held
+  blocked callers (command.InSnapshot name q) held = waits (command.InSnapshot name q) held
+  blocked callers (command.Watch name q) held = waits (command.Watch name q) held
+  blocked callers (command.WatchIn name snapshot q) held = waits (command.WatchIn name snapshot q) held
+  blocked callers (command.Check name) held = waits (command.Check name) held
+  blocked callers (command.Add set name) held = waits (command.Add set name) held
+  blocked callers (command.AddLimit set limit name other) held = waits (command.AddLimit set limit name other) held
+  blocked callers (command.Size set) held = waits (command.Size set) held
+  blocked callers (command.Wait set) held = waits (command.Wait set) held
+  blocked callers (command.WaitUntil set until) held = waits (command.WaitUntil set until) held
 
 module _ (s : Progress) (client : ℕ) (script : List Line) (desk desk' : Option Desk) (n : ℕ) (text text' : Bytes) (failed : Bool) (d d' : Desk) (view_is : progress_of client script desk n text failed ≡ s) (is : desk ≡ Some d) (is' : desk' ≡ Some d') (h : HasDone script desk n text failed) (unfinished : (failed ≡ false) × (n < length script)) where
   old : Caller
@@ -275,3 +322,22 @@ module _ (s : Progress) (client : ℕ) (script : List Line) (desk desk' : Option
   pub seen_kept : (failed' : Bool) → failed' ≡ true → IsLater (caller_of d.«open») (caller_of d'.«open») → text' ≡ text → HasDone script desk' n text' failed'
   unfolding old new
   seen_kept failed' fails later same = kept n failed' (has_added old script n n text text' d' failed' (seen_some later same) h.within (λ ok. cc))
+
+  -- the line is still to do
+  module _ (callers : ℕ) (l : Line) (failed' : Bool) (same : text' ≡ text) (held : IsHeldUp callers l.command d d') where
+    pub held_up_kept : HasDone script desk' n text' failed'
+    unfolding old
+    held_up_kept =
+        let on : CarriedOn old script n n text d' text = record { before = here.before; carried = seen_more old here.before.replies (take n script) d d' text here.carried held.looks held.snapshots held.watching } in
+        kept n failed' (subst (λ (t : Bytes). HasDone script (Some d') n t failed') (sym same) (has_carried old script n n text text d' failed' on h.within))
+
+    pub held_up_stepped : failed' ≡ false → slice_get script n ≡ Some l → AnswersStep callers s (progress_of client script desk' n text' failed') (Ok (stepped.Blocked l.number))
+    held_up_stepped ok there = (
+      l,
+      (subst (λ (x : Progress). slice_get x.script x.answered ≡ Some l) view_is there, refl),
+      by_fields s client script desk desk' n text failed view_is (λ x y. IsBlocked callers x y l.command) d d' n text' failed' is is' (blocked client script d d' n text text' failed failed' (goes_on script desk n text failed d h is unfinished.0 unfinished.1) callers l.command held.why),
+      by_fields s client script desk desk' n text failed view_is (λ x y. y ≡ record x { caller = y.caller }) d d' n text' failed' is is' (λ i. progress_of client script (Some d') n (same i) (both i)),
+    )
+      where
+        both : failed' ≡ failed
+        both = ok ∙ sym unfinished.0

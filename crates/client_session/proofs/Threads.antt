@@ -5,20 +5,29 @@ use Rattle.std.proofs.MapsCrossing as maps
 use Rattle.mdb_datum.proofs.datum.Datum.TheLaws.TheKnot as datum
 use Rattle.mdb_datum.specs.contracts.row.Row
 use Rattle.mdb_datum.specs.contracts.text.Text
+use Rattle.mdb_encode.specs.contracts.key.Key
 use Rattle.mdb_schema.specs.contracts.query.Parts
 use Rattle.mdb_schema.specs.contracts.query.Query
 use Rattle.client_script.specs.contracts.command.Command
 use Rattle.client_script.specs.contracts.line.Line
 use Rattle.client_script.specs.contracts.script.Script
 use Rattle.mem_txn.proofs.Threads.{changes_send, pass_send, read_send, snapshot_send}
+use Rattle.mem_txn.specs.contracts.held.Held
+use Rattle.mem_txn.specs.contracts.held.Watching as WatchingOf
 use Rattle.mem_txn.specs.contracts.pass.Pass
 use Rattle.mem_txn.specs.contracts.read_txn.ReadTxn
 use Rattle.mem_txn.specs.contracts.write_txn.WriteTxn
+use Rattle.table_index.specs.contracts.watched.Spot
+use Rattle.watch_set.specs.contracts.member.Member
+use Rattle.watch_set.specs.contracts.set.WatchSet
+use Rattle.watch_word.proofs.cell.WatchCell.TheSendSync as cell
+use Rattle.watch_word.specs.contracts.watch.Watch
 use Rattle.client_session.specs.contracts.desk.Desk
 use Rattle.client_session.specs.contracts.kept.Kept
+use Rattle.client_session.specs.contracts.named.Named
 use Rattle.client_session.specs.contracts.«open».Open
 use Rattle.client_session.specs.contracts.session.Session
-use Rattle.client_session.specs.contracts.snapshots.Snapshots
+use Rattle.client_session.specs.contracts.watching.Watching
 
 text-send : IsSend (Text.the_field).row
 text-send = search (sendable, crosses) depth 20
@@ -37,6 +46,9 @@ parts-sync = search (sendable, crosses, datum.crosses_both, text-sync) depth 20
 
 query-send : IsSend Query.the_row
 query-send = search (sendable, crosses, parts-send, parts-sync) depth 20
+
+query-sync : IsSync Query.the_row
+query-sync = search (sendable, crosses, parts-send, parts-sync) depth 20
 
 -- each of the variants is looked through
 command-send : IsSend (Command.the_field).row
@@ -65,11 +77,57 @@ open-send = search (sendable, pass-field-send, read-field-send, write-send) dept
 kept-send : IsSend Kept.the_row
 kept-send = search (sendable, read_send, snapshot_send) depth 20
 
-snapshots-send : IsSend Snapshots.the_field.row
+snapshots-send : IsSend (Named.the_field Kept.the_row).row
 snapshots-send = search (sendable, maps.crosses, kept-send) depth 20
 
+-- ---- what is watched
+
+watch-send : IsSend Watch.the_field.row
+watch-send = search (sendable, crosses, cell.the_send, cell.the_sync) depth 20
+
+watch-sync : IsSync Watch.the_field.row
+watch-sync = search (sendable, crosses, cell.the_send, cell.the_sync) depth 20
+
+key-send : IsSend Key.the_field.row
+key-send = search (sendable, crosses) depth 20
+
+key-sync : IsSync Key.the_field.row
+key-sync = search (sendable, crosses) depth 20
+
+spot-send : IsSend Spot.the_field.row
+spot-send = search (sendable, crosses, key-send, watch-send) depth 20
+
+spot-sync : IsSync Spot.the_field.row
+spot-sync = search (sendable, crosses, key-sync, watch-sync) depth 20
+
+watching_of-send : IsSend WatchingOf.the_row
+watching_of-send = search (sendable, crosses, query-send, spot-send) depth 20
+
+watching_of-sync : IsSync WatchingOf.the_row
+watching_of-sync = search (sendable, crosses, query-sync, spot-sync) depth 20
+
+held-send : IsSend Held.the_row
+held-send = search (sendable, crosses, watching_of-send, watching_of-sync) depth 20
+
+member-send : IsSend Member.the_row
+member-send = search (sendable, crosses, text-send, held-send) depth 20
+
+set-send : IsSend WatchSet.the_row
+set-send = search (sendable, crosses, member-send) depth 20
+
+watches-send : IsSend (Named.the_field Held.the_row).row
+watches-send = search (sendable, maps.crosses, held-send) depth 20
+
+sets-send : IsSend (Named.the_field WatchSet.the_row).row
+sets-send = search (sendable, maps.crosses, set-send) depth 20
+
+watching-send : IsSend Watching.the_field.row
+watching-send = search (sendable, watches-send, sets-send) depth 20
+
+-- ---- a session
+
 desk-send : IsSend Desk.the_row
-desk-send = search (sendable, open-send, snapshots-send) depth 20
+desk-send = search (sendable, open-send, snapshots-send, watching-send) depth 20
 
 pub session_send : IsSend Session.the_row
 session_send = search (sendable, crosses, script-send, desk-send) depth 100 fits 100000

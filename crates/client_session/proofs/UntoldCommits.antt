@@ -26,7 +26,7 @@ use Rattle.client_script.specs.Turn.{Turn, turn, asked, commit_limit, indexes_of
 use Rattle.client_script.specs.declared.command.Command.{Command}
 use Rattle.client_script.specs.declared.command.Command.TheVariants as command
 use Rattle.client_script.specs.declared.line.Line.{Line}
-use Rattle.client_session.proofs.DeskTurns.{follows_longer}
+use Rattle.client_session.proofs.FollowsOn.{follows_longer}
 use Rattle.client_session.specs.declared.desk.Desk.{Desk}
 use Rattle.client_session.specs.declared.reply.Reply.{Reply}
 use Rattle.client_session.specs.inner.Carried.{IsOfCommit, Makes, StopsLine}
@@ -115,10 +115,10 @@ reply_makes : (l : Line) (old new : Desk) (r : said.Reply) → LooksAndReplies l
 reply_makes l old new r told v follows =
     let at = told.at in
     let p = caller_of at.«open» in
-    let step = told.replies.replied v (follows_longer old at v told.looks told.snapshots follows) in
+    let step = told.replied v follows (follows_longer old at v told.looks told.snapshots told.watching follows) in
     record {
       made = made p.number (transaction_of at.«open») r;
-      own = ap (λ (q : Caller). q.own) told.replies.grows.1 ∙ ap (λ (cs : List Commit). cs ++ made p.number (transaction_of at.«open») r) told.looks.own;
+      own = ap (λ (q : Caller). q.own) step.grows.1 ∙ ap (λ (cs : List Commit). cs ++ made p.number (transaction_of at.«open») r) told.looks.own;
       one = makes_one l.command p.number (transaction_of at.«open») r (answered_commits p.schema (caller_of new.«open»).seen p.number step.answers.now v step.next l.command r step.answers.says);
     }
 
@@ -133,7 +133,7 @@ turn_stopped l old new s (Err e) turned unmade v follows = none_made l.command (
 
 pub step_stopped : (callers : ℕ) (l : Line) (old new : Desk) (s : DbSchema) (told : Result (Option Reply) AllocError) → IfOk told (λ r. StepsTo callers l.command old new (option_map (reply_of s) r)) → OnErr told ((caller_of new.«open»).own ≡ (caller_of old.«open»).own) → StopsLine l old (caller_of new.«open»)
 step_stopped callers l old new s (Ok (Some r)) turned unmade v follows = reply_makes l old new (reply_of s r) turned.0 v follows
-step_stopped callers l old new s (Ok None) taken unmade v follows = none_made l.command (caller_of old.«open») (caller_of new.«open») taken.looks.own
+step_stopped callers l old new s (Ok None) held unmade v follows = none_made l.command (caller_of old.«open») (caller_of new.«open») held.looks.own
 step_stopped callers l old new s (Err e) turned unmade v follows = none_made l.command (caller_of old.«open») (caller_of new.«open») unmade
 
 pub back_stopped : (l : Line) (old : Desk) (new back : Caller) → back ≡ new → StopsLine l old new → StopsLine l old back

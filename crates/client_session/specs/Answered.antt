@@ -5,7 +5,7 @@ use Rattle.std.specs.Prelude.{◌≡◌, ◌-◌, ◌<◌, ◌≤◌, ◌++◌, 
 use mathlib.Core.List.{IsPrefix}
 use Rattle.mdb_schema.specs.History.{Commit, History}
 use Rattle.mem_txn.specs.Database.{Caller}
-use Rattle.client_session.specs.Begun.{AreAmong, begun_numbers}
+use Rattle.client_session.specs.Counts.{AreAmong, counts_told}
 use Rattle.client_script.specs.Legal.{printed}
 use Rattle.client_script.specs.Reply.{Reply, lines_text}
 use Rattle.client_script.specs.Session.{Session}
@@ -50,7 +50,7 @@ pub record Tells (old new : Progress) : Type 0 where
   pub later : IsLater old.caller new.caller
   pub read : List ℕ
   pub counts : new.caller.counts ≡ old.caller.counts ++ read
-  pub loads : AreAmong (begun_numbers replies) read
+  pub loads : AreAmong (counts_told replies) read
 
 -- The same of a call that found memory. The commits that the pass has made since are told, each
 -- once and in order, by their numbers in the list that it has seen, and no others are.

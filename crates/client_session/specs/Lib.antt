@@ -1,5 +1,5 @@
 pub mod Answered
-pub mod Begun
+pub mod Counts
 pub mod Progress
 pub mod Steps
 pub mod inner

@@ -1,12 +1,17 @@
 -- What one step of a session does.
-use Rattle.std.specs.Prelude.{◌≡◌, ◌⊎◌, ◌+◌, ℕ, Some, Result, Ok, Err, length, slice_get, ⊤}
+use Rattle.std.specs.Prelude.{◌≡◌, ◌⊎◌, ◌≤◌, ◌+◌, ◌++◌, ℕ, List, [], ◌∷◌, Some, Result, Ok, Err, length, slice_get, take, ⊤}
 use Rattle.std.specs.declared.alloc.AllocError.{AllocError}
+use Rattle.mdb_schema.specs.Tests.{◌>>=◌}
 use Rattle.mem_txn.specs.Database.{Caller}
 use Rattle.mem_txn.specs.Transactions.{HasLost, HasWon}
+use Rattle.client_script.specs.Client.{Client, Judged, Watch, at_start}
+use Rattle.client_script.specs.Reply.{Reply, lines_text}
+use Rattle.client_script.specs.Session.{Runs}
+use Rattle.client_script.specs.Watching.{IsQuiet, until_judged, wait_judged}
 use Rattle.client_script.specs.declared.command.Command.{Command}
 use Rattle.client_script.specs.declared.command.Command.TheVariants as command
 use Rattle.client_script.specs.declared.line.Line.{Line}
-use Rattle.client_session.specs.Answered.{HasAnswered}
+use Rattle.client_session.specs.Answered.{HasAnswered, IsLater}
 use Rattle.client_session.specs.Progress.{Progress}
 use Rattle.client_session.specs.declared.stepped.Stepped.{Stepped}
 use Rattle.client_session.specs.declared.stepped.Stepped.TheVariants as stepped
@@ -20,15 +25,62 @@ abbrev pub HasNotLost : Command → Caller → Caller → Type 0
 HasNotLost command.Write old new = (new.tries ≡ old.tries) ⊎ HasWon old new
 HasNotLost c old new = ⊤
 
--- The next line is answered. Or it is `write`, whose one try found the number of another of so many
--- callers, and nothing else was done. Or no line is left. After want of memory the answers are as
--- before.
+-- ---- waits that find nothing
+
+-- the watches that a line waits for, the one that cancels the wait behind the members of the set
+abbrev pub awaited_by : Command → Client → Judged (List Watch)
+awaited_by (command.Wait set) v = do
+  s ← wait_judged v set
+  Ok s.members
+awaited_by (command.WaitUntil set until) v = do
+  p ← until_judged v set until
+  Ok (p.0.members ++ p.1 ∷ [])
+awaited_by c v = Err []
+
+-- a watch was quiet at one of the looks of a call
+pub record WasQuiet (old new : Caller) (w : Watch) : Type 0 where
+  pub at : ℕ
+  pub later : length old.seen ≤ at
+  pub seen : at ≤ length new.seen
+  pub quiet : IsQuiet new.schema new.seen new.number w at
+
+abbrev pub WereQuiet : Caller → Caller → List Watch → Type 0
+WereQuiet old new [] = ⊤
+WereQuiet old new (w ∷ ws) = WasQuiet old new w × WereQuiet old new ws
+
+-- each watch that the line waits for was quiet
+pub record HasStayedQuiet (old new : Caller) (v : Client) (c : Command) : Type 0 where
+  pub awaited : List Watch
+  pub judged : awaited_by c v ≡ Ok awaited
+  pub quiet : WereQuiet old new awaited
+
+-- The line is a wait, and all that it waits for was quiet, by what the client knows after the
+-- replies whose text is kept. Nothing else was done but to look.
+pub record Waits (old new : Progress) (c : Command) : Type 0 where
+  pub replies : List Reply
+  pub client : Client
+  pub runs : let p = old.caller in
+      Runs p.schema p.seen p.number at_start (take old.answered old.script) replies client
+  pub written : old.text ≡ lines_text (take old.answered old.script) replies
+  pub stayed : HasStayedQuiet old.caller new.caller client c
+  pub later : IsLater old.caller new.caller
+  pub tries : new.caller.tries ≡ old.caller.tries
+  pub own : new.caller.own ≡ old.caller.own
+
+-- a line is still to do: `write`, whose one try found the number of another of so many callers, or a
+-- wait that has found nothing
+abbrev pub IsBlocked : ℕ → Progress → Progress → Command → Type 0
+IsBlocked callers old new command.Write = HasLost callers old.caller new.caller
+IsBlocked callers old new c = Waits old new c
+
+-- The next line is answered. Or it is still to do, and all else is as before. Or no line is left.
+-- After want of memory the answers are as before.
 abbrev pub AnswersStep : ℕ → Progress → Progress → Result Stepped AllocError → Type 0
 AnswersStep callers old new (Ok (stepped.Answered line)) =
     (l : Line) × IsNext old l line × (new.answered ≡ old.answered + 1) × HasAnswered old new
     × HasNotLost l.command old.caller new.caller
 AnswersStep callers old new (Ok (stepped.Blocked line)) =
-    (l : Line) × IsNext old l line × (l.command ≡ command.Write)
-    × HasLost callers old.caller new.caller × (new ≡ record old { caller = new.caller })
+    (l : Line) × IsNext old l line × IsBlocked callers old new l.command
+    × (new ≡ record old { caller = new.caller })
 AnswersStep callers old new (Ok stepped.Ended) = (old.answered ≡ length old.script) × (new ≡ old)
 AnswersStep callers old new (Err e) = (new.answered ≡ old.answered) × (new.text ≡ old.text)

@@ -5,4 +5,6 @@ pub mod OpenView
 pub mod Refusal
 pub mod ReplyOf
 pub mod RuleName
+pub mod SetsKept
 pub mod StoredSession
+pub mod WatchingView

@@ -1,20 +1,22 @@
 //! What a session has between two lines, and a line's turn.
-ghost use Rattle.std.specs.Prelude.{◌≡◌, IfOk, OnErr, false, is_some, option_map};
+ghost use Rattle.std.specs.Prelude.{◌≡◌, IfOk, None, OnErr, false, is_some, option_copied, option_map};
 ghost use Rattle.mem_txn.specs.Database.{IsOf};
 ghost use Rattle.client_session.specs.Answered.{IsLater};
-ghost use Rattle.client_script.specs.Turn.{is_of_watches};
 ghost use Rattle.client_script.specs.declared.command.Command.TheVariants as command;
 ghost use Rattle.client_script.specs.Client.{at_start};
-ghost use Rattle.client_session.specs.inner.DeskView.{Follows, IsRequest, LooksAndReplies, RepliesTo, StepsTo};
+ghost use Rattle.client_session.specs.inner.DeskView.{Follows, IsLook, IsRequest, LooksAndReplies, LooksOnce, RepliesTo, StepsTo};
 ghost use Rattle.client_session.specs.inner.OpenView.{caller_of, IsOpen, Stands};
 ghost use Rattle.client_session.specs.inner.KeptView.{seen_in};
 ghost use Rattle.client_session.specs.inner.ReplyOf.{reply_of};
+ghost use Rattle.client_session.specs.inner.WatchingView.{HasLookedOn, Holds, TellsLook, wait_for};
 
+use crate::kept::Kept;
+use crate::named::Named;
 use crate::open::Open;
 use crate::refusal::{question_rule, refused};
 use crate::reply::Reply;
 use crate::rule::Rule;
-use crate::snapshots::Snapshots;
+use crate::watching::Watching;
 use client_script::Command;
 use mdb_datum::Text;
 use mdb_schema::{Query, Schema};
@@ -22,22 +24,23 @@ use mem_txn::{Db, Pass};
 use std::alloc::{AllocError, Global};
 use std::sync::Wait;
 
-/// What is open, and the named snapshots.
+/// What is open, the named snapshots, and what is watched.
 pub(crate) struct Desk {
     pub(crate) open: Open,
-    pub(crate) snapshots: Snapshots,
+    pub(crate) snapshots: Named<Kept>,
+    pub(crate) watching: Watching,
 }
 
 impl Desk {
-    /// The desk at the start of a session: nothing is open, and no snapshot is kept. It takes no
-    /// memory.
+    /// The desk at the start of a session: nothing is open, kept or watched. It takes no memory.
     pub(crate) fn new(alloc: Global, pass: Pass) -> Desk
         ensures start { Follows result at_start }
         ensures caller { caller_of result.open ≡ pass }
     {
         Desk {
             open: Open::Nothing(pass),
-            snapshots: Snapshots::new(alloc),
+            snapshots: Named::new(alloc),
+            watching: Watching::new(alloc),
         }
     }
 
@@ -52,7 +55,7 @@ impl Desk {
     ) -> (Desk, Result<Reply, AllocError>)
         requires own { IsOf db.now (caller_of self.open) }
         requires stands { Stands self.open }
-        requires known { is_of_watches command.now ≡ false }
+        requires holds { Holds (caller_of self.open) self.watching }
         ensures turn { IfOk result.1 (λ r. LooksAndReplies command.now self result.0
             (reply_of (caller_of self.open).schema r)) }
         ensures caller { IsLater (caller_of self.open) (caller_of result.0.open) }
@@ -61,9 +64,23 @@ impl Desk {
     {
         match command {
             Command::Read | Command::Write | Command::End | Command::Commit | Command::Abort => {
-                let Desk { open, snapshots } = self;
+                let Desk {
+                    open,
+                    snapshots,
+                    watching,
+                } = self;
                 let (open, told) = open.turn(rt, db, command);
-                (Desk { open, snapshots }, told)
+                let desk = Desk {
+                    open,
+                    snapshots,
+                    watching,
+                };
+                (desk, told)
+            }
+            Command::Check { .. } | Command::Wait { .. } | Command::WaitUntil { .. } => {
+                let mut desk = self;
+                let told = desk.look(rt, alloc, db, command);
+                (desk, told)
             }
             command => {
                 let mut desk = self;
@@ -73,8 +90,8 @@ impl Desk {
         }
     }
 
-    /// The same, but `write` makes one try for the writer's turn. It gives no reply where that
-    /// found it taken.
+    /// The same, but `write` makes one try for the writer's turn, and a wait looks once at each
+    /// watch. It gives no reply where the turn is taken, or all are quiet.
     pub(crate) fn step<R: Wait>(
         self,
         rt: &R,
@@ -84,7 +101,7 @@ impl Desk {
     ) -> (Desk, Result<Option<Reply>, AllocError>)
         requires own { IsOf db.now (caller_of self.open) }
         requires stands { Stands self.open }
-        requires known { is_of_watches command.now ≡ false }
+        requires holds { Holds (caller_of self.open) self.watching }
         ensures turn { IfOk result.1 (λ r. StepsTo db.now.callers command.now self result.0
             (option_map (reply_of (caller_of self.open).schema) r)) }
         ensures caller { IsLater (caller_of self.open) (caller_of result.0.open) }
@@ -93,9 +110,28 @@ impl Desk {
     {
         match command {
             Command::Write => {
-                let Desk { open, snapshots } = self;
+                let Desk {
+                    open,
+                    snapshots,
+                    watching,
+                } = self;
                 let (open, told) = open.try_write(rt, db);
-                (Desk { open, snapshots }, told)
+                let desk = Desk {
+                    open,
+                    snapshots,
+                    watching,
+                };
+                (desk, told)
+            }
+            Command::Wait { set } => {
+                let mut desk = self;
+                let told = desk.look_once(rt, alloc, db, set, None);
+                (desk, told)
+            }
+            Command::WaitUntil { set, until } => {
+                let mut desk = self;
+                let told = desk.look_once(rt, alloc, db, set, Some(until));
+                (desk, told)
             }
             command => {
                 let (desk, told) = self.turn(rt, alloc, db, command);
@@ -104,7 +140,8 @@ impl Desk {
         }
     }
 
-    /// Carries out a command that neither begins nor ends a transaction.
+    /// Carries out a command that neither begins nor ends a transaction, and looks at no further
+    /// commits.
     fn request(
         &mut self,
         alloc: Global,
@@ -127,7 +164,103 @@ impl Desk {
             Command::Question { query } => self.open.ask(query),
             Command::Snapshot { name } => self.keep(alloc, name),
             Command::InSnapshot { name, query } => self.ask_snapshot(name, query),
+            Command::Watch { name, query } => self.watch(alloc, name, query),
+            Command::WatchIn {
+                name,
+                snapshot,
+                query,
+            } => self.watch_in(alloc, name, snapshot, query),
+            Command::Add { set, name } => self.watching.add(alloc, set, name),
+            Command::AddLimit {
+                set,
+                limit,
+                name,
+                other,
+            } => self.watching.add_limit(alloc, set, *limit, name, other),
+            Command::Size { set } => Ok(self.watching.size(set)),
             _ => unreachable!(),
+        }
+    }
+
+    /// What a question of the open transaction is answered, and keeps its watch.
+    fn watch(&mut self, alloc: Global, name: &Text, query: &Query) -> Result<Reply, AllocError>
+        requires stands { Stands self.old.open }
+        ensures turn { IfOk result (λ r. RepliesTo (command.Watch name.now query.now) self.old
+            self.new (reply_of (caller_of self.old.open).schema r)) }
+        ensures caller { caller_of self.new.open ≡ caller_of self.old.open }
+    {
+        match &self.open {
+            Open::Nothing(_) => Ok(Reply::Refused(Rule::NoTransaction)),
+            Open::Reading(_, txn) => self.watching.ask(alloc, name, Some(txn), query),
+            Open::Writing(_) => self.watching.ask(alloc, name, None, query),
+        }
+    }
+
+    /// What a question of a snapshot is answered, and keeps its watch.
+    fn watch_in(
+        &mut self,
+        alloc: Global,
+        name: &Text,
+        snapshot: &Text,
+        query: &Query,
+    ) -> Result<Reply, AllocError>
+        requires stands { Stands self.old.open }
+        ensures turn { IfOk result (λ r. RepliesTo (command.WatchIn name.now snapshot.now query.now)
+            self.old self.new (reply_of (caller_of self.old.open).schema r)) }
+        ensures caller { caller_of self.new.open ≡ caller_of self.old.open }
+    {
+        match self.snapshots.get(snapshot) {
+            None => Ok(Reply::Refused(Rule::UnknownName)),
+            Some(Kept::Committed(txn)) => self.watching.ask(alloc, name, Some(txn), query),
+            Some(Kept::Uncommitted(_)) => self.watching.ask(alloc, name, None, query),
+        }
+    }
+
+    /// Carries out a check or a wait.
+    fn look<R: Wait>(
+        &mut self,
+        rt: &R,
+        alloc: Global,
+        db: &Db,
+        command: &Command,
+    ) -> Result<Reply, AllocError>
+        requires own { IsOf db.now (caller_of self.old.open) }
+        requires stands { Stands self.old.open }
+        requires holds { Holds (caller_of self.old.open) self.old.watching }
+        requires look { IsLook command.now }
+        ensures turn { IfOk result (λ r. LooksAndReplies command.now self.old self.new
+            (reply_of (caller_of self.old.open).schema r)) }
+        ensures caller { IsLater (caller_of self.old.open) (caller_of self.new.open) }
+        ensures unmade { (caller_of self.new.open).own ≡ (caller_of self.old.open).own }
+    {
+        match &mut self.open {
+            Open::Nothing(pass) => look_by(rt, alloc, db, &self.watching, pass, command),
+            Open::Reading(pass, _) => look_by(rt, alloc, db, &self.watching, pass, command),
+            Open::Writing(_) => Ok(Reply::Refused(Rule::WriteOpen)),
+        }
+    }
+
+    /// Looks once at what a wait waits for. It gives no reply where all is quiet.
+    fn look_once<R: Wait>(
+        &mut self,
+        rt: &R,
+        alloc: Global,
+        db: &Db,
+        set: &Text,
+        until: Option<&Text>,
+    ) -> Result<Option<Reply>, AllocError>
+        requires own { IsOf db.now (caller_of self.old.open) }
+        requires stands { Stands self.old.open }
+        requires holds { Holds (caller_of self.old.open) self.old.watching }
+        ensures turn { IfOk result (λ r. LooksOnce (wait_for set.now (option_copied until.entry))
+            self.old self.new (option_map (reply_of (caller_of self.old.open).schema) r)) }
+        ensures caller { IsLater (caller_of self.old.open) (caller_of self.new.open) }
+        ensures unmade { (caller_of self.new.open).own ≡ (caller_of self.old.open).own }
+    {
+        match &mut self.open {
+            Open::Nothing(pass) => self.watching.look_once(rt, alloc, db, pass, set, until),
+            Open::Reading(pass, _) => self.watching.look_once(rt, alloc, db, pass, set, until),
+            Open::Writing(_) => Ok(Some(Reply::Refused(Rule::WriteOpen))),
         }
     }
 
@@ -192,8 +325,37 @@ impl Desk {
         requires own { IsOf db.now (caller_of self.open) }
         ensures { result ≡ caller_of self.open }
     {
-        let Desk { open, snapshots } = self;
+        let Desk {
+            open,
+            snapshots,
+            watching,
+        } = self;
         drop(snapshots);
+        drop(watching);
         open.close(db)
+    }
+}
+
+/// Carries out a check or a wait, by a pass with no write transaction open.
+fn look_by<R: Wait>(
+    rt: &R,
+    alloc: Global,
+    db: &Db,
+    watching: &Watching,
+    pass: &mut Pass,
+    command: &Command,
+) -> Result<Reply, AllocError>
+    requires own { IsOf db.now pass.old }
+    requires holds { Holds pass.old watching.now }
+    requires look { IsLook command.now }
+    ensures told { IfOk result (λ r. TellsLook watching.now command.now pass.old pass.new
+        (reply_of pass.old.schema r)) }
+    ensures looked { HasLookedOn pass.old pass.new }
+{
+    match command {
+        Command::Check { name } => watching.check(rt, db, pass, name),
+        Command::Wait { set } => watching.wait(rt, alloc, db, pass, set, None),
+        Command::WaitUntil { set, until } => watching.wait(rt, alloc, db, pass, set, Some(until)),
+        _ => unreachable!(),
     }
 }

@@ -8,6 +8,7 @@
 
 mod desk;
 mod kept;
+mod named;
 mod open;
 mod refusal;
 mod reply;
@@ -15,10 +16,10 @@ mod requests;
 mod rule;
 mod run;
 mod session;
-mod snapshots;
 mod stepped;
 #[cfg(test)]
 mod tests;
+mod watching;
 
 pub use session::Session;
 pub use stepped::Stepped;

@@ -35,6 +35,16 @@ pub(crate) enum Reply {
     KeptAt(u64),
     /// A snapshot stands on the commit of this number, with its transaction's writes.
     KeptWithin(u64),
+    /// A watch is quiet after so many commits.
+    QuietAt(u64),
+    /// A watch has fired, after so many commits.
+    FiredAt(u64),
+    /// How many watches a set has.
+    Sized(usize),
+    /// The name of a set's watch that has fired, after so many commits.
+    WokenBy(Text, u64),
+    /// The watch that cancels a wait has fired, after so many commits.
+    StoppedAt(u64),
     /// The line breaks this rule.
     Refused(Rule),
 }
@@ -79,7 +89,12 @@ impl Reply {
             | Reply::WriteAt(_)
             | Reply::Wiped(_)
             | Reply::KeptAt(_)
-            | Reply::KeptWithin(_) => self.write_numbered(out),
+            | Reply::KeptWithin(_)
+            | Reply::QuietAt(_)
+            | Reply::FiredAt(_)
+            | Reply::Sized(_)
+            | Reply::StoppedAt(_) => self.write_numbered(out),
+            Reply::WokenBy(name, number) => write_woken(name, *number, out),
             Reply::Committed(receipt) => write_commit(receipt, out),
             Reply::Answered(answer) => write_rows(answer, out),
             Reply::Refused(rule) => write_refused(*rule, schema, out),
@@ -120,6 +135,10 @@ impl Reply {
             Reply::Wiped(count) => write_at(b"deleted ", *count, out),
             Reply::KeptAt(number) => write_at(b"snapshot @", *number, out),
             Reply::KeptWithin(number) => write_within(*number, out),
+            Reply::QuietAt(number) => write_at(b"quiet @", *number, out),
+            Reply::FiredAt(number) => write_at(b"fired @", *number, out),
+            Reply::Sized(count) => write_at(b"size ", *count as u64, out),
+            Reply::StoppedAt(number) => write_at(b"stopped @", *number, out),
             _ => unreachable!(),
         }
     }
@@ -148,6 +167,16 @@ fn write_within(number: u64, out: &mut Vec<u8>) -> Result<(), AllocError>
 {
     write_at(b"snapshot @", number, out)?;
     out.extend_from_slice(b"+")
+}
+
+/// Adds what a wait is answered that a member of the set has ended.
+fn write_woken(name: &Text, number: u64, out: &mut Vec<u8>) -> Result<(), AllocError>
+    ensures { OnOk result (out.new.items ≡ out.old.items
+        ++ (codes "fired " ++ (name.now ++ (codes " @" ++ decimal number)))) }
+{
+    out.extend_from_slice(b"fired ")?;
+    out.extend_from_slice(name.as_str().as_bytes())?;
+    write_at(b" @", number, out)
 }
 
 /// Adds the name of the rule that a line breaks.

@@ -2,7 +2,6 @@
 ghost use Rattle.std.specs.Prelude.{◌≡◌, IfOk};
 ghost use Rattle.client_script.specs.declared.command.Command.TheVariants as command;
 ghost use Rattle.client_session.specs.inner.DeskView.{Presents};
-ghost use Rattle.client_session.specs.inner.KeptView.{kept_view};
 ghost use Rattle.client_session.specs.inner.OpenView.{caller_of, transaction_of, IsOpen, Stands, TurnsTo};
 ghost use Rattle.client_session.specs.inner.ReplyOf.{reply_of};
 
@@ -41,7 +40,7 @@ impl Open {
     pub(crate) fn present(&mut self) -> Result<(Kept, Reply), AllocError>
         requires stands { Stands self.old }
         requires opened { IsOpen self.old }
-        ensures present { IfOk result (λ p. Presents self.old (kept_view p.0)
+        ensures present { IfOk result (λ p. Presents self.old p.0
             (reply_of (caller_of self.old).schema p.1)) }
         ensures caller { caller_of self.new ≡ caller_of self.old }
         ensures transaction { transaction_of self.new ≡ transaction_of self.old }

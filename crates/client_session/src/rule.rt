@@ -22,10 +22,12 @@ pub(crate) enum Rule {
     WriteOpen,
     /// The open transaction is a read transaction.
     ReadOnly,
-    /// A snapshot has this name.
+    /// A snapshot, or a watch, has this name.
     NameTaken,
-    /// No snapshot has this name.
+    /// No snapshot, watch or set has this name.
     UnknownName,
+    /// What is asked for a watch isn't committed.
+    Uncommitted,
     /// No table has this name.
     UnknownTable,
     /// The question, or that of a wipe, breaks a rule.
@@ -60,6 +62,7 @@ impl Rule {
             Rule::ReadOnly => b"read-only",
             Rule::NameTaken => b"name-taken",
             Rule::UnknownName => b"unknown-name",
+            Rule::Uncommitted => b"uncommitted",
             Rule::UnknownTable => b"unknown-table",
             _ => unreachable!(),
         }

@@ -3,11 +3,10 @@ ghost use Rattle.std.specs.Prelude.{◌≡◌, ◌≤◌, ◌++◌, MatchResult,
 ghost use Rattle.mem_txn.specs.Database.{IsOf};
 ghost use Rattle.client_session.specs.Answered.{IsLater};
 ghost use Rattle.client_script.specs.Reply.{line_text};
-ghost use Rattle.client_script.specs.Session.{AreKnown};
-ghost use Rattle.client_script.specs.Turn.{is_of_watches};
 ghost use Rattle.client_session.specs.inner.Carried.{AddsSome, AnswersLine, CarriedOn, CarriesOut, SoFar, StepsLine, Stops, StopsLine};
 ghost use Rattle.client_session.specs.inner.OpenView.{caller_of, Stands};
 ghost use Rattle.client_session.specs.inner.ReplyOf.{reply_of};
+ghost use Rattle.client_session.specs.inner.WatchingView.{Holds};
 
 use crate::desk::Desk;
 use crate::reply::Reply;
@@ -32,7 +31,6 @@ pub(crate) fn carry_out<R: Wait, G: Gate>(
     text: &mut Vec<u8>,
 ) -> (Desk, usize, Result<(), AllocError>)
     requires own { IsOf db.now (caller_of desk.open) }
-    requires known { AreKnown script.now }
     requires place { from ≤ length script.now }
     requires so_far { SoFar script.now from desk text.old.items }
     ensures told { AddsSome (caller_of desk.open) (caller_of result.0.open) script.now from
@@ -62,7 +60,6 @@ fn answer_lines<R: Wait, G: Gate>(
     text: &mut Vec<u8>,
 ) -> (Desk, usize, Result<(), AllocError>)
     requires own { IsOf db.now (caller_of desk.open) }
-    requires known { AreKnown script.now }
     requires place { from ≤ length script.now }
     requires so_far { SoFar script.now from desk text.old.items }
     ensures told { AddsSome (caller_of desk.open) (caller_of result.0.open) script.now from
@@ -100,7 +97,7 @@ fn answer_line<R: Wait, G: Gate>(
 ) -> (Desk, Result<(), AllocError>)
     requires own { IsOf db.now (caller_of desk.open) }
     requires stands { Stands desk.open }
-    requires known { is_of_watches line.now.command ≡ false }
+    requires holds { Holds (caller_of desk.open) desk.watching }
     ensures answered { OnOk result.1 (AnswersLine line.now desk result.0 text.old.items text.new.items) }
     ensures kept { OnErr result.1 (text.new.items ≡ text.old.items) }
     ensures stopped { OnErr result.1 (StopsLine line.now desk (caller_of result.0.open)) }
@@ -134,8 +131,8 @@ fn add_reply(
     }
 }
 
-/// Carries out a line, but `write` for one try alone, and adds its answer. It gives whether there
-/// is one. After `AllocError` nothing is open, and the text is as before.
+/// Carries out a line, but `write` for one try and a wait for one look alone, and adds its answer.
+/// It gives whether there is one. After `AllocError` nothing is open, and the text is as before.
 pub(crate) fn step_line<R: Wait>(
     rt: &R,
     db: &Db,
@@ -145,7 +142,7 @@ pub(crate) fn step_line<R: Wait>(
 ) -> (Desk, Result<bool, AllocError>)
     requires own { IsOf db.now (caller_of desk.open) }
     requires stands { Stands desk.open }
-    requires known { is_of_watches line.now.command ≡ false }
+    requires holds { Holds (caller_of desk.open) desk.watching }
     ensures answered { OnOk result.1 (StepsLine db.now.callers line.now desk result.0
         text.old.items text.new.items result.1) }
     ensures kept { OnErr result.1 (text.new.items ≡ text.old.items) }

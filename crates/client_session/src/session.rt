@@ -1,7 +1,6 @@
 //! A client's session.
 ghost use Rattle.std.specs.Prelude.{◌≡◌, ◌+◌, IsOk, List, OnErr, OnOk, false, true, is_err, length};
 ghost use Rattle.client_script.specs.Reply.{Reply};
-ghost use Rattle.client_script.specs.Session.{AreKnown};
 ghost use Rattle.client_session.specs.Answered.{AreTold, HasAnswered, HasStopped, IsLater, Tells};
 ghost use Rattle.client_session.specs.Progress.{begun};
 ghost use Rattle.client_session.specs.Steps.{AnswersStep};
@@ -73,7 +72,6 @@ impl Session {
     /// first lines, and each later call answers it again.
     pub fn run<R: Wait, G: Gate>(&mut self, rt: &R, db: &Db, gate: &G) -> Result<(), AllocError>
         requires own { IsOf db.now self.old.caller }
-        requires known { AreKnown self.old.script }
         ensures told { Tells self.old self.new }
         ensures answered { OnOk result (HasAnswered self.old self.new) }
         ensures stopped { OnErr result (HasStopped self.old self.new) }
@@ -100,12 +98,12 @@ impl Session {
     }
 
     /// Carries out one line, and keeps its answer; at `write` it makes one try for the writer's
-    /// turn. Where no line is left, an open transaction is aborted. After `AllocError` an open
-    /// transaction was aborted, unless the line is its `commit`, which was made and found no memory
-    /// for the answer; the answers are as before, and each later call answers it again.
+    /// turn, and at a wait it looks once at each watch. Where no line is left, an open transaction is
+    /// aborted. After `AllocError` an open transaction was aborted, unless the line is its `commit`,
+    /// which was made and found no memory for the answer; the answers are as before, and each later
+    /// call answers it again.
     pub fn step<R: Wait>(&mut self, rt: &R, db: &Db) -> Result<Stepped, AllocError>
         requires own { IsOf db.now self.old.caller }
-        requires known { AreKnown self.old.script }
         ensures told { Tells self.old self.new }
         ensures stepped { AnswersStep db.now.callers self.old self.new result }
         ensures stopped { OnErr result (HasStopped self.old self.new) }
@@ -132,7 +130,6 @@ impl Session {
     /// Carries out the lines that are left, of which there are some.
     fn carry_out<R: Wait, G: Gate>(&mut self, rt: &R, db: &Db, gate: &G) -> Result<(), AllocError>
         requires own { IsOf db.now self.old.caller }
-        requires known { AreKnown self.old.script }
         requires open { IsUnfinished self.old }
         ensures told { Tells self.old self.new }
         ensures answered { OnOk result (HasAnswered self.old self.new) }
@@ -170,7 +167,6 @@ impl Session {
     /// Carries out the next line, which there is. With it so many lines are answered.
     fn step_on<R: Wait>(&mut self, rt: &R, db: &Db, next: usize) -> Result<Stepped, AllocError>
         requires own { IsOf db.now self.old.caller }
-        requires known { AreKnown self.old.script }
         requires open { IsUnfinished self.old }
         requires next { next ≡ self.old.answered + 1 }
         ensures told { Tells self.old self.new }

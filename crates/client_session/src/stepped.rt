@@ -6,7 +6,8 @@
 pub enum Stepped {
     /// The line was answered.
     Answered { line: u32 },
-    /// The line is `write`, and another caller has the writer's turn. It is still to do.
+    /// The line is still to do: it is `write`, and another caller has the writer's turn, or it is a
+    /// wait, and all that it waits for was quiet.
     Blocked { line: u32 },
     /// No line is left.
     Ended,

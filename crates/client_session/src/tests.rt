@@ -1,11 +1,9 @@
 //! Whole sessions: scripts with the text of their answers, worked from the format of both.
 ghost use Rattle.std.specs.Prelude.{◌≡◌, ◌∷◌, [], IfOk, IsTrue};
-ghost use Rattle.client_script.specs.Session.{AreKnown};
-ghost use Rattle.client_script.specs.Turn.{is_of_watches};
 ghost use Rattle.mem_txn.specs.Database.{IsCaller, IsOf, Opening, new_callers};
 
 use crate::Session;
-use client_script::{Command, Script, read_script};
+use client_script::{Script, read_script};
 use mdb_ports::OpenGate;
 use mdb_schema::{Schema, read_schema};
 use mem_txn::{Db, Passes};
@@ -17,6 +15,7 @@ mod callers;
 mod catalogue;
 mod steps;
 mod users;
+mod watches;
 
 /// A script, and the text of its answers in a new database.
 type Case = (&'static str, &'static str);
@@ -29,49 +28,12 @@ fn schema_of(alloc: Global, text: &str) -> Result<Schema, Fail> {
     }
 }
 
-/// Whether a command is one of watches.
-fn is_of_watches(command: &Command) -> bool
-    ensures { result ≡ is_of_watches command.now }
-{
-    match command {
-        Command::Watch { .. }
-        | Command::WatchIn { .. }
-        | Command::Check { .. }
-        | Command::Add { .. }
-        | Command::AddLimit { .. }
-        | Command::Size { .. }
-        | Command::Wait { .. }
-        | Command::WaitUntil { .. } => true,
-        _ => false,
+/// The script that a text reads as.
+fn script_of(alloc: Global, text: &str) -> Result<Script, Fail> {
+    match read_script(alloc, text.as_bytes()) {
+        Ok(script) => Ok(script),
+        Err(_) => Err(Fail::from("no script")),
     }
-}
-
-/// Whether no command of a script is one of watches.
-fn are_known(script: &Script) -> bool
-    ensures { IsTrue result → AreKnown script.now }
-{
-    for at in 0..script.len() {
-        let Some(line) = script.get(at) else {
-            return false;
-        };
-        if is_of_watches(&line.command) {
-            return false;
-        }
-    }
-    true
-}
-
-/// The script that a text reads as. One with a command of watches fails.
-fn script_of(alloc: Global, text: &str) -> Result<Script, Fail>
-    ensures { IfOk result AreKnown }
-{
-    let Ok(script) = read_script(alloc, text.as_bytes()) else {
-        return Err(Fail::from("no script"));
-    };
-    if !are_known(&script) {
-        return Err(Fail::from("a command of watches"));
-    }
-    Ok(script)
 }
 
 /// A new database with the schema that a text reads as, and the pass of its one caller.
@@ -88,7 +50,6 @@ fn opened(alloc: Global, schema: &str, script: &str) -> Result<(Db, Passes, Sess
     ensures own { IfOk result (λ made. IsCaller made.0 1 made.2.caller) }
     ensures alone { IfOk result (λ made. made.0.callers ≡ 1) }
     ensures one { IfOk result (λ made. made.1 ≡ record { passes = []; made = 1 }) }
-    ensures known { IfOk result (λ made. AreKnown made.2.script) }
 {
     let script = script_of(alloc, script)?;
     let (db, mut passes) = new_db(alloc, schema)?;
@@ -104,7 +65,6 @@ fn opened(alloc: Global, schema: &str, script: &str) -> Result<(Db, Passes, Sess
 /// Runs a session, and tells whether the text of its answers is this. It fails for want of memory.
 fn tells<R: Wait>(rt: &R, db: &Db, session: &mut Session, answers: &str) -> Result<bool, Fail>
     requires own { IsOf db.now session.old.caller }
-    requires known { AreKnown session.old.script }
     ensures own { IsCaller db.now session.old.caller.number session.new.caller }
     ensures script { session.new.script ≡ session.old.script }
 {

@@ -4,8 +4,7 @@ use Rattle.client_script.specs.declared.script_error.ScriptError.{ScriptError}
 use Rattle.mdb_datum.specs.Bytes.{Bytes}
 use Rattle.mdb_ports.specs.Faults.{Rose}
 use Rattle.mdb_schema.specs.Broken.{Broken}
-use Rattle.memdb.specs.Causes.{Finds, Reaches, CallsFor, no_command, too_large, broken, broken_script, unsupported, supported, IsOneOf}
-use Rattle.memdb.specs.Outcome.{IsSupported, IsUnsupported}
+use Rattle.memdb.specs.Causes.{Finds, Reaches, CallsFor, no_command, too_large, broken, broken_script, lawful, IsOneOf}
 use Rattle.memdb.specs.Words.{Named, files_named}
 use Rattle.run_io.specs.Causes.{HasNoExcuse}
 use Rattle.run_io.specs.Inputs.{schema_error}
@@ -26,13 +25,10 @@ module _ (words : List Bytes) (seen : Observed) (result : ℕ) (comes : (status 
   broken_script_comes : (named : Named) (client : ℕ) (rule : ScriptError) → Finds words seen named (Err (Script client rule)) → HasNoExcuse seen → IsOneOf (3 ∷ 4 ∷ 6 ∷ []) result
   broken_script_comes named client rule f plain = comes 3 (broken_script refl named client rule f plain)
 
-  not_yet_comes : (named : Named) (inputs : Inputs) → Finds words seen named (Ok inputs) → IsUnsupported inputs → HasNoExcuse seen → IsOneOf (8 ∷ 4 ∷ 6 ∷ []) result
-  not_yet_comes named inputs f u plain = comes 8 (unsupported refl named inputs f u plain)
-
-  -- where no write failed, supported inputs are answered, but for want of memory
-  supported_is_answered : (before now : ℕ) → (result ≡ 6 → Rose before now) → (Rose before now → ⊥) →
-      (named : Named) (inputs : Inputs) → Finds words seen named (Ok inputs) → IsSupported inputs → HasNoExcuse seen → IsOneOf (0 ∷ 4 ∷ []) result
-  supported_is_answered before now cut quiet named inputs f s plain = without_six (comes 0 (supported refl named inputs f s plain))
+  -- where no write failed, lawful inputs are answered, but for want of memory
+  lawful_is_answered : (before now : ℕ) → (result ≡ 6 → Rose before now) → (Rose before now → ⊥) →
+      (named : Named) (inputs : Inputs) → Finds words seen named (Ok inputs) → HasNoExcuse seen → IsOneOf (0 ∷ 4 ∷ []) result
+  lawful_is_answered before now cut quiet named inputs f plain = without_six (comes 0 (lawful refl named inputs f plain))
     where
       without_six : IsOneOf (0 ∷ 4 ∷ 6 ∷ []) result → IsOneOf (0 ∷ 4 ∷ []) result
       without_six (inl is) = inl is

@@ -1,16 +1,16 @@
 -- Where a cause is there, no other status is answered.
-use Rattle.std.proofs.Common.{◌≡◌, ◌∙◌, refl, sym, subst, ℕ, List, ◌∷◌, true, false, Option, Some, None, Ok, Err}
+use Rattle.std.proofs.Common.{◌≡◌, ◌∙◌, refl, sym, subst, ℕ, List, ◌∷◌, Option, Some, None, Ok, Err}
 use Rattle.std.specs.Prelude.{IsSome, Result}
+use Rattle.client_script.specs.Legal.{Legal}
 use Rattle.client_script.specs.declared.script_error.ScriptError.{ScriptError}
 use Rattle.mdb_datum.specs.Bytes.{Bytes}
 use Rattle.mdb_ports.specs.Files.{Contents}
 use Rattle.mdb_schema.specs.Broken.{Broken}
-use Rattle.memdb.specs.Causes.{Finds, Reaches, CallsFor, no_command, absent, too_large, broken, broken_script, unsupported, supported}
-use Rattle.memdb.specs.Outcome.{IsSupported, IsUnsupported, Answers, HasRead, IsAnswer, done, usage, broken_schema, cannot_read, not_yet}
+use Rattle.memdb.specs.Causes.{Finds, Reaches, CallsFor, no_command, absent, too_large, broken, broken_script, lawful}
+use Rattle.memdb.specs.Outcome.{HasRead, IsAnswer, done, usage, broken_schema, cannot_read}
 use Rattle.memdb.specs.Outcome as outcome
 use Rattle.memdb.specs.Words.{Named, files_named, in_order}
-use Rattle.memdb.specs.inner.Judged.{answered, JudgedRead, inputs_read, schema_broken, script_broken}
-use Rattle.memdb.specs.inner.Judged as judged
+use Rattle.memdb.specs.inner.Judged.{JudgedRead, inputs_read, schema_broken, script_broken}
 use Rattle.run_io.specs.Causes.{HasNoExcuse}
 use Rattle.run_io.specs.Inputs.{schema_error}
 use Rattle.run_io.specs.Loads as load
@@ -68,7 +68,7 @@ read_judged words seen status text named read a f plain = by_answer a
     by_answer : IsAnswer words seen status text → JudgedRead named.clients read status text
     by_answer (done is d) =
         let same = same_read words seen d.named named (Ok d.inputs) read plain d.read f in
-        inputs_read d.inputs (sym same.reads) (answered is (subst (λ (n : Named). Answers n.clients d.inputs text) same.names d.answers))
+        inputs_read is d.inputs (sym same.reads) (subst (λ (n : Named). Legal d.inputs.schema n.clients d.inputs.scripts text) same.names d.legal)
     by_answer (usage is u) = absurd (never_named words named u.no_command f.command)
     by_answer (broken_schema is b) = schema_broken is b.rule (sym (same_read words seen b.named named (Err (Schema (schema_error b.rule))) read plain b.read f).reads) b.says
     by_answer (outcome.broken_script is b) = script_broken is b.client b.rule (sym (same_read words seen b.named named (Err (Script b.client b.rule)) read plain b.read f).reads) b.says
@@ -77,9 +77,6 @@ read_judged words seen status text named read a f plain = by_answer a
         absurd (found_through words seen r.named named read r.file r.cause.name f r.command r.cause.reached (absent_not_whole seen.told r.cause.name gone))
     by_answer (outcome.too_large is l) =
         absurd (found_through words seen l.named named read l.file l.cause.name f l.command l.cause.reached (large_not_whole seen.told l.cause.name plain.tells l.cause.large))
-    by_answer (not_yet is n) =
-        let same = same_read words seen n.named named (Ok n.inputs) read plain n.read f in
-        inputs_read n.inputs (sym same.reads) (judged.unsupported is n.unsupported n.says)
 
 -- the same inputs
 ok_once : (read : Result Inputs LoadError) (a b : Inputs) → read ≡ Ok a → read ≡ Ok b → a ≡ b
@@ -91,32 +88,20 @@ never_both read inputs e f g = let h : Ok inputs ≡ Err e = sym f ∙ g in cc
 never_mixed : (read : Result Inputs LoadError) (rule : Broken) (client : ℕ) (why : ScriptError) → read ≡ Err (Schema (schema_error rule)) → read ≡ Err (Script client why) → ⊥
 never_mixed read rule client why e f = let h : Err (Schema (schema_error rule)) ≡ Err (Script client why) = sym e ∙ f in cc
 
-never_split : (inputs : Inputs) → IsUnsupported inputs → IsSupported inputs → ⊥
-never_split inputs u s = let h : true ≡ false = sym u ∙ s in cc
-
 broken_first : (names : List Bytes) (read : Result Inputs LoadError) (status : ℕ) (text : Bytes) (rule : Broken) → JudgedRead names read status text → read ≡ Err (Schema (schema_error rule)) → status ≡ 2
-broken_first names read status text rule (inputs_read i e j) b = absurd (never_both read i _ e b)
+broken_first names read status text rule (inputs_read is i e legal) b = absurd (never_both read i _ e b)
 broken_first names read status text rule (schema_broken is r e says) b = is
 broken_first names read status text rule (script_broken is client why e says) b = absurd (never_mixed read rule client why b e)
 
 script_next : (names : List Bytes) (read : Result Inputs LoadError) (status : ℕ) (text : Bytes) (client : ℕ) (why : ScriptError) → JudgedRead names read status text → read ≡ Err (Script client why) → status ≡ 3
-script_next names read status text client why (inputs_read i e j) b = absurd (never_both read i _ e b)
+script_next names read status text client why (inputs_read is i e legal) b = absurd (never_both read i _ e b)
 script_next names read status text client why (schema_broken is rule e says) b = absurd (never_mixed read rule client why e b)
 script_next names read status text client why (script_broken is k w e says) b = is
 
-unsupported_next : (names : List Bytes) (read : Result Inputs LoadError) (status : ℕ) (text : Bytes) (inputs : Inputs) → JudgedRead names read status text → read ≡ Ok inputs → IsUnsupported inputs → status ≡ 8
-unsupported_next names read status text inputs (inputs_read i e (answered is a)) f u =
-    absurd (never_split i (subst (λ (x : Inputs). IsUnsupported x) (ok_once read inputs i f e) u) a.supported)
-unsupported_next names read status text inputs (inputs_read i e (judged.unsupported is v says)) f u = is
-unsupported_next names read status text inputs (schema_broken is rule e says) f u = absurd (never_both read inputs _ f e)
-unsupported_next names read status text inputs (script_broken is k w e says) f u = absurd (never_both read inputs _ f e)
-
-supported_last : (names : List Bytes) (read : Result Inputs LoadError) (status : ℕ) (text : Bytes) (inputs : Inputs) → JudgedRead names read status text → read ≡ Ok inputs → IsSupported inputs → status ≡ 0
-supported_last names read status text inputs (inputs_read i e (answered is a)) f s = is
-supported_last names read status text inputs (inputs_read i e (judged.unsupported is v says)) f s =
-    absurd (never_split inputs (subst (λ (x : Inputs). IsUnsupported x) (ok_once read i inputs e f) v) s)
-supported_last names read status text inputs (schema_broken is rule e says) f s = absurd (never_both read inputs _ f e)
-supported_last names read status text inputs (script_broken is k w e says) f s = absurd (never_both read inputs _ f e)
+answered_last : (names : List Bytes) (read : Result Inputs LoadError) (status : ℕ) (text : Bytes) (inputs : Inputs) → JudgedRead names read status text → read ≡ Ok inputs → status ≡ 0
+answered_last names read status text inputs (inputs_read is i e legal) f = is
+answered_last names read status text inputs (schema_broken is rule e says) f = absurd (never_both read inputs _ f e)
+answered_last names read status text inputs (script_broken is k w e says) f = absurd (never_both read inputs _ f e)
 
 -- ---- each cause
 
@@ -127,7 +112,6 @@ no_command_usage words seen status text (broken_schema is b) none = absurd (neve
 no_command_usage words seen status text (outcome.broken_script is b) none = absurd (never_named words b.named none b.read.command)
 no_command_usage words seen status text (cannot_read is r) none = absurd (never_named words r.named none r.command)
 no_command_usage words seen status text (outcome.too_large is l) none = absurd (never_named words l.named none l.command)
-no_command_usage words seen status text (not_yet is n) none = absurd (never_named words n.named none n.read.command)
 
 absent_unread : (words : List Bytes) (seen : Observed) (status : ℕ) (text : Bytes) (named : Named) (name : Bytes) →
     IsAnswer words seen status text → Reaches words seen named name → IsAbsent seen.told name → status ≡ 5
@@ -142,7 +126,6 @@ absent_unread words seen status text named name (outcome.too_large is l) r a =
     let tells = subst (λ (t : Option Contents). IsSome t) (sym a.tells) refl in
     let at = reached_once seen.told (in_order named) r.file l.file name l.cause.name r.reached reached (absent_not_whole seen.told name a) (large_not_whole seen.told l.cause.name tells l.cause.large) in
     absurd (absent_not_large seen.told l.cause.name (subst (λ (m : Bytes). IsAbsent seen.told m) at.1 a) l.cause.large)
-absent_unread words seen status text named name (not_yet is n) r a = absurd (read_through words seen n.named named _ name n.read r (absent_not_whole seen.told name a))
 
 large_refused : (words : List Bytes) (seen : Observed) (status : ℕ) (text : Bytes) (named : Named) (name : Bytes) →
     IsAnswer words seen status text → Reaches words seen named name → IsTooLarge seen.told name → HasNoExcuse seen → status ≡ 7
@@ -157,7 +140,6 @@ large_refused words seen status text named name (cannot_read is c) r l plain =
     let at = reached_once seen.told (in_order named) c.file r.file c.cause.name name reached r.reached (absent_not_whole seen.told c.cause.name gone) (large_not_whole seen.told name plain.tells l) in
     absurd (absent_not_large seen.told name (subst (λ (m : Bytes). IsAbsent seen.told m) at.1 gone) l)
 large_refused words seen status text named name (outcome.too_large is m) r l plain = is
-large_refused words seen status text named name (not_yet is n) r l plain = absurd (read_through words seen n.named named _ name n.read r (large_not_whole seen.told name plain.tells l))
 
 -- ---- all together
 
@@ -169,22 +151,5 @@ called_for words seen status called text a (broken is named rule f plain) =
     broken_first named.clients _ status text rule (read_judged words seen status text named _ a f plain) refl ∙ sym is
 called_for words seen status called text a (broken_script is named client rule f plain) =
     script_next named.clients _ status text client rule (read_judged words seen status text named _ a f plain) refl ∙ sym is
-called_for words seen status called text a (unsupported is named inputs f u plain) =
-    unsupported_next named.clients _ status text inputs (read_judged words seen status text named _ a f plain) refl u ∙ sym is
-called_for words seen status called text a (supported is named inputs f s plain) =
-    supported_last named.clients _ status text inputs (read_judged words seen status text named _ a f plain) refl s ∙ sym is
-
--- ---- status 8
-
-two_statuses : (status a b : ℕ) → status ≡ a → status ≡ b → a ≡ b
-two_statuses status a b e f = sym e ∙ f
-
--- `not yet` is told where a line has one of the six words, and nowhere else
-pub only_not_yet : (words : List Bytes) (seen : Observed) (status : ℕ) (text : Bytes) → IsAnswer words seen status text → status ≡ 8 → outcome.NotYet words seen text
-only_not_yet words seen status text (done is d) e = let h = two_statuses status 0 8 is e in cc
-only_not_yet words seen status text (usage is u) e = let h = two_statuses status 1 8 is e in cc
-only_not_yet words seen status text (broken_schema is b) e = let h = two_statuses status 2 8 is e in cc
-only_not_yet words seen status text (outcome.broken_script is b) e = let h = two_statuses status 3 8 is e in cc
-only_not_yet words seen status text (cannot_read is r) e = let h = two_statuses status 5 8 is e in cc
-only_not_yet words seen status text (outcome.too_large is l) e = let h = two_statuses status 7 8 is e in cc
-only_not_yet words seen status text (not_yet is n) e = n
+called_for words seen status called text a (lawful is named inputs f plain) =
+    answered_last named.clients _ status text inputs (read_judged words seen status text named _ a f plain) refl ∙ sym is

@@ -2,7 +2,6 @@ pub mod RunAnswers
 pub mod CommandWords
 pub mod Converses
 pub mod Exclusion
-pub mod ScriptAnswers
 pub mod ManySessions
 pub mod PlacesByCaller
 pub mod SideBySide

@@ -19,7 +19,7 @@ use Rattle.client_script.specs.declared.line.Line.{Line}
 use Rattle.client_session.specs.Answered.{AreRising, commit_at}
 use Rattle.client_session.proofs.FromTheStart.{HasToldAll, told_from_new}
 use Rattle.client_session.specs.Progress.{Progress}
-use Rattle.memdb.specs.inner.Sessions.{AllKnown, AreLater, AreReady, HaveAnswered, begun, callers_back, headed}
+use Rattle.memdb.specs.inner.Sessions.{AreLater, AreReady, HaveAnswered, begun, callers_back, headed}
 use Rattle.memdb.proofs.PlacesByCaller.{AreAmong, all_counted, by_callers, places, places_are}
 
 -- ---- the passes of a new database
@@ -59,9 +59,9 @@ new_length db opening count = ap length (from_first db opening count) ∙ length
 abbrev pub begun_from : Database → Opening → ℕ → List (List Line) → List Progress
 begun_from db opening k scripts = begun (passes_from db opening k (length scripts)) scripts
 
-ready_from : (db : Database) (opening : Opening) (k : ℕ) (scripts : List (List Line)) → AllKnown scripts → AreReady db (begun_from db opening k scripts)
-ready_from db opening k [] known = tt
-ready_from db opening k (s ∷ ss) known = ((refl, refl), known.0, ready_from db opening (k + 1) ss known.1)
+ready_from : (db : Database) (opening : Opening) (k : ℕ) (scripts : List (List Line)) → AreReady db (begun_from db opening k scripts)
+ready_from db opening k [] = tt
+ready_from db opening k (s ∷ ss) = ((refl, refl), ready_from db opening (k + 1) ss)
 
 long_from : (db : Database) (opening : Opening) (k : ℕ) (scripts : List (List Line)) → length (begun_from db opening k scripts) ≡ length scripts
 long_from db opening k [] = refl
@@ -89,7 +89,7 @@ back_of db [] [] ready l = tt
 back_of db [] (t ∷ ts) ready l = absurd l
 back_of db (s ∷ ss) [] ready l = absurd l
 back_of db (s ∷ ss) (t ∷ ts) ready l =
-    of_both db (callers_back ts) (t.caller ∷ []) (back_of db ss ts ready.2 l.1) ((l.0.database ∙ ready.0.0, l.0.schema ∙ ready.0.1), tt)
+    of_both db (callers_back ts) (t.caller ∷ []) (back_of db ss ts ready.1 l.1) ((l.0.database ∙ ready.0.0, l.0.schema ∙ ready.0.1), tt)
 
 has_left : (c : ℕ) (ps qs : List Caller) → HasPass c ps → HasPass c (ps ++ qs)
 has_left c [] qs h = absurd h
@@ -211,8 +211,8 @@ module _ (db : Database) (opening : Opening) (scripts : List (List Line)) (passe
     items_are : items ≡ begun_from db opening 1 scripts
     items_are = are ∙ ap (λ (c : Callers). begun c.passes scripts) new ∙ ap (λ (ps : List Caller). begun ps scripts) (from_first db opening (length scripts))
 
-    pub all_ready : AllKnown scripts → AreReady db items
-    all_ready known = subst (AreReady db) (sym items_are) (ready_from db opening 1 scripts known)
+    pub all_ready : AreReady db items
+    all_ready = subst (AreReady db) (sym items_are) (ready_from db opening 1 scripts)
 
     pub as_many : length items ≡ length scripts
     as_many = ap length items_are ∙ long_from db opening 1 scripts
@@ -225,8 +225,8 @@ module _ (db : Database) (opening : Opening) (scripts : List (List Line)) (passe
       pub as_many_after : length ts ≡ length scripts
       as_many_after = later_long items ts later ∙ as_many
 
-      pub all_of : AllKnown scripts → AreOf db (callers_back ts)
-      all_of known = back_of db items ts (all_ready known) later
+      pub all_of : AreOf db (callers_back ts)
+      all_of = back_of db items ts all_ready later
 
       pub room_back : length rest.passes + length ts ≤ rest.made
       room_back =
@@ -245,8 +245,8 @@ module _ (db : Database) (opening : Opening) (scripts : List (List Line)) (passe
             let many = back_long ts in
             omega (arith, long, many, some, as_many_after)
 
-        pub given_of : AllKnown scripts → AreOf db given.passes
-        given_of known = subst (AreOf db) (sym given_are) (all_of known)
+        pub given_of : AreOf db given.passes
+        given_of = subst (AreOf db) (sym given_are) all_of
 
         pub given_all : db.callers ≡ length scripts → AreAll db.callers given.passes
         given_all is = subst (AreAll db.callers) (sym given_are) (λ c low high. has_back db opening 1 scripts ts later_from c (omega (arith, low)) (omega (arith, high, is)))

@@ -1,6 +1,7 @@
--- What the loading and the judging come to is what the run answers.
+-- What the loading and the sessions come to is what the run answers.
 use Rattle.std.proofs.Common.{◌≡◌, ◌∙◌, sym, ap, arith, refl, ℕ, zero, suc, ◌+◌, ◌<◌, List, [], ◌∷◌, Some, Ok, Err, codes, length, slice_get}
 use Rattle.std.specs.Prelude.{Option, Result, unwrap_or}
+use Rattle.client_script.specs.Legal.{Legal}
 use Rattle.client_script.specs.Script.{script_in}
 use Rattle.client_script.specs.declared.line.Line.{Line}
 use Rattle.mdb_datum.specs.Bytes.{Bytes}
@@ -10,9 +11,8 @@ use Rattle.mdb_schema.specs.Reading.{schema_of}
 use Rattle.mdb_schema.specs.Schema.{DbSchema}
 use Rattle.mdb_schema.specs.Tests.{◌>>=◌}
 use Rattle.mdb_schema.specs.declared.error.SchemaError.TheVariants as schema_errors
-use Rattle.memdb.specs.Outcome.{IsAnswer, done, broken_schema, broken_script, cannot_read, too_large, not_yet, name_line}
+use Rattle.memdb.specs.Outcome.{IsAnswer, done, broken_schema, broken_script, cannot_read, too_large, name_line}
 use Rattle.memdb.specs.Words.{Named, files_named, in_order}
-use Rattle.memdb.specs.inner.Judged.{Judged, answered, unsupported}
 use Rattle.memdb.specs.inner.ToldOf.{NamesFile, name_at, Tells}
 use Rattle.run_io.specs.Inputs.{script_answer, scripts_in, schema_answer}
 use Rattle.run_io.specs.Loads.{Loads}
@@ -22,13 +22,11 @@ use Rattle.run_io.specs.declared.load_error.LoadError.{LoadError}
 use Rattle.run_io.specs.declared.load_error.LoadError.TheVariants.{Memory, Read, TooLarge, Schema, Script}
 use Rattle.run_io.proofs.InOrder.{reached_there}
 
--- inputs that were loaded and judged are answered
+-- a legal output for inputs that were loaded is an answer
 pub inputs_answered : (words : List Bytes) (seen : Observed) (named : Named) (inputs : Inputs) (status : ℕ) (text : Bytes) →
-    files_named words ≡ Some named → Loads seen (in_order named) (Ok inputs) → Judged named.clients inputs status text → IsAnswer words seen status text
-inputs_answered words seen named inputs status text command loads (answered is a) =
-    done is (record { named = named; inputs = inputs; read = record { command = command; reads = loads }; answers = a })
-inputs_answered words seen named inputs status text command loads (unsupported is u says) =
-    not_yet is (record { named = named; inputs = inputs; read = record { command = command; reads = loads }; unsupported = u; says = says })
+    status ≡ 0 → files_named words ≡ Some named → Loads seen (in_order named) (Ok inputs) → Legal inputs.schema named.clients inputs.scripts text → IsAnswer words seen status text
+inputs_answered words seen named inputs status text is command loads legal =
+    done is (record { named = named; inputs = inputs; read = record { command = command; reads = loads }; legal = legal })
 
 -- the name that is told is that of the file
 named_line : (what : Bytes) (names : List Bytes) (file : ℕ) (name text : Bytes) → slice_get names file ≡ Some name → text ≡ name_line what (name_at names file) → text ≡ name_line what name

@@ -9,7 +9,7 @@ use Rattle.memdb.specs.inner.Sessions.{AreLater, AreReady, HaveAnswered, begun, 
 -- a list of sessions that is ready, in two parts
 pub ready_parts : (db : Database) (ss ts : List Progress) → AreReady db (ss ++ ts) → AreReady db ss × AreReady db ts
 ready_parts db [] ts ready = (tt, ready)
-ready_parts db (s ∷ ss) ts ready = let rest = ready_parts db ss ts ready.2 in ((ready.0, ready.1, rest.0), rest.1)
+ready_parts db (s ∷ ss) ts ready = let rest = ready_parts db ss ts ready.1 in ((ready.0, rest.0), rest.1)
 
 -- what each part has answered the whole has
 pub answered_both : (ss ts us vs : List Progress) → HaveAnswered ss us → HaveAnswered ts vs → HaveAnswered (ss ++ ts) (us ++ vs)

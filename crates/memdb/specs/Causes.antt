@@ -4,7 +4,6 @@ use Rattle.std.specs.Prelude.{◌≡◌, ◌⊎◌, ℕ, List, [], ◌∷◌, So
 use Rattle.client_script.specs.declared.script_error.ScriptError.{ScriptError}
 use Rattle.mdb_datum.specs.Bytes.{Bytes}
 use Rattle.mdb_schema.specs.Broken.{Broken}
-use Rattle.memdb.specs.Outcome.{IsSupported, IsUnsupported}
 use Rattle.memdb.specs.Words.{Named, files_named, in_order}
 use Rattle.run_io.specs.Causes.{HasNoExcuse}
 use Rattle.run_io.specs.Inputs.{inputs_in, schema_error}
@@ -48,14 +47,9 @@ pub data CallsFor (words : List Bytes) (seen : Observed) (status : ℕ) : Type 0
   broken_script : status ≡ 3 → (named : Named) (client : ℕ) (rule : ScriptError)
       → Finds words seen named (Err (Script client rule)) → HasNoExcuse seen
       → CallsFor words seen status
-  -- the schema and the scripts are lawful, and a line has one of the six words of watches
-  unsupported : status ≡ 8 → (named : Named) (inputs : Inputs)
-      → Finds words seen named (Ok inputs) → IsUnsupported inputs → HasNoExcuse seen
-      → CallsFor words seen status
-  -- no line has one
-  supported : status ≡ 0 → (named : Named) (inputs : Inputs)
-      → Finds words seen named (Ok inputs) → IsSupported inputs → HasNoExcuse seen
-      → CallsFor words seen status
+  -- the schema and the scripts are lawful
+  lawful : status ≡ 0 → (named : Named) (inputs : Inputs)
+      → Finds words seen named (Ok inputs) → HasNoExcuse seen → CallsFor words seen status
 
 -- the status is one of these
 abbrev pub IsOneOf : List ℕ → ℕ → Type 0

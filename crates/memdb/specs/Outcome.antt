@@ -1,10 +1,7 @@
 -- What a run may answer, and what it then writes: a text for each status, with its cause.
-use Rattle.std.specs.Prelude.{◌≡◌, ◌<◌, ℕ, List, [], ◌∷◌, ◌++◌, length, take, Bool, true, false, Option, Some, None, Result, Ok, Err, codes, decimal}
-use Rattle.std.specs.List.{list_any}
+use Rattle.std.specs.Prelude.{◌≡◌, ◌<◌, ℕ, List, [], ◌∷◌, ◌++◌, length, take, Option, Some, None, Result, Ok, Err, codes, decimal}
 use Rattle.client_script.specs.Legal.{Legal}
 use Rattle.client_script.specs.Refusal.{error_word, error_line}
-use Rattle.client_script.specs.Turn.{is_of_watches}
-use Rattle.client_script.specs.declared.line.Line.{Line}
 use Rattle.client_script.specs.declared.script_error.ScriptError.{ScriptError}
 use Rattle.mdb_datum.specs.Bytes.{Bytes}
 use Rattle.mdb_datum.specs.Doc.{text}
@@ -20,26 +17,6 @@ use Rattle.run_io.specs.Observed.{Observed}
 use Rattle.run_io.specs.declared.inputs.Inputs.{Inputs}
 use Rattle.run_io.specs.declared.load_error.LoadError.{LoadError}
 use Rattle.run_io.specs.declared.load_error.LoadError.TheVariants.{Schema, Script}
-
--- ---- what the inputs of a command are
-
--- whether a line's first word is one of the six of watches: `watch`, `check`, `add`, `add-limit`,
--- `size` and `wait`
-abbrev pub has_watches : List Line → Bool
-has_watches lines = list_any (λ (l : Line). is_of_watches l.command) lines
-
--- inputs are supported where no script has such a line
-abbrev pub IsSupported : Inputs → Type 0
-IsSupported inputs = list_any has_watches inputs.scripts ≡ false
-
--- and aren't where one has
-abbrev pub IsUnsupported : Inputs → Type 0
-IsUnsupported inputs = list_any has_watches inputs.scripts ≡ true
-
--- a legal output for the inputs, where the clients' files have these names
-pub record Answers (names : List Bytes) (inputs : Inputs) (text : Bytes) : Type 0 where
-  pub supported : IsSupported inputs
-  pub legal : Legal inputs.schema names inputs.scripts text
 
 -- ---- the texts
 
@@ -68,9 +45,6 @@ script_text client e =
     codes "script " ++ (decimal client
     ++ (line_part (error_line e) ++ (32 ∷ (error_word e ++ 10 ∷ []))))
 
-abbrev pub not_yet_text : Bytes
-not_yet_text = codes "not yet" ++ 10 ∷ []
-
 -- ---- the statuses
 
 -- the words are a command, whose files were read whole without a fault, and their bytes come to
@@ -80,12 +54,12 @@ pub record HasRead (words : List Bytes) (seen : Observed) (named : Named)
   pub command : files_named words ≡ Some named
   pub reads : IsRead seen (in_order named) read
 
--- status 0: the text is a legal output for the inputs
+-- status 0: the text is a legal output for the inputs, where the clients' files have these names
 pub record Done (words : List Bytes) (seen : Observed) (text : Bytes) : Type 0 where
   pub named : Named
   pub inputs : Inputs
   pub read : HasRead words seen named (Ok inputs)
-  pub answers : Answers named.clients inputs text
+  pub legal : Legal inputs.schema named.clients inputs.scripts text
 
 -- status 1: the words are no command, and no call of the files failed
 pub record Usage (words : List Bytes) (seen : Observed) (text : Bytes) : Type 0 where
@@ -126,14 +100,6 @@ pub record TooLarge (words : List Bytes) (seen : Observed) (text : Bytes) : Type
   pub cause : load.IsPastLimit seen (in_order named) file
   pub says : text ≡ name_line (codes "too large ") cause.name
 
--- status 8: the schema and the scripts are lawful, and a line has one of the six words of watches
-pub record NotYet (words : List Bytes) (seen : Observed) (text : Bytes) : Type 0 where
-  pub named : Named
-  pub inputs : Inputs
-  pub read : HasRead words seen named (Ok inputs)
-  pub unsupported : IsUnsupported inputs
-  pub says : text ≡ not_yet_text
-
 -- a status, and the text that is written under it
 pub data IsAnswer (words : List Bytes) (seen : Observed) (status : ℕ) (text : Bytes) : Type 0 where
   done : status ≡ 0 → Done words seen text → IsAnswer words seen status text
@@ -142,7 +108,6 @@ pub data IsAnswer (words : List Bytes) (seen : Observed) (status : ℕ) (text : 
   broken_script : status ≡ 3 → BrokenScript words seen text → IsAnswer words seen status text
   cannot_read : status ≡ 5 → CannotRead words seen text → IsAnswer words seen status text
   too_large : status ≡ 7 → TooLarge words seen text → IsAnswer words seen status text
-  not_yet : status ≡ 8 → NotYet words seen text → IsAnswer words seen status text
 
 -- status 6: a part of the text of another status, from its beginning, and not all of it
 pub record CutShort (words : List Bytes) (seen : Observed) (text : Bytes) : Type 0 where

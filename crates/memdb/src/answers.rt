@@ -4,7 +4,7 @@ ghost use Rattle.client_script.specs.Legal.{Legal};
 ghost use Rattle.client_script.specs.Reply.{heading};
 ghost use Rattle.client_session.specs.Progress.{Progress};
 ghost use Rattle.mem_txn.specs.Database.{Opening, new_callers};
-ghost use Rattle.memdb.specs.inner.Sessions.{AreLater, AreReady, AllKnown, HaveAnswered, headed};
+ghost use Rattle.memdb.specs.inner.Sessions.{AreLater, AreReady, HaveAnswered, headed};
 
 use crate::output::{end_line, write_number};
 use crate::sessions::{begin_all, end_all, run_all};
@@ -29,7 +29,6 @@ pub fn answers<R: Threads + Wait + Sync, G: Gate + Sync>(
     schema: Schema,
     scripts: Scripts,
 ) -> Result<Vec<u8>, AllocError>
-    requires known { AllKnown scripts }
     requires named { length names.now ≡ length scripts }
     requires some { 1 ≤ length names.now }
     requires few { length names.now ≤ 64 }
@@ -49,7 +48,6 @@ fn answers_in<R: Threads + Wait + Sync, G: Gate + Sync>(
     scripts: Scripts,
     room: Vec<Session>,
 ) -> Result<Vec<u8>, AllocError>
-    requires known { AllKnown scripts }
     requires named { length names.now ≡ length scripts }
     requires some { 1 ≤ length names.now }
     requires few { length names.now ≤ 64 }
@@ -77,7 +75,6 @@ fn answers_on<R: Threads + Wait + Sync, G: Gate + Sync>(
     scripts: Scripts,
     room: Vec<Session>,
 ) -> Result<Vec<u8>, AllocError>
-    requires known { AllKnown scripts }
     requires named { length names.now ≡ length scripts }
     requires some { 1 ≤ length names.now }
     requires callers { db.callers ≡ length scripts }

@@ -9,14 +9,12 @@
 #![tactic(auto)]
 
 mod answers;
-mod judge;
 mod outcome;
 mod output;
 mod run;
 mod sessions;
 #[cfg(test)]
 mod tests;
-mod watch_lines;
 mod words;
 
 use mdb_datum::Text;

@@ -1,5 +1,6 @@
 //! From the words and the files to what a run writes.
-ghost use Rattle.std.specs.Prelude.{◌≡◌, None, Some, IfOk, List, length, option_map};
+ghost use Rattle.std.specs.Prelude.{◌≡◌, ◌≤◌, None, Some, IfOk, List, length, option_map};
+ghost use Rattle.client_script.specs.Legal.{Legal};
 ghost use Rattle.mdb_datum.specs.Bytes.{Bytes};
 ghost use Rattle.memdb.specs.Outcome.{IsAnswer};
 ghost use Rattle.memdb.specs.Words.{files_named, in_order};
@@ -7,13 +8,13 @@ ghost use Rattle.memdb.specs.inner.NamedOf.{named_of};
 ghost use Rattle.memdb.specs.inner.ToldOf.{NamesFile, Tells};
 ghost use Rattle.run_io.specs.Observed.{observed, Stays};
 
-use crate::judge::judge;
+use crate::answers::answers;
 use crate::output::{Output, broken_schema, broken_script, cannot_read, too_large, usage};
 use crate::words::Named;
 use mdb_datum::Text;
 use mdb_ports::{Files, Gate};
 use mdb_schema::SchemaError;
-use run_io::{LoadError, load};
+use run_io::{Inputs, LoadError, load};
 use std::alloc::{AllocError, Global};
 use std::sync::Wait;
 use std::thread::Threads;
@@ -80,9 +81,29 @@ fn loaded<R: Threads + Wait + Sync, F: Files, G: Gate + Sync>(
         → IsAnswer words seen output.status output.text.items) }
 {
     match load(alloc, files, &named.schema, &named.clients) {
-        Ok(inputs) => judge(rt, alloc, gate, named.names(), inputs),
+        Ok(inputs) => answered_all(rt, alloc, gate, named.names(), inputs),
         Err(error) => told(alloc, named, error),
     }
+}
+
+/// The answers to the scripts of clients whose files have these names.
+fn answered_all<R: Threads + Wait + Sync, G: Gate + Sync>(
+    rt: &R,
+    alloc: Global,
+    gate: &G,
+    names: &[Text],
+    inputs: Inputs,
+) -> Result<Output, AllocError>
+    requires named { length names.now ≡ length inputs.scripts }
+    requires some { 1 ≤ length names.now }
+    requires few { length names.now ≤ 64 }
+    ensures status { IfOk result (λ output. output.status ≡ 0) }
+    ensures legal { IfOk result
+        (λ output. Legal inputs.schema names.now inputs.scripts output.text.items) }
+{
+    let Inputs { schema, scripts } = inputs;
+    let text = answers(rt, alloc, gate, names, schema, scripts)?;
+    Ok(Output { status: 0, text })
 }
 
 /// The output for files that were not loaded.

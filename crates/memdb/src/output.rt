@@ -4,7 +4,7 @@ ghost use Rattle.client_script.specs.Refusal.{error_line, error_word};
 ghost use Rattle.mdb_datum.specs.Doc.{text};
 ghost use Rattle.mdb_datum.specs.Written.{compact};
 ghost use Rattle.mdb_schema.specs.RuleWord.{rule_word};
-ghost use Rattle.memdb.specs.Outcome.{name_line, name_part, line_part, broken_text, script_text, not_yet_text};
+ghost use Rattle.memdb.specs.Outcome.{name_line, name_part, line_part, broken_text, script_text};
 ghost use Rattle.memdb.specs.Words.{usage_text};
 
 use client_script::ScriptError;
@@ -165,16 +165,6 @@ pub fn too_large(alloc: Global, name: &Text) -> Result<Output, AllocError>
     Ok(Output {
         status: 7,
         text: name_line(alloc, b"too large ", name)?,
-    })
-}
-
-/// A line has one of the six words of watches, which aren't supported.
-pub fn not_yet(alloc: Global) -> Result<Output, AllocError>
-    ensures { IfOk result (λ output. (output.status ≡ 8) × (output.text.items ≡ not_yet_text)) }
-{
-    Ok(Output {
-        status: 8,
-        text: Vec::from_slice(alloc, b"not yet\n")?,
     })
 }
 

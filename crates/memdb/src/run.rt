@@ -2,7 +2,7 @@
 ghost use Rattle.std.specs.Prelude.{◌≡◌, ◌≢◌, ◌≤◌, ◌∷◌, [], ℕ, None};
 ghost use Rattle.mdb_ports.specs.Faults.{Rose};
 ghost use Rattle.memdb.specs.Causes.{CallsFor, IsOneOf};
-ghost use Rattle.memdb.specs.Outcome.{Wrote, Done, Usage, BrokenSchema, BrokenScript, CannotRead, TooLarge, NotYet, CutShort};
+ghost use Rattle.memdb.specs.Outcome.{Wrote, Done, Usage, BrokenSchema, BrokenScript, CannotRead, TooLarge, CutShort};
 ghost use Rattle.memdb.specs.Words.{files_named};
 ghost use Rattle.run_io.specs.Observed.{observed, Stays};
 
@@ -26,9 +26,7 @@ use std::thread::Threads;
 /// - 4: there was not enough memory, and nothing was written;
 /// - 5: a file can't be read, and `cannot read NAME` was written;
 /// - 6: the sink failed, and the beginning of a text was written;
-/// - 7: a file has more than 1,048,576 bytes, and `too large NAME` was written;
-/// - 8: the schema and the scripts are lawful, but a line has one of the words `watch`, `check`,
-///   `add`, `add-limit`, `size` and `wait`, which aren't supported, and `not yet` was written.
+/// - 7: a file has more than 1,048,576 bytes, and `too large NAME` was written.
 ///
 /// Each client is run on a thread of its own. The gate is passed at each line of its script.
 pub fn run<R: Threads + Wait + Sync, F: Files, S: Sink, G: Gate + Sync>(
@@ -63,10 +61,7 @@ pub fn run<R: Threads + Wait + Sync, F: Files, S: Sink, G: Gate + Sync>(
     ensures too_large { let seen = observed (F.told files.old) (F.reliable files.old)
         (F.faults files.old) (F.faults files.new) in
         result ≡ 7 → Wrote (S.told out.old) (S.told out.new) (TooLarge words.now seen) }
-    ensures not_yet { let seen = observed (F.told files.old) (F.reliable files.old)
-        (F.faults files.old) (F.faults files.new) in
-        result ≡ 8 → Wrote (S.told out.old) (S.told out.new) (NotYet words.now seen) }
-    ensures no_other { IsOneOf (0 ∷ 1 ∷ 2 ∷ 3 ∷ 4 ∷ 5 ∷ 6 ∷ 7 ∷ 8 ∷ []) result }
+    ensures no_other { IsOneOf (0 ∷ 1 ∷ 2 ∷ 3 ∷ 4 ∷ 5 ∷ 6 ∷ 7 ∷ []) result }
 
     // Where its cause is there a status comes, but for want of memory and a failed write.
     ensures comes { let seen = observed (F.told files.old) (F.reliable files.old)

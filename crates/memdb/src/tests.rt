@@ -10,6 +10,7 @@ mod catalogue;
 mod clients;
 mod held;
 mod sessions;
+mod watches;
 
 const SCHEMA: &str = r#"{"memdb":1,"tables":{"t":{"indexes":{
 "id":{"unique":true,"indexer":{"kind":"text","field":"name"}}}}}}"#;
@@ -129,29 +130,6 @@ static CASES: [Case; 15] = [
     (BY_UUID, ANN, 0, NO_UUID_OUT),
     (TWO_INDEXES, ANN, 0, ANN_OUT),
     (TWO_TABLES, ANN, 0, ANN_OUT),
-];
-
-const KEPT_NAMES: &str = "client 1 c1\n1: write @0\n2: deferred\n3: snapshot @0+\n4: rows 0\n";
-
-/// Scripts, and what their run comes to where one of their lines has one of the words of watches as
-/// its first, and where none has.
-static WATCHES: [Case; 11] = [
-    (SCHEMA, "watch w first t id\n", 8, "not yet\n"),
-    (SCHEMA, "watch w in s first t id\n", 8, "not yet\n"),
-    (SCHEMA, "check w\n", 8, "not yet\n"),
-    (SCHEMA, "add s w\n", 8, "not yet\n"),
-    (SCHEMA, "add-limit s 1 v w\n", 8, "not yet\n"),
-    (SCHEMA, "size s\n", 8, "not yet\n"),
-    (SCHEMA, "wait s\n", 8, "not yet\n"),
-    (SCHEMA, "wait s until w", 8, "not yet\n"),
-    (SCHEMA, "write\ncommit\n\n\tcheck w\nread\n", 8, "not yet\n"),
-    (SCHEMA, "#watch\n# wait s\n", 0, NO_LINES),
-    (
-        SCHEMA,
-        "write\ndefer watch w\nsnapshot wait\nin wait get t id\n",
-        0,
-        KEPT_NAMES,
-    ),
 ];
 
 /// A schema and a script of which the rule that is told is broken: the schema's comes first.
@@ -302,13 +280,6 @@ fn count_answered<R: Threads + Wait + Sync>(
 fn a_schema_and_a_script_are_answered(rt: HostRuntime) -> Result<(), Fail> {
     let count = count_answered(&rt, rt.alloc(), &CASES)?;
     assert!(rt; count == CASES.len(), "after {count}");
-    Ok(())
-}
-
-#[test]
-fn lines_of_watches_are_not_yet_supported(rt: HostRuntime) -> Result<(), Fail> {
-    let count = count_answered(&rt, rt.alloc(), &WATCHES)?;
-    assert!(rt; count == WATCHES.len(), "after {count}");
     Ok(())
 }
 

@@ -4,7 +4,7 @@ use Rattle.std.specs.declared.alloc.AllocError.{AllocError}
 use Rattle.mdb_datum.specs.Bytes.{Bytes}
 use Rattle.mdb_schema.specs.History.{Commit}
 use Rattle.mem_txn.specs.Database.{Caller}
-use Rattle.client_session.specs.Begun.{AreAmong, begun_numbers}
+use Rattle.client_session.specs.Counts.{AreAmong, counts_told}
 use Rattle.client_script.specs.Client.{Client, at_start}
 use Rattle.client_script.specs.Legal.{printed}
 use Rattle.client_script.specs.Reply.{Reply, line_text, lines_text}
@@ -15,7 +15,7 @@ use Rattle.client_script.specs.declared.line.Line.{Line}
 use Rattle.client_session.specs.Answered.{AreRising, IsLater, IsUntold, commit_at}
 use Rattle.client_session.specs.declared.desk.Desk.{Desk}
 use Rattle.client_session.specs.Steps.{HasNotLost}
-use Rattle.client_session.specs.inner.DeskView.{Follows, IsTaken, LooksAndReplies}
+use Rattle.client_session.specs.inner.DeskView.{Follows, IsHeldUp, LooksAndReplies}
 use Rattle.client_session.specs.inner.OpenView.{caller_of}
 
 -- a line was answered, and its answer was added
@@ -28,7 +28,7 @@ pub record AnswersLine (l : Line) (old new : Desk) (before after : Bytes) : Type
 abbrev pub StepsLine : ℕ → Line → Desk → Desk → Bytes → Bytes → Result Bool AllocError → Type 0
 StepsLine callers l old new before after (Ok true) = AnswersLine l old new before after
     × HasNotLost l.command (caller_of old.«open») (caller_of new.«open»)
-StepsLine callers l old new before after (Ok false) = IsTaken callers l.command old new
+StepsLine callers l old new before after (Ok false) = IsHeldUp callers l.command old new
     × (after ≡ before)
 StepsLine callers l old new before after (Err e) = ⊤
 
@@ -73,7 +73,7 @@ pub record Carried (pass : Caller) (before : List Reply) (done : List Line) (d :
   pub rising : AreRising (length pass.seen) (printed replies) (length (caller_of d.«open»).seen)
   pub read : List ℕ
   pub counts : (caller_of d.«open»).counts ≡ pass.counts ++ read
-  pub loads : AreAmong (begun_numbers replies) read
+  pub loads : AreAmong (counts_told replies) read
 
 -- the replies before a pass, to some first lines of a script
 pub record Before (pass : Caller) (script : List Line) (from : ℕ) (text : Bytes) : Type 0 where
@@ -98,7 +98,7 @@ pub record Adds (pass new : Caller) (before : List Reply) (done : List Line) (te
     pub later : IsLater pass new
     pub read : List ℕ
     pub counts : new.counts ≡ pass.counts ++ read
-    pub loads : AreAmong (begun_numbers replies) read
+    pub loads : AreAmong (counts_told replies) read
 
 -- the same from a place of a script on to another
 pub record AddsSome (pass new : Caller) (script : List Line) (from to : ℕ) (old text : Bytes)

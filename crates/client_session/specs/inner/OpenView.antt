@@ -1,11 +1,12 @@
 -- What is open, as the definitions of sessions see it.
 use Rattle.std.specs.Prelude.{◌≡◌, ◌≤◌, ◌+◌, ◌++◌, ℕ, false, List, [], ◌∷◌, Option, Some, None, length, map, ⊤}
 use Rattle.std.specs.List.{enumerate_from}
-use Rattle.client_session.specs.Begun.{AreAmong, number_begun}
+use Rattle.client_session.specs.Counts.{AreAmong, count_told}
 use Rattle.client_script.specs.Legal.{callers, number_printed}
 use Rattle.mdb_schema.specs.History.{History}
 use Rattle.mem_txn.specs.CellHistory.{Forest}
-use Rattle.mem_txn.specs.Database.{Caller, View}
+use Rattle.mem_txn.specs.Checked.{IsBeginning}
+use Rattle.mem_txn.specs.Database.{Caller, Reading, View, reading_of}
 use Rattle.mem_txn.specs.Transactions.{HasLost, changes_of, items_of}
 use Rattle.mdb_schema.specs.History.{state_at}
 use Rattle.client_script.specs.Client.{Transaction, closed, reading, writing, Client}
@@ -33,16 +34,21 @@ transaction_of (opens.Writing txn) = writing (record {
   texts = items_of txn;
 })
 
+-- what is read is the state after commits that a caller has seen
+abbrev pub WasRead : Caller → Reading → Type 0
+WasRead p r = (at : Caller) × IsBeginning at p × (r ≡ reading_of at)
+
 -- the state after the first n commits that a caller has seen, to be asked
 abbrev pub view_at_commit : Caller → ℕ → View
 view_at_commit p n = record { schema = p.schema; number = n; state = state_at p.schema p.seen n }
 
--- a read transaction sees the state after a commit that its caller has seen; a write transaction
--- isn't spoiled
+-- A read transaction sees the state after a commit that its caller has seen, and was read when the
+-- caller had seen that and no more. A write transaction isn't spoiled.
 abbrev pub Stands : Open → Type 0
 Stands (opens.Nothing pass) = ⊤
 Stands (opens.Reading pass txn) =
     (txn.view.number ≤ length pass.seen) × (txn.view ≡ view_at_commit pass txn.view.number)
+    × WasRead pass txn
 Stands (opens.Writing txn) = (changes_of txn).spoiled ≡ false
 
 -- the commit that a reply tells
@@ -71,6 +77,7 @@ pub record Turns (c : Command) (old new : Open) (r : Reply) (v : Client) : Type 
       next
   pub transaction : next.transaction ≡ transaction_of new
   pub snapshots : next.snapshots ≡ v.snapshots
+  pub watching : next.watching ≡ v.watching
   pub last : next.last ≤ length (caller_of new).seen
 
 -- the same, whatever else the client knows
@@ -112,7 +119,7 @@ pub record LooksAndTurns (c : Command) (old new : Open) (r : Reply) : Type 0 whe
   pub looks : Looks old at
   pub turns : TurnsTo c at new r
   pub loads : (v : Client) → v.transaction ≡ transaction_of at → v.last ≤ length (caller_of at).seen
-      → AreAmong (number_begun r) looks.read
+      → AreAmong (count_told r) looks.read
 
 -- a `write` that makes one try; it gives no reply where that found another's number
 abbrev pub TriesWrite : ℕ → Open → Open → Option Reply → Type 0

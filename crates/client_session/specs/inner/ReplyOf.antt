@@ -21,6 +21,11 @@ reply_of schema reply.Deferred = said.deferred
 reply_of schema (reply.Answered a) = said.answered a
 reply_of schema (reply.KeptAt n) = said.kept_at n
 reply_of schema (reply.KeptWithin n) = said.kept_within n
+reply_of schema (reply.QuietAt n) = said.quiet_at n
+reply_of schema (reply.FiredAt n) = said.fired_at n
+reply_of schema (reply.Sized k) = said.sized k
+reply_of schema (reply.WokenBy name n) = said.woken_by name n
+reply_of schema (reply.StoppedAt n) = said.stopped_at n
 reply_of schema (reply.Refused rule) = said.refused (rule_name schema rule)
 
 -- replies that are a word alone
@@ -40,4 +45,8 @@ IsNumbered (reply.WriteAt n) = ⊤
 IsNumbered (reply.Wiped k) = ⊤
 IsNumbered (reply.KeptAt n) = ⊤
 IsNumbered (reply.KeptWithin n) = ⊤
+IsNumbered (reply.QuietAt n) = ⊤
+IsNumbered (reply.FiredAt n) = ⊤
+IsNumbered (reply.Sized k) = ⊤
+IsNumbered (reply.StoppedAt n) = ⊤
 IsNumbered r = ⊥

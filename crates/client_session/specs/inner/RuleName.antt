@@ -74,6 +74,7 @@ rule_name schema rules.WriteOpen = codes "write-open"
 rule_name schema rules.ReadOnly = codes "read-only"
 rule_name schema rules.NameTaken = codes "name-taken"
 rule_name schema rules.UnknownName = codes "unknown-name"
+rule_name schema rules.Uncommitted = codes "uncommitted"
 rule_name schema rules.UnknownTable = codes "unknown-table"
 rule_name schema (rules.Question e) = question_name e
 rule_name schema (rules.Row table e) = write_name e ++ index_part_at schema table (write_place e)

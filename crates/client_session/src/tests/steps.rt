@@ -1,6 +1,5 @@
 //! Sessions that are carried out step by step.
 ghost use Rattle.std.specs.Prelude.{◌≡◌, IfOk};
-ghost use Rattle.client_script.specs.Session.{AreKnown};
 ghost use Rattle.mem_txn.specs.Database.{IsCaller, IsOf};
 
 use super::callers::pair;
@@ -20,7 +19,6 @@ fn tells_by_steps<R: Wait>(
     answers: &str,
 ) -> Result<bool, Fail>
     requires own { IsOf db.now session.old.caller }
-    requires known { AreKnown session.old.script }
     ensures { IsCaller db.now session.old.caller.number session.new.caller }
 {
     for _ in 0..steps {
@@ -40,7 +38,11 @@ fn is_answered_by_steps<R: Wait>(rt: &R, alloc: Global, case: &Case) -> Result<b
 }
 
 /// How many cases are answered so before the first that isn't.
-fn count_answered<R: Wait>(rt: &R, alloc: Global, cases: &[Case]) -> Result<usize, Fail> {
+pub(super) fn count_answered_by_steps<R: Wait>(
+    rt: &R,
+    alloc: Global,
+    cases: &[Case],
+) -> Result<usize, Fail> {
     for at in 0..cases.len() {
         if !is_answered_by_steps(rt, alloc, &cases[at])? {
             return Ok(at);
@@ -51,7 +53,7 @@ fn count_answered<R: Wait>(rt: &R, alloc: Global, cases: &[Case]) -> Result<usiz
 
 #[test]
 fn worked_sessions_are_answered_by_steps(rt: HostRuntime) -> Result<(), Fail> {
-    let count = count_answered(&rt, rt.alloc(), &users::CASES)?;
+    let count = count_answered_by_steps(&rt, rt.alloc(), &users::CASES)?;
     assert!(rt; count == users::CASES.len(), "after {count}");
     Ok(())
 }
@@ -64,7 +66,6 @@ fn tells_after_a_step<R: Wait>(
     answers: &str,
 ) -> Result<bool, Fail>
     requires own { IsOf db.now session.old.caller }
-    requires known { AreKnown session.old.script }
     ensures { IsCaller db.now session.old.caller.number session.new.caller }
 {
     let first = session.step(rt, db)?;
@@ -99,7 +100,6 @@ fn are_blocked_in_turn<R: Wait>(
 ) -> Result<bool, Fail>
     requires one { IsOf db.now one.old.caller }
     requires two { IsOf db.now two.old.caller }
-    requires known { AreKnown one.old.script × AreKnown two.old.script }
     ensures one { IsCaller db.now one.old.caller.number one.new.caller }
     ensures two { IsCaller db.now two.old.caller.number two.new.caller }
 {

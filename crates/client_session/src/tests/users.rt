@@ -1,5 +1,4 @@
 //! Sessions over keys, notes, rules and users.
-ghost use Rattle.client_script.specs.Session.{AreKnown};
 ghost use Rattle.mem_txn.specs.Database.{IsCaller, IsOf};
 
 use super::{Case, close, is_answered, opened, tells};
@@ -380,7 +379,11 @@ pub(super) const CASES: [Case; 14] = [
 ];
 
 /// How many cases are answered before the first that isn't.
-fn count_answered<R: Wait>(rt: &R, alloc: Global, cases: &[Case]) -> Result<usize, Fail> {
+pub(super) fn count_answered<R: Wait>(
+    rt: &R,
+    alloc: Global,
+    cases: &[Case],
+) -> Result<usize, Fail> {
     for at in 0..cases.len() {
         let (script, answers) = cases[at];
         if !is_answered(rt, alloc, SCHEMA, script, answers)? {
@@ -402,7 +405,6 @@ const ONE_COMMIT: &str = "1: write @0\n2: commit @1\n";
 /// Runs a session twice, and tells whether the text of its answers is this each time.
 fn tells_twice<R: Wait>(rt: &R, db: &Db, session: &mut Session, answers: &str) -> Result<bool, Fail>
     requires own { IsOf db.now session.old.caller }
-    requires known { AreKnown session.old.script }
     ensures { IsCaller db.now session.old.caller.number session.new.caller }
 {
     let first = tells(rt, db, session, answers)?;

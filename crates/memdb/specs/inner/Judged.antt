@@ -1,25 +1,20 @@
--- What is answered to a schema and scripts, and to what the bytes of a command's files come to.
+-- What is answered to what the bytes of a command's files come to.
 use Rattle.std.specs.Prelude.{◌≡◌, ℕ, List, Result, Ok, Err}
+use Rattle.client_script.specs.Legal.{Legal}
 use Rattle.client_script.specs.declared.script_error.ScriptError.{ScriptError}
 use Rattle.mdb_datum.specs.Bytes.{Bytes}
 use Rattle.mdb_schema.specs.Broken.{Broken}
-use Rattle.memdb.specs.Outcome.{Answers, IsUnsupported, broken_text, script_text, not_yet_text}
+use Rattle.memdb.specs.Outcome.{broken_text, script_text}
 use Rattle.run_io.specs.Inputs.{schema_error}
 use Rattle.run_io.specs.declared.inputs.Inputs.{Inputs}
 use Rattle.run_io.specs.declared.load_error.LoadError.{LoadError}
 use Rattle.run_io.specs.declared.load_error.LoadError.TheVariants.{Schema, Script}
 
--- a status and its text, for inputs whose clients' files have these names
-pub data Judged (names : List Bytes) (inputs : Inputs) (status : ℕ) (text : Bytes) : Type 0 where
-  answered : status ≡ 0 → Answers names inputs text → Judged names inputs status text
-  unsupported : status ≡ 8 → IsUnsupported inputs → text ≡ not_yet_text
-      → Judged names inputs status text
-
--- the same, where the bytes may break a rule
+-- a status and its text, for what the bytes come to, where the clients' files have these names
 pub data JudgedRead (names : List Bytes) (read : Result Inputs LoadError) (status : ℕ)
     (text : Bytes) : Type 0 where
-  inputs_read : (inputs : Inputs) → read ≡ Ok inputs → Judged names inputs status text
-      → JudgedRead names read status text
+  inputs_read : status ≡ 0 → (inputs : Inputs) → read ≡ Ok inputs
+      → Legal inputs.schema names inputs.scripts text → JudgedRead names read status text
   schema_broken : status ≡ 2 → (rule : Broken) → read ≡ Err (Schema (schema_error rule))
       → text ≡ broken_text rule → JudgedRead names read status text
   script_broken : status ≡ 3 → (client : ℕ) (rule : ScriptError)

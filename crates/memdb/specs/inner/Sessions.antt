@@ -1,18 +1,12 @@
 -- The sessions of all clients.
 use Rattle.std.specs.Prelude.{◌≡◌, ◌+◌, ◌++◌, ℕ, List, [], ◌∷◌, length, ⊤}
 use Rattle.client_script.specs.Reply.{heading}
-use Rattle.client_script.specs.Session.{AreKnown}
 use Rattle.client_script.specs.declared.line.Line.{Line}
 use Rattle.client_session.specs.Answered.{HasAnswered, IsLater}
 use Rattle.client_session.specs.Progress as progress
 use Rattle.client_session.specs.Progress.{Progress}
 use Rattle.mdb_datum.specs.Bytes.{Bytes}
 use Rattle.mem_txn.specs.Database.{Caller, Database, IsOf}
-
--- no line of any script has one of the six words of watches
-abbrev pub AllKnown : List (List Line) → Type 0
-AllKnown [] = ⊤
-AllKnown (s ∷ ss) = AreKnown s × AllKnown ss
 
 -- sessions of which nothing is carried out yet, one for each pass and script
 abbrev pub begun : List Caller → List (List Line) → List Progress
@@ -23,7 +17,7 @@ begun ps ss = []
 abbrev pub AreReady : Database → List Progress → Type 0
 AreReady db [] = ⊤
 AreReady db (s ∷ ss) =
-    IsOf db s.caller × AreKnown s.script × AreReady db ss
+    IsOf db s.caller × AreReady db ss
 
 -- all lines of each script are answered
 abbrev pub HaveAnswered : List Progress → List Progress → Type 0

@@ -23,11 +23,12 @@ read
 first nodes id ["WEB-1"]
 get nodes meta ["rack"]
 get services id_prefix ["web-1","api2"]
-get services up [true]
+watch up get services up [true]
 end
 write
 insert services {"node":"web-1","sid":"api2","name":"api","status":"passing"}
 commit
+check up
 write
 delete-prefix services id_prefix ["web-1"]
 delete-all nodes id
@@ -58,12 +59,13 @@ const OUT: &str = r#"client 1 c1
 14: write @1
 15: replaced
 16: commit @2
-17: write @2
-18: deleted 2
-19: deleted 1
-20: commit @3
-21: read @3
-22: rows 0
+17: fired @2
+18: write @2
+19: deleted 2
+20: deleted 1
+21: commit @3
+22: read @3
+23: rows 0
 "#;
 
 #[test]

@@ -7,7 +7,7 @@ use std::test::Fail;
 use std::thread::Threads;
 
 /// A script, and the output of its run.
-type Case = (&'static str, &'static str);
+pub(super) type Case = (&'static str, &'static str);
 
 const SCHEMA: &str = r#"{"memdb":1,"tables":{
 "keys":{"indexes":{"id":{"unique":true,"indexer":{"kind":"uuid","field":"key"}}}},
@@ -388,7 +388,7 @@ static CASES: [Case; 13] = [
 ];
 
 /// How many cases are answered before the first that isn't.
-fn count_answered<R: Threads + Wait + Sync>(
+pub(super) fn count_answered<R: Threads + Wait + Sync>(
     rt: &R,
     alloc: Global,
     cases: &[Case],

@@ -5,7 +5,7 @@ use Rattle.client_script.specs.declared.line.Line.{Line}
 use Rattle.client_session.specs.inner.Carried.{AddsSome, CarriedOn}
 use Rattle.client_session.specs.inner.OpenView.{caller_of}
 use Rattle.client_script.specs.declared.command.Command.TheVariants as command
-use Rattle.client_session.proofs.OneMoreLine.{from_here, next, kept_some, known_at, own_later, stops_here, was_err, was_ok}
+use Rattle.client_session.proofs.OneMoreLine.{from_here, next, holds_now, kept_some, own_later, stops_here, was_err, was_ok}
 use Rattle.client_session.proofs.OpenTurns.{later_self, on_err}
 use Rattle.client_session.proofs.run.answer_lines.Goals as goal
 
@@ -24,8 +24,8 @@ unreachable-requires g c =
 pub answer_line-next-requires-clause-own : goal.answer_line-next-requires-clause-own
 answer_line-next-requires-clause-own g c = own_later c.args.db.now (caller_of c.args.desk.«open») (caller_of c.loop-at.desk.«open») c.requires.own c.loop-at.invariant.carried.later
 
-pub answer_line-next-requires-clause-known : goal.answer_line-next-requires-clause-known
-answer_line-next-requires-clause-known g c = known_at c.args.script.now c.loop-at.at c.in-Some.line.now c.requires.known (sym c.get.ensures ∙ ap option_copied c.in-Some.is)
+pub answer_line-next-requires-clause-holds : goal.answer_line-next-requires-clause-holds
+answer_line-next-requires-clause-holds g c = holds_now (caller_of c.args.desk.«open») c.args.script.now c.args.from c.loop-at.at c.loop-at.desk c.args.text.now.items c.loop-at.text.items c.loop-at.invariant
 
 pub loop-at-preserved : goal.loop-at-preserved
 loop-at-preserved g c = next (caller_of c.args.desk.«open») c.args.script.now c.args.from c.loop-at.at c.loop-at.desk c.answer_line-next.result.0 c.args.text.now.items c.loop-at.text.items c.answer_line-next.new.text.items c.in-Some.line.now (sym c.get.ensures ∙ ap option_copied c.in-Some.is) c.loop-at.invariant (was_ok c.answer_line-next.result.1 (search (rules)) c.answer_line-next.ensures.answered)

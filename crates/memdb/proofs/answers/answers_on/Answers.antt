@@ -13,7 +13,7 @@ pub session_answers-out-requires-clause-ready : goal.session_answers-out-require
 session_answers-out-requires-clause-ready g c κs within =
     let items = c.begin_all-sessions.result.items in
     let same : c.as_mut_slice.result.now ≡ items = search (rules) in
-    subst (AreReady c.args.db) (sym same) (all_ready c.args.db c.requires.passes.0 c.args.scripts c.args.passes c.requires.passes.1 items c.begin_all-sessions.ensures.sessions c.requires.known)
+    subst (AreReady c.args.db) (sym same) (all_ready c.args.db c.requires.passes.0 c.args.scripts c.args.passes c.requires.passes.1 items c.begin_all-sessions.ensures.sessions)
 
 pub session_answers-out-requires-clause-named : goal.session_answers-out-requires-clause-named
 session_answers-out-requires-clause-named g c κs within =
@@ -29,7 +29,7 @@ end_all-requires-clause-own g c =
     let later : AreLater items ts = subst (λ (ss : List Progress). AreLater ss ts) same c.session_answers-out.ensures.later in
     let count : c.begin_all-sessions.result.len ≡ length items = search (rules) in
     subst (λ (xs : List Progress). AreOf c.args.db (callers_back xs)) (sym (lent_again items ts c.begin_all-sessions.result.len (later_long items ts later) count))
-    (all_of c.args.db c.requires.passes.0 c.args.scripts c.args.passes c.requires.passes.1 items c.begin_all-sessions.ensures.sessions ts later c.begin_all-sessions.new.passes c.begin_all-sessions.ensures.passes c.requires.known)
+    (all_of c.args.db c.requires.passes.0 c.args.scripts c.args.passes c.requires.passes.1 items c.begin_all-sessions.ensures.sessions ts later c.begin_all-sessions.new.passes c.begin_all-sessions.ensures.passes)
 
 pub end_all-requires-clause-room : goal.end_all-requires-clause-room
 end_all-requires-clause-room g c =
@@ -67,7 +67,7 @@ close-requires-clause-own g c =
     let back : c.end_all.new.passes ≡ record rest { passes = rest.passes ++ callers_back ts } =
     c.end_all.ensures ∙ ap (λ (xs : List Progress). let r : Callers = record rest { passes = rest.passes ++ callers_back xs } in r) (lent_again items ts c.begin_all-sessions.result.len (later_long items ts later) count)
     in
-    given_of c.args.db c.requires.passes.0 c.args.scripts c.args.passes c.requires.passes.1 items c.begin_all-sessions.ensures.sessions ts later rest c.begin_all-sessions.ensures.passes c.end_all.new.passes back c.requires.known
+    given_of c.args.db c.requires.passes.0 c.args.scripts c.args.passes c.requires.passes.1 items c.begin_all-sessions.ensures.sessions ts later rest c.begin_all-sessions.ensures.passes c.end_all.new.passes back
 
 pub close-requires-clause-all : goal.close-requires-clause-all
 close-requires-clause-all g c =

@@ -1,11 +1,12 @@
--- What was loaded and judged is answered, and so is an error.
-use Rattle.std.proofs.Common.{◌≡◌, ◌∙◌, sym, ap, subst, List, length, Some, Ok, Err}
+-- What was loaded is answered, and so is an error.
+use Rattle.std.proofs.Common.{◌≡◌, ◌∙◌, sym, ap, subst, List, length, IfOk, Some, Ok, Err}
+use Rattle.std.specs.Prelude.{Result}
+use Rattle.client_script.specs.Legal.{Legal}
 use Rattle.std.proofs.lemmas.Result.{IfOk-weaker}
 use Rattle.mdb_datum.specs.Bytes.{Bytes}
 use Rattle.memdb.specs.Outcome.{IsAnswer}
 use Rattle.memdb.specs.Words.{files_named, in_order}
 use Rattle.memdb.specs.declared.output.Output.{Output}
-use Rattle.memdb.specs.inner.Judged.{Judged}
 use Rattle.memdb.specs.inner.NamedOf.{named_of}
 use Rattle.memdb.specs.inner.ToldOf.{Tells}
 use Rattle.run_io.specs.Loads.{Loads}
@@ -13,8 +14,8 @@ use Rattle.run_io.specs.Observed.{observed}
 use Rattle.memdb.proofs.RunAnswers.{inputs_answered, error_answered, names_file, scripts_loaded}
 use Rattle.memdb.proofs.outcome.loaded.Goals as goal
 
-pub judge-requires-clause-named : goal.judge-requires-clause-named
-judge-requires-clause-named g c κs within =
+pub answered_all-requires-clause-named : goal.answered_all-requires-clause-named
+answered_all-requires-clause-named g c κs within =
     let named = named_of c.args.named.now in
     let inputs = c.in-Ok.inputs in
     let seen = observed (g.F.Files.told c.args.files.now) (g.F.Files.reliable c.args.files.now) (g.F.Files.faults c.args.files.now) (g.F.Files.faults c.load.new.files) in
@@ -35,10 +36,16 @@ returns-in-Ok-clause-answer g c =
     let inputs = c.in-Ok.inputs in
     let seen = observed (g.F.Files.told c.args.files.now) (g.F.Files.reliable c.args.files.now) (g.F.Files.faults c.args.files.now) (g.F.Files.faults c.load.new.files) in
     let loads : Loads seen (in_order named) (Ok inputs) = c.in-Ok.ensures.loads in
-    let judged : Output → Type 0 = λ o. Judged c.names.result.now inputs o.status o.text.items in
+    let zero : Output → Type 0 = λ o. o.status ≡ 0 in
+    let legal : Output → Type 0 = λ o. Legal inputs.schema c.names.result.now inputs.scripts o.text.items in
+    let done : Output → Type 0 = λ o. zero o × legal o in
     let answer : Output → Type 0 = λ o. (words : List Bytes) → files_named words ≡ Some named → IsAnswer words seen o.status o.text.items in
-    let of_names : (o : Output) → judged o → Judged named.clients inputs o.status o.text.items = λ o j. subst (λ (ns : List Bytes). Judged ns inputs o.status o.text.items) c.names.ensures.names j in
-    IfOk-weaker c.judge.result judged answer (λ o j words is. inputs_answered words seen named inputs o.status o.text.items is loads (of_names o j)) c.judge.ensures
+    let of_names : (o : Output) → done o → Legal inputs.schema named.clients inputs.scripts o.text.items = λ o d. subst (λ (ns : List Bytes). Legal inputs.schema ns inputs.scripts o.text.items) c.names.ensures.names d.1 in
+    IfOk-weaker c.answered_all.result done answer (λ o d words is. inputs_answered words seen named inputs o.status o.text.items d.0 is loads (of_names o d)) (both zero legal c.answered_all.result c.answered_all.ensures.status c.answered_all.ensures.legal)
+  where
+    both : {A E : Type 0} (P Q : A → Type 0) (r : Result A E) → IfOk r P → IfOk r Q → IfOk r (λ a. P a × Q a)
+    both P Q (Ok a) p q = (p, q)
+    both P Q (Err e) p q = tt
 
 pub returns-in-Err-clause-answer : goal.returns-in-Err-clause-answer
 returns-in-Err-clause-answer g c =

@@ -1,14 +1,9 @@
 use Rattle.std.proofs.Common.{rules, ◌≡◌, ◌∙◌, ◌+◌, ap, sym, Some}
 use Rattle.std.specs.Prelude.{option_copied, slice_get}
 use Rattle.client_session.specs.Progress.{Progress}
-use Rattle.client_session.proofs.OneMoreLine.{known_at}
 use Rattle.client_session.proofs.OpenTurns.{on_err}
-use Rattle.client_session.proofs.SessionSteps.{line_answered, line_taken, next_kept, next_stepped, next_told, seen_kept, seen_stopped, seen_told, unfinished_fields, was_stopped}
+use Rattle.client_session.proofs.SessionSteps.{held_up_kept, held_up_stepped, line_answered, line_held_up, next_kept, next_stepped, next_told, seen_kept, seen_stopped, seen_told, unfinished_fields, was_stopped}
 use Rattle.client_session.proofs.session.Session.step_on.Goals as goal
-
-pub step_line-desk-requires-clause-known : goal.step_line-desk-requires-clause-known
-step_line-desk-requires-clause-known g c =
-    known_at c.self.inside.script c.self.inside.answered c.in-Some.line.now (search (rules)) (sym c.get.ensures ∙ ap option_copied c.in-Some.is)
 
 pub invariant_of-self : goal.invariant_of-self
 invariant_of-self g c =
@@ -53,11 +48,25 @@ pub returns-else-branch-clause-told : goal.returns-else-branch-clause-told
 returns-else-branch-clause-told g c =
     let f = c.self.inside in
     let more = unfinished_fields c.args.self.now f.client f.script f.desk f.answered f.text.items f.failed c.self.view_is c.requires.open in
-    let taken = line_taken c.args.db.now.callers c.in-Some.line.now c.in-Some-take.desk c.step_line-desk.result.0 f.text.items c.step_line-desk.new.text.items c.step_line-desk.result.1 c.in_ok-told.field-0 (search (rules)) (search (rules)) c.step_line-desk.ensures.answered in
-    seen_told c.args.self.now f.client f.script f.desk c.replace-gone.new.self f.answered f.text.items c.step_line-desk.new.text.items f.failed c.in-Some-take.desk c.step_line-desk.result.0 c.self.view_is (search (rules)) (search (rules)) c.self.invariant more c.is_err-self-inside.result c.step_line-desk.ensures.caller taken.1
+    let held = line_held_up c.args.db.now.callers c.in-Some.line.now c.in-Some-take.desk c.step_line-desk.result.0 f.text.items c.step_line-desk.new.text.items c.step_line-desk.result.1 c.in_ok-told.field-0 (search (rules)) (search (rules)) c.step_line-desk.ensures.answered in
+    seen_told c.args.self.now f.client f.script f.desk c.replace-gone.new.self f.answered f.text.items c.step_line-desk.new.text.items f.failed c.in-Some-take.desk c.step_line-desk.result.0 c.self.view_is (search (rules)) (search (rules)) c.self.invariant more c.is_err-self-inside.result c.step_line-desk.ensures.caller held.1
 
 pub returns-in_err-told-clause-stopped : goal.returns-in_err-told-clause-stopped
 returns-in_err-told-clause-stopped g c =
     let f = c.self.inside in
     let more = unfinished_fields c.args.self.now f.client f.script f.desk f.answered f.text.items f.failed c.self.view_is c.requires.open in
     on_err _ (seen_stopped c.args.self.now f.client f.script f.desk c.replace-gone.new.self f.answered f.text.items c.step_line-desk.new.text.items f.failed c.in-Some-take.desk c.step_line-desk.result.0 c.self.view_is (search (rules)) (search (rules)) c.self.invariant more c.in-Some.line.now c.is_err-self-inside.result (sym c.get.ensures ∙ ap option_copied c.in-Some.is) c.step_line-desk.ensures.caller (search (rules)) (was_stopped c.step_line-desk.result.1 _ (search (rules)) c.step_line-desk.ensures.stopped))
+
+pub invariant_of-self-else-branch : goal.invariant_of-self-else-branch
+invariant_of-self-else-branch g c =
+    let f = c.self.inside in
+    let more = unfinished_fields c.args.self.now f.client f.script f.desk f.answered f.text.items f.failed c.self.view_is c.requires.open in
+    let held = line_held_up c.args.db.now.callers c.in-Some.line.now c.in-Some-take.desk c.step_line-desk.result.0 f.text.items c.step_line-desk.new.text.items c.step_line-desk.result.1 c.in_ok-told.field-0 (search (rules)) (search (rules)) c.step_line-desk.ensures.answered in
+    held_up_kept c.args.self.now f.client f.script f.desk c.replace-gone.new.self f.answered f.text.items c.step_line-desk.new.text.items f.failed c.in-Some-take.desk c.step_line-desk.result.0 c.self.view_is (search (rules)) (search (rules)) c.self.invariant more c.args.db.now.callers c.in-Some.line.now c.is_err-self-inside.result held.1 held.0
+
+pub returns-else-branch-clause-stepped : goal.returns-else-branch-clause-stepped
+returns-else-branch-clause-stepped g c =
+    let f = c.self.inside in
+    let more = unfinished_fields c.args.self.now f.client f.script f.desk f.answered f.text.items f.failed c.self.view_is c.requires.open in
+    let held = line_held_up c.args.db.now.callers c.in-Some.line.now c.in-Some-take.desk c.step_line-desk.result.0 f.text.items c.step_line-desk.new.text.items c.step_line-desk.result.1 c.in_ok-told.field-0 (search (rules)) (search (rules)) c.step_line-desk.ensures.answered in
+    held_up_stepped c.args.self.now f.client f.script f.desk c.replace-gone.new.self f.answered f.text.items c.step_line-desk.new.text.items f.failed c.in-Some-take.desk c.step_line-desk.result.0 c.self.view_is (search (rules)) (search (rules)) c.self.invariant more c.args.db.now.callers c.in-Some.line.now c.is_err-self-inside.result held.1 held.0 (search (rules)) (sym c.get.ensures ∙ ap option_copied c.in-Some.is)

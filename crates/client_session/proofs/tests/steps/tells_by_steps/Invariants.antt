@@ -1,6 +1,5 @@
-use Rattle.client_script.specs.Session.{AreKnown}
 use Rattle.mem_txn.specs.Database.{IsCaller}
 use Rattle.client_session.proofs.tests.steps.tells_by_steps.Given as goal
 
 abbrev pub invariant-loop : goal.invariant-loop
-invariant-loop g l = IsCaller l.db l.fn.session.caller.number l.session.caller × AreKnown l.session.script
+invariant-loop g l = IsCaller l.db l.fn.session.caller.number l.session.caller

@@ -1,0 +1,164 @@
+-- What a check and a wait are told, and that they print a count that was read.
+use Rattle.std.proofs.Common.{◌≡◌, ◌∙◌, ◌++◌, ℕ, List, [], ◌∷◌, length, Option, Some, None, Ok, Err, refl, sym, ap, subst, inl, inr, append-nil, append_assoc, arith}
+use Rattle.std.specs.Prelude.{codes, option_map}
+use Rattle.std.specs.BTreeMap.{get_by_text}
+use mathlib.Core.List.{IsPrefix}
+use Rattle.mdb_datum.specs.Bytes.{Bytes}
+use Rattle.mdb_schema.specs.Guarded.{IsUnchanged}
+use Rattle.mdb_schema.specs.Tests.{◌>>=◌, needed}
+use Rattle.mdb_schema.specs.Watchable.{IsTouched}
+use Rattle.mem_txn.specs.CellHistory.{MovesAreTouches, cell_at}
+use Rattle.mem_txn.specs.Checked.{AnswersCheck, HasLooked, IsBeginning, IsFired, IsHeldBy, number_of}
+use Rattle.mem_txn.specs.Database.{Caller, HasSeen, cells_seen}
+use Rattle.mem_txn.specs.Held.{HeldWatch}
+use Rattle.mem_txn.specs.declared.look.Look.{Look}
+use Rattle.mem_txn.specs.declared.look.Look.TheVariants as look
+use Rattle.watch_set.specs.Checks.{HasChecked, OnlyLooks}
+use Rattle.watch_set.specs.Members.{Member}
+use Rattle.client_script.specs.Client.{Client, Judged, Watch, WatchSet, no_write_open, set_named}
+use Rattle.client_script.specs.Reply.{Reply, fired_at, quiet_at, refused}
+use Rattle.client_script.specs.Watching.{IsChecked, IsJudged, check_judged, set_called, told_number, until_judged, wait_judged, watch_called}
+use Rattle.client_script.specs.declared.command.Command.TheVariants as command
+use Rattle.client_session.specs.Counts.{AreAmong, count_told}
+use Rattle.client_session.specs.declared.watching.Watching.{Watching}
+use Rattle.client_session.specs.inner.ReplyOf.{reply_of}
+use Rattle.client_session.specs.inner.SetsKept.{look_reply}
+use Rattle.client_session.specs.inner.WatchingView.{HasLookedOn, Holds, IsSet, IsSetOf, Knows, PrintsRead, TellsLook, watch_of}
+use Rattle.client_session.proofs.HeldOn.{holds_longer, knows_longer}
+use Rattle.client_session.proofs.OpenTurns.{later_seen, later_self}
+use Rattle.client_session.proofs.ToldCounts.{among_append}
+
+-- ---- a caller that has looked
+
+pub begins : (old new : Caller) → HasSeen old new → IsBeginning old new
+begins old new seen = record {
+  schema = ap (λ (p : Caller). p.schema) seen.others;
+  book = ap (λ (p : Caller). p.book) seen.others;
+  seen = seen.seen;
+  trees = seen.trees;
+}
+
+pub checked_begins : (old new : Caller) (hs : List HeldWatch) → HasChecked old new hs → IsBeginning old new
+checked_begins old new [] same = subst (IsBeginning old) (sym same) (record { schema = refl; book = refl; seen = ([], append-nil old.seen); trees = ([], append-nil old.trees) })
+checked_begins old new (h ∷ hs) seen = begins old new seen
+
+pub looked_on : (old new : Caller) → HasSeen old new → new.tries ≡ old.tries → HasLookedOn old new
+looked_on old new seen tries = record { later = later_seen old new seen; own = ap (λ (p : Caller). p.own) seen.others; tries = tries }
+
+looked_none : (p : Caller) → HasLookedOn p p
+looked_none p = record { later = later_self p; own = refl; tries = refl }
+
+pub checked_on : (old new : Caller) (hs : List HeldWatch) → HasChecked old new hs → OnlyLooks old new → HasLookedOn old new
+checked_on old new [] same looks = subst (HasLookedOn old) (sym same) (looked_none old)
+checked_on old new (h ∷ hs) seen looks = looked_on old new seen (ap (λ (p : Caller). p.tries) looks)
+
+-- ---- the count that is printed
+
+at_end : (at : ℕ) (xs ys : List ℕ) → AreAmong (at ∷ []) (xs ++ (ys ++ at ∷ []))
+at_end at xs ys = among_append [] (at ∷ []) xs (ys ++ at ∷ []) tt (among_append [] (at ∷ []) ys (at ∷ []) tt (inl (refl, tt)))
+
+pub prints_count : (old mid new : Caller) (at : ℕ) (r : Reply) → IsPrefix old.counts mid.counts → HasLooked mid new at → count_told r ≡ at ∷ [] → PrintsRead old new r
+prints_count old mid new at r before looked is = record {
+  read = before.0 ++ (looked.read ++ at ∷ []);
+  counts = looked.counts ∙ ap (λ (ns : List ℕ). ns ++ (looked.read ++ at ∷ [])) (sym before.1) ∙ append_assoc old.counts before.0 (looked.read ++ at ∷ []);
+  loads = subst (λ (ns : List ℕ). AreAmong ns (before.0 ++ (looked.read ++ at ∷ []))) (sym is) (at_end at before.0 looked.read);
+}
+
+pub prints_none : (p : Caller) (rule : Bytes) → PrintsRead p p (refused rule)
+prints_none p rule = record { read = []; counts = sym (append-nil p.counts); loads = tt }
+
+-- ---- what has fired was touched
+
+pub fired_touched : (p : Caller) (h : HeldWatch) (at : ℕ) → MovesAreTouches (cells_seen p) → IsHeldBy p h → at ≡ length p.seen → IsFired p h at → IsTouched p.schema p.seen h.query h.number (length p.seen)
+fired_touched p h at law held all fired =
+    let later = fired.later in
+    let spot = h.spot in
+    law h.query h.number (length p.seen) spot.watch (omega (arith, all, later)) (omega arith) held.cell
+    (λ same. fired.other (ap (λ (n : ℕ). cell_at (cells_seen p) h.query n) all ∙ same))
+
+-- ---- what is judged
+
+pub judged_so : {A : Type 0} (v : Client) (j : Judged A) (a : A) (r : Reply) (next : Client) (said : A → Type 0) → j ≡ Ok a → said a → IsJudged v j r next said
+judged_so {A} v j a r next said e is = subst (λ (x : Judged A). IsJudged v x r next said) (sym e) is
+
+pub judged_not : {A : Type 0} (v : Client) (j : Judged A) (rule : Bytes) (said : A → Type 0) → j ≡ Err rule → IsJudged v j (refused rule) v said
+judged_not {A} v j rule said e = subst (λ (x : Judged A). IsJudged v x (refused rule) v said) (sym e) (refl, refl)
+
+abbrev pub unknown : Bytes
+unknown = codes "unknown-name"
+
+-- a watch, and a set, as the client knows it
+pub called_watch : (p : Caller) (g : Watching) (v : Client) (name : Bytes) (h : HeldWatch) → Knows p g v.watching → get_by_text g.watches.kept name ≡ Some h → watch_called name v ≡ Ok (watch_of name h)
+called_watch p g v name h knows there =
+    ap (λ (o : Option Watch). needed unknown o) (knows.watches name ∙ ap (λ (o : Option HeldWatch). option_map (watch_of name) o) there)
+
+pub called_none : (p : Caller) (g : Watching) (v : Client) (name : Bytes) → Knows p g v.watching → get_by_text g.watches.kept name ≡ None → watch_called name v ≡ Err unknown
+called_none p g v name knows none =
+    ap (λ (o : Option Watch). needed unknown o) (knows.watches name ∙ ap (λ (o : Option HeldWatch). option_map (watch_of name) o) none)
+
+known_set : (p : Caller) (ms : List Member) (found : Option WatchSet) → IsSetOf p (Some ms) found → (s : WatchSet) × (found ≡ Some s) × IsSet p ms s
+known_set p ms None is = absurd is
+known_set p ms (Some s) is = (s, refl, is)
+
+known_none : (p : Caller) (found : Option WatchSet) → IsSetOf p None found → found ≡ None
+known_none p None is = refl
+known_none p (Some s) is = absurd is
+
+pub called_set : (p : Caller) (g : Watching) (v : Client) (set : Bytes) (ms : List Member) → Knows p g v.watching → get_by_text g.sets.kept set ≡ Some ms → (s : WatchSet) × (set_called set v ≡ Ok s) × IsSet p ms s
+called_set p g v set ms knows there =
+    let found = known_set p ms (set_named set v.watching.sets) (subst (λ (o : Option (List Member)). IsSetOf p o (set_named set v.watching.sets)) there (knows.sets set)) in
+    (found.0, ap (λ (o : Option WatchSet). needed unknown o) found.1, found.2)
+
+pub called_no_set : (p : Caller) (g : Watching) (v : Client) (set : Bytes) → Knows p g v.watching → get_by_text g.sets.kept set ≡ None → set_called set v ≡ Err unknown
+called_no_set p g v set knows none =
+    ap (λ (o : Option WatchSet). needed unknown o) (known_none p (set_named set v.watching.sets) (subst (λ (o : Option (List Member)). IsSetOf p o (set_named set v.watching.sets)) none (knows.sets set)))
+
+-- no write transaction is open
+module _ (v : Client) (free : no_write_open v.transaction ≡ Ok tt) where
+  check_free : (name : Bytes) → check_judged v name ≡ watch_called name v
+  check_free name = ap (λ (j : Judged (Unit {0})). j >>= (λ u. watch_called name v)) free
+
+  pub wait_free : (set : Bytes) → wait_judged v set ≡ set_called set v
+  wait_free set = ap (λ (j : Judged (Unit {0})). j >>= (λ u. set_called set v)) free
+
+  pub until_free : (set until : Bytes) → until_judged v set until ≡ (set_called set v >>= (λ s. watch_called until v >>= (λ w. Ok (s, w))))
+  until_free set until = ap (λ (j : Judged WatchSet). j >>= (λ s. watch_called until v >>= (λ w. Ok (s, w)))) (wait_free set)
+
+-- ---- a check
+
+pub check_unknown : (g : Watching) (name : Bytes) (p : Caller) → Holds p g → get_by_text g.watches.kept name ≡ None → TellsLook g (command.Check name) p p (refused unknown)
+check_unknown g name p holds none = record {
+  prints = prints_none p unknown;
+  told = λ v may. record {
+    next = v;
+    says = judged_not v (check_judged v name) unknown _ (check_free v may.free name ∙ called_none p g v name may.knows none);
+    knows = may.knows;
+    holds = holds;
+  };
+}
+
+prints_number : (old : Caller) (l : Look) → count_told (reply_of old.schema (look_reply l)) ≡ number_of l ∷ []
+prints_number old (look.Quiet at) = refl
+prints_number old (look.Fired at) = refl
+
+checked : (old new : Caller) (name : Bytes) (h : HeldWatch) (l : Look) → IsHeldBy new h → MovesAreTouches (cells_seen new) → AnswersCheck old new h l
+    → IsChecked new.schema new.seen new.number (length new.seen) (watch_of name h) (reply_of old.schema (look_reply l))
+checked old new name h (look.Quiet at) held law answers =
+    let looked = answers.0 in
+    let quiet = answers.1 in
+    inl (ap quiet_at looked.number, subst (λ (n : ℕ). IsUnchanged new.schema new.seen new.number h.query h.number n) looked.number quiet.unchanged)
+checked old new name h (look.Fired at) held law answers =
+    let looked = answers.0 in
+    inr (ap fired_at looked.number, fired_touched new h at law held looked.number answers.1)
+
+pub check_told : (g : Watching) (name : Bytes) (old new : Caller) (h : HeldWatch) (l : Look) → get_by_text g.watches.kept name ≡ Some h → Holds old g → HasSeen old new → IsHeldBy new h → MovesAreTouches (cells_seen new)
+    → AnswersCheck old new h l → TellsLook g (command.Check name) old new (reply_of old.schema (look_reply l))
+check_told g name old new h l there holds seen held law answers = record {
+  prints = prints_count old old new (number_of l) (reply_of old.schema (look_reply l)) ([], append-nil old.counts) answers.0 (prints_number old l);
+  told = λ v may. record {
+    next = told_number (length new.seen) v;
+    says = judged_so v (check_judged v name) (watch_of name h) (reply_of old.schema (look_reply l)) (told_number (length new.seen) v) _ (check_free v may.free name ∙ called_watch old g v name h may.knows there) (checked old new name h l held law answers, refl);
+    knows = knows_longer old new g v.watching (begins old new seen) may.knows;
+    holds = holds_longer old new g (begins old new seen) holds;
+  };
+}

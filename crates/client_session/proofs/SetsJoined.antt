@@ -1,0 +1,175 @@
+-- A set that a watch was added to, as a client knows it.
+use Rattle.std.proofs.Common.{◌≡◌, ◌∙◌, ◌+◌, ◌++◌, Bool, true, false, cond, List, [], ◌∷◌, length, Contains, Option, Some, None, refl, sym, ap, subst, inl, inr, arith}
+use Rattle.std.specs.Prelude.{if◌then◌else◌, option_map}
+use Rattle.std.specs.BTreeMap.{get_by_text}
+use Rattle.std.specs.Str.{bytes_eq}
+use Rattle.std.proofs.lemmas.Bool.{both_ways}
+use Rattle.std.proofs.lemmas.List.{length-append, length-map, map-append}
+use Rattle.std.proofs.lemmas.List.Elements.{Contains-append_cases}
+use Rattle.mdb_datum.specs.Bytes.{Bytes}
+use Rattle.mdb_schema.proofs.Membership.{Contains-cons_cases, Contains-map, Contains-nil}
+use Rattle.mem_txn.specs.Checked.{IsHeldBy}
+use Rattle.mem_txn.specs.Database.{Caller}
+use Rattle.mem_txn.specs.Held.{HeldWatch}
+use Rattle.watch_set.specs.Members.{AreHeldBy, CellName, Member, cell_name, has_cell, watches_of, with_watch}
+use Rattle.watch_set.proofs.CellsDiffer.{held_after}
+use Rattle.client_script.specs.Client.{Client, Watch, WatchSet, set_named}
+use Rattle.client_script.specs.Reply.{Reply, sized}
+use Rattle.client_script.specs.Watching.{IsAdded, put_set, set_for, set_or_new, with_set}
+use Rattle.client_session.specs.declared.named.Named.{Named}
+use Rattle.client_session.specs.declared.watching.Watching.{Watching}
+use Rattle.client_session.specs.inner.ReplyOf.{reply_of}
+use Rattle.client_session.specs.declared.reply.Reply as own
+use Rattle.client_session.specs.inner.SetsKept.{AddsTo, members_in, members_or_none}
+use Rattle.client_session.specs.inner.WatchingView.{HasCellOf, Holds, HoldsSet, IsSet, IsSetOf, Knows, member_of, watch_of}
+use Rattle.client_session.proofs.CellsOfSets.{cell_joins, cell_stays, member_held, member_of_cell, one_cell, one_index_held}
+use Rattle.client_session.proofs.IndexPlaces.{some_once}
+use Rattle.client_session.proofs.WatchesNamed.{set_put}
+
+-- ---- the set itself
+
+-- the set that the client then knows, with the watch added
+record Joins (p : Caller) (new : List Member) (set : Bytes) (w : Watch) (v : Client) : Type 0 where
+  known : WatchSet
+  name : known.name ≡ set
+  added : IsAdded set w v (sized (length new)) (with_set known v)
+  same : IsSet p new known
+
+module _ (p : Caller) (ms : List Member) (set name : Bytes) (h : HeldWatch) (v : Client) (known : IsSet p ms (set_for set v)) (all : AreHeldBy p (watches_of ms)) (own : IsHeldBy p h) where
+  abbrev was : WatchSet
+  was = set_for set v
+
+  abbrev w : Watch
+  w = watch_of name h
+
+  abbrev member : Member
+  member = record { name = name; held = h }
+
+  abbrev joined : List Watch → WatchSet
+  joined members = record { name = set; members = members; added = was.added ++ w ∷ [] }
+
+  count : length was.members ≡ length ms
+  count = ap length known.members ∙ length-map ms member_of
+
+  -- what was ever added has its cell, as the watch has
+  have_cells : (new : List Member) → ((c : CellName) → has_cell c ms ≡ true → has_cell c new ≡ true) → has_cell (cell_name h) new ≡ true → (x : Watch) → Contains (was.added ++ w ∷ []) x → HasCellOf p new x
+  have_cells new stays has x within = elim (Contains-append_cases was.added (w ∷ []) x within) [
+    | inl before ↦
+        let c = known.added x before in
+        record { held = c.held; of = c.of; query = c.query; number = c.number; cell = stays (cell_name c.held) c.cell }
+    | inr last ↦ elim (Contains-cons_cases w [] x last) [
+      | inl same ↦ record {
+        held = h;
+        of = own;
+        query = ap (λ (y : Watch). y.query) same;
+        number = ap (λ (y : Watch). y.number) same;
+        cell = has;
+      }
+      | inr none ↦ absurd (Contains-nil x none)
+    ]
+  ]
+
+  joins : (b : Bool) → has_cell (cell_name h) ms ≡ b → Joins p (if b then ms else ms ++ member ∷ []) set w v
+  joins true e =
+      let found = member_of_cell (cell_name h) ms e in
+      record {
+        known = joined was.members;
+        name = refl;
+        added = inr (record {
+          member = member_of found.0;
+          there = subst (λ (ws : List Watch). Contains ws (member_of found.0)) (sym known.members) (Contains-map member_of ms found.0 found.1);
+          index = one_index_held p found.0.held h (member_held p ms found.0 all found.1) own found.2;
+          reply = ap sized (sym count);
+          kept = refl;
+        });
+        same = record { members = known.members; added = have_cells ms (λ c is. is) e };
+      }
+  joins false e = record {
+    known = joined (was.members ++ w ∷ []);
+    name = refl;
+    added = inl (record {
+      new = λ among.
+          let c = known.added among.like among.there in
+          let same : cell_name c.held ≡ cell_name h = one_cell p c.held h c.of own (c.query ∙ among.query) (c.number ∙ among.number) in
+          both_ways (has_cell (cell_name h) ms) e (ap (λ (n : CellName). has_cell n ms) (sym same) ∙ c.cell);
+      reply = ap sized (length-append ms (member ∷ []) ∙ ap (λ n. n + 1) (sym count));
+      kept = refl;
+    });
+    same = record {
+      members = ap (λ (ws : List Watch). ws ++ w ∷ []) known.members ∙ sym (map-append member_of ms (member ∷ []));
+      added = have_cells (ms ++ member ∷ []) (λ c is. cell_stays c ms member is) (cell_joins ms member);
+    };
+  }
+
+  holds_joined : (b : Bool) → has_cell (cell_name h) ms ≡ b → HoldsSet p (if b then ms else ms ++ member ∷ [])
+  holds_joined true e =
+      let found = member_of_cell (cell_name h) ms e in
+      let within = found.1.1 in
+      record { some = omega (arith, within); held = all }
+  holds_joined false e =
+      let more : length (ms ++ member ∷ []) ≡ length ms + 1 = length-append ms (member ∷ []) in
+      record { some = omega (arith, more); held = held_after p ms member all own }
+
+-- ---- all sets
+
+set_known : (p : Caller) (set : Bytes) (kept : Option (List Member)) (found : Option WatchSet) → IsSetOf p kept found → IsSet p (members_or_none kept) (set_or_new set found)
+set_known p set None None is = record { members = refl; added = λ w within. absurd (Contains-nil w within) }
+set_known p set None (Some s) is = absurd is
+set_known p set (Some ms) None is = absurd is
+set_known p set (Some ms) (Some s) is = is
+
+all_held : (p : Caller) (kept : Option (List Member)) → ((ms : List Member) → kept ≡ Some ms → HoldsSet p ms) → AreHeldBy p (watches_of (members_or_none kept))
+all_held p None holds = tt
+all_held p (Some ms) holds = let set = holds ms refl in set.held
+
+-- how many members the client knows of
+pub count_known : (p : Caller) (g : Watching) (v : Client) (set : Bytes) → Knows p g v.watching → length (set_for set v).members ≡ length (members_in g.sets set)
+count_known p g v set knows =
+    let known : IsSet p (members_in g.sets set) (set_for set v) = set_known p set (get_by_text g.sets.kept set) (set_named set v.watching.sets) (knows.sets set) in
+    ap length known.members ∙ length-map (members_in g.sets set) member_of
+
+-- a set in the place of the one of its name
+one_set : (p : Caller) (b : Bool) (ms : List Member) (s : WatchSet) (kept : Option (List Member)) (known : Option WatchSet) → IsSet p ms s → IsSetOf p kept known → IsSetOf p (cond b (Some ms) kept) (cond b (Some s) known)
+one_set p true ms s kept known is before = is
+one_set p false ms s kept known is before = before
+
+one_held : (p : Caller) (b : Bool) (ms new : List Member) (kept : Option (List Member)) → HoldsSet p ms → ((xs : List Member) → kept ≡ Some xs → HoldsSet p xs) → cond b (Some ms) kept ≡ Some new → HoldsSet p new
+one_held p true ms new kept is before e = subst (HoldsSet p) (some_once (Some ms) ms new refl e) is
+one_held p false ms new kept is before e = before new e
+
+-- what the client then knows of all that it watches
+pub record Added (p : Caller) (new : Watching) (set : Bytes) (w : Watch) (v : Client) (r : Reply) : Type 0 where
+  pub next : Client
+  pub added : IsAdded set w v r next
+  pub knows : Knows p new next.watching
+  pub holds : Holds p new
+
+pub set_added : (p : Caller) (old new : Watching) (v : Client) (set name : Bytes) (h : HeldWatch) (r : own.Reply) → Knows p old v.watching → Holds p old → IsHeldBy p h → new.watches ≡ old.watches → AddsTo old.sets new.sets set name h r
+    → Added p new set (watch_of name h) v (reply_of p.schema r)
+set_added p old new v set name h r knows holds own watches adds =
+    let ms = members_in old.sets set in
+    let kept = get_by_text old.sets.kept set in
+    let known : IsSet p ms (set_for set v) = set_known p set kept (set_named set v.watching.sets) (knows.sets set) in
+    let all : AreHeldBy p (watches_of ms) = all_held p kept (holds.sets set) in
+    let j = joins p ms set name h v known all own (has_cell (cell_name h) ms) refl in
+    let joined = with_watch name h ms in
+    let s = j.known in
+    record {
+      next = with_set s v;
+      added = subst (λ (x : Reply). IsAdded set (watch_of name h) v x (with_set s v)) (sym (ap (reply_of p.schema) adds.reply)) j.added;
+      knows = record {
+        watches = λ q. knows.watches q ∙ ap (λ (ws : Named HeldWatch). option_map (watch_of q) (get_by_text ws.kept q)) (sym watches);
+        sets = λ q.
+            let name_is : cond (bytes_eq set q) (Some s) (set_named q v.watching.sets) ≡ set_named q (put_set s v.watching.sets) =
+            ap (λ (n : Bytes). cond (bytes_eq n q) (Some s) (set_named q v.watching.sets)) (sym j.name) ∙ sym (set_put q s v.watching.sets) in
+            let there : IsSetOf p (cond (bytes_eq set q) (Some joined) (get_by_text old.sets.kept q)) (cond (bytes_eq set q) (Some s) (set_named q v.watching.sets)) =
+            one_set p (bytes_eq set q) joined s (get_by_text old.sets.kept q) (set_named q v.watching.sets) j.same (knows.sets q) in
+            subst (λ (o : Option WatchSet). IsSetOf p (get_by_text new.sets.kept q) o) name_is
+            (subst (λ (o : Option (List Member)). IsSetOf p o (cond (bytes_eq set q) (Some s) (set_named q v.watching.sets))) (sym (adds.kept q)) there);
+      };
+      holds = record {
+        watches = λ q x there. holds.watches q x (ap (λ (ws : Named HeldWatch). get_by_text ws.kept q) (sym watches) ∙ there);
+        sets = λ q xs there.
+            one_held p (bytes_eq set q) joined xs (get_by_text old.sets.kept q) (holds_joined p ms set name h v known all own (has_cell (cell_name h) ms) refl) (holds.sets q) (sym (adds.kept q) ∙ there);
+      };
+    }

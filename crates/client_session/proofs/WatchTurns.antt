@@ -1,0 +1,291 @@
+-- The turns of the lines of watches on a desk.
+use Rattle.std.proofs.Common.{arith, ◌≡◌, ◌⊎◌, inl, inr, refl, ap, subst, sym, ◌∙◌, ℕ, ◌≤◌, [], length, Option, Some, None, Result, Ok, Err, IfOk, false, true}
+use Rattle.std.specs.Prelude.{codes, option_map}
+use Rattle.std.specs.BTreeMap.{get_by_text}
+use Rattle.std.specs.declared.alloc.AllocError.{AllocError}
+use Rattle.mdb_datum.specs.Bytes.{Bytes}
+use Rattle.mdb_schema.specs.History.{History}
+use Rattle.mdb_schema.specs.Query.{Query}
+use Rattle.mdb_schema.specs.Schema.{DbSchema}
+use Rattle.mdb_schema.specs.Tests.{needed}
+use Rattle.mem_txn.proofs.SeenBegins.{begins_itself}
+use Rattle.mem_txn.specs.Database.{Caller, Reading}
+use Rattle.mem_txn.specs.Transactions.{changes_of}
+use Rattle.mem_txn.specs.declared.write_txn.WriteTxn.{WriteTxn}
+use Rattle.client_script.proofs.LongerHistory.{answered_within, no_entry}
+use Rattle.client_script.proofs.WatchLines.{IsAside, aside, prints_none}
+use Rattle.client_script.specs.Client.{Client, Sight, Transaction, closed, no_write_open, reading, snapshot_named, some_open, writing}
+use Rattle.client_script.specs.Legal.{number_printed}
+use Rattle.client_script.specs.Reply as said
+use Rattle.client_script.specs.Session.{Answers, of_watches}
+use Rattle.client_script.specs.Turn.{outcome}
+use Rattle.client_script.specs.Watching.{IsWatchTold, watch_turn}
+use Rattle.client_script.specs.declared.command.Command.{Command}
+use Rattle.client_script.specs.declared.command.Command.TheVariants as command
+use Rattle.client_session.proofs.DeskTurns.{desk_with, none_grown}
+use Rattle.client_session.proofs.FollowsOn.{follows_then, reading_longer}
+use Rattle.client_session.proofs.OpenTurns.{beginning_later, looks_self}
+use Rattle.client_session.proofs.RequestTurns.{none_numbered}
+use Rattle.client_session.specs.Steps.{HasNotLost, HasStayedQuiet}
+use Rattle.client_session.specs.declared.desk.Desk.{Desk}
+use Rattle.client_session.specs.declared.kept.Kept.{Kept}
+use Rattle.client_session.specs.declared.kept.Kept.TheVariants as kinds
+use Rattle.client_session.specs.declared.«open».Open.{Open}
+use Rattle.client_session.specs.declared.«open».Open.TheVariants as opens
+use Rattle.client_session.specs.declared.reply.Reply.{Reply}
+use Rattle.client_session.specs.declared.watching.Watching.{Watching}
+use Rattle.client_session.specs.inner.DeskView.{Follows, IsHeldBack, IsHeldUp, IsKeptOf, IsLook, IsWaiting, LooksAndReplies, LooksOnce, Replied, RepliesTo, StepsTo}
+use Rattle.client_session.specs.inner.OpenView.{Stands, caller_of, made, transaction_of}
+use Rattle.client_session.specs.inner.ReplyOf.{reply_of}
+use Rattle.client_session.specs.inner.WatchingView.{AsksWatch, HasLookedOn, Holds, IsReadBy, IsSeenIn, Knows, MayLook, TellsLook, TellsOnce, WatchTold, wait_for}
+
+-- ---- a line that looks at no further commits
+
+-- the desk with this watched, and all else as it was
+abbrev pub desk_watching : Desk → Watching → Desk
+desk_watching d g = record { «open» = d.«open»; snapshots = d.snapshots; watching = g }
+
+-- a reply that prints no commit makes none
+makes_none : (n : ℕ) (t : Transaction) (r : said.Reply) → number_printed r ≡ [] → made n t r ≡ []
+makes_none n closed r none = refl
+makes_none n (reading m) r none = refl
+makes_none n (writing t) (said.committed m texts) none = cc
+makes_none n (writing t) (said.read_at m) none = refl
+makes_none n (writing t) (said.write_at m) none = refl
+makes_none n (writing t) said.ended none = refl
+makes_none n (writing t) said.aborted none = refl
+makes_none n (writing t) said.inserted none = refl
+makes_none n (writing t) said.replaced none = refl
+makes_none n (writing t) said.deleted none = refl
+makes_none n (writing t) (said.wiped k) none = refl
+makes_none n (writing t) said.deferred none = refl
+makes_none n (writing t) (said.answered a) none = refl
+makes_none n (writing t) (said.kept_at m) none = refl
+makes_none n (writing t) (said.kept_within m) none = refl
+makes_none n (writing t) (said.quiet_at m) none = refl
+makes_none n (writing t) (said.fired_at m) none = refl
+makes_none n (writing t) (said.sized k) none = refl
+makes_none n (writing t) (said.woken_by name m) none = refl
+makes_none n (writing t) (said.stopped_at m) none = refl
+makes_none n (writing t) (said.refused rule) none = refl
+
+-- what the client was told last is no more than is seen
+last_seen : (p : Caller) (v next : Client) → v.last ≤ length p.seen → (next.last ≡ v.last) ⊎ ((next.last ≡ length p.seen) × (no_write_open v.transaction ≡ Ok tt)) → next.last ≤ length p.seen
+last_seen p v next le (inl same) = subst (λ (n : ℕ). n ≤ length p.seen) (sym same) le
+last_seen p v next le (inr told) = let is = told.0 in omega (arith, is)
+
+pub watch_replied : (c : Command) (d : Desk) (g : Watching) (r : said.Reply) (v : Client) → Follows d v → WatchTold (caller_of d.«open») (length (caller_of d.«open»).seen) g v c r → Replied c d (desk_watching d g) r v
+watch_replied c d g r v follows told =
+    let p = caller_of d.«open» in
+    let beside : IsAside (length p.seen) v r told.next = aside (length p.seen) v p.schema p.seen p.number c r told.next told.says in
+    let none : number_printed r ≡ [] = prints_none r beside.reply in
+    let makes : made p.number (transaction_of d.«open») r ≡ [] = makes_none p.number (transaction_of d.«open») r none in
+    let answers : Answers p.schema p.seen p.number v c r told.next = record {
+      now = length p.seen;
+      not_older = follows.last;
+      there = search (arith);
+      says = of_watches told.says;
+      entry = no_entry p.seen p.number v.transaction r none;
+    } in
+    record {
+      next = told.next;
+      answers = answers;
+      follows = follows_then d (desk_watching d g) v told.next (begins_itself p) (beside.transaction ∙ follows.transaction) (last_seen p v told.next follows.last beside.last) (answered_within p.schema p.seen p.number v c r told.next follows.within answers) beside.snapshots refl told.knows told.holds follows.stands follows;
+      grows = none_grown p (transaction_of d.«open») r makes;
+      numbered = none_numbered p (transaction_of d.«open») r none makes;
+    }
+
+-- the goal of a line that was told so
+pub watch_told : (c c' : Command) (d : Desk) (g : Watching) (told : Result Reply AllocError) → c' ≡ c → IfOk told (λ r. (p : Caller) (now : ℕ) (v : Client) → Knows p d.watching v.watching → Holds p d.watching → WatchTold p now g v c (reply_of p.schema r)) → IfOk told (λ r. RepliesTo c' d (desk_watching d g) (reply_of (caller_of d.«open»).schema r))
+watch_told c c' d g (Err e) is told = tt
+watch_told c c' d g (Ok r) is told = subst (λ (x : Command). RepliesTo x d (desk_watching d g) (reply_of (caller_of d.«open»).schema r)) (sym is) (λ v follows. watch_replied c d g (reply_of (caller_of d.«open»).schema r) v follows (told (caller_of d.«open») (length (caller_of d.«open»).seen) v follows.knows follows.holds))
+
+-- ---- a question whose watch is kept
+
+-- of the open transaction
+pub asks_open : (d : Desk) (g : Watching) (name : Bytes) (q : Query) (r : Option Reading) (s : Sight) (told : Result Reply AllocError) → some_open (transaction_of d.«open») ≡ Ok s → IsSeenIn (caller_of d.«open») r s → IfOk told (λ x. (p : Caller) (v : Client) (s : Sight) → Knows p d.watching v.watching → Holds p d.watching → IsSeenIn p r s → AsksWatch p g v s name q (reply_of p.schema x)) → IfOk told (λ x. RepliesTo (command.Watch name q) d (desk_watching d g) (reply_of (caller_of d.«open»).schema x))
+asks_open d g name q r s (Err e) opened seen asks = tt
+asks_open d g name q r s (Ok x) opened seen asks = λ v follows.
+    let p = caller_of d.«open» in
+    let asked : AsksWatch p g v s name q (reply_of p.schema x) = asks p v s follows.knows follows.holds seen in
+    let sight : some_open v.transaction ≡ Ok s = ap some_open follows.transaction ∙ opened in
+    watch_replied (command.Watch name q) d g (reply_of p.schema x) v follows (record {
+      next = asked.next;
+      says = rw sight asked.says;
+      knows = asked.knows;
+      holds = asked.holds;
+    })
+
+pub asks_reading : (d : Desk) (pass : Caller) (txn : Reading) (g : Watching) (name : Bytes) (q : Query) (told : Result Reply AllocError) → d.«open» ≡ opens.Reading pass txn → Stands d.«open» → IfOk told (λ x. (p : Caller) (v : Client) (s : Sight) → Knows p d.watching v.watching → Holds p d.watching → IsSeenIn p (Some txn) s → AsksWatch p g v s name q (reply_of p.schema x)) → IfOk told (λ x. RepliesTo (command.Watch name q) d (desk_watching d g) (reply_of (caller_of d.«open»).schema x))
+asks_reading d pass txn g name q told is stands asks =
+    let s : Sight = record { number = txn.view.number; writes = []; uncommitted = false } in
+    let here : Stands (opens.Reading pass txn) = subst Stands is stands in
+    let by : IsReadBy pass txn s = record { committed = refl; writes = refl; number = refl; read = here.2 } in
+    asks_open d g name q (Some txn) s told (ap (λ (x : Open). some_open (transaction_of x)) is) (subst (λ (x : Open). IsReadBy (caller_of x) txn s) (sym is) by) asks
+
+pub asks_writing : (d : Desk) (txn : WriteTxn Bytes) (g : Watching) (name : Bytes) (q : Query) (told : Result Reply AllocError) → d.«open» ≡ opens.Writing txn → IfOk told (λ x. (p : Caller) (v : Client) (s : Sight) → Knows p d.watching v.watching → Holds p d.watching → IsSeenIn p None s → AsksWatch p g v s name q (reply_of p.schema x)) → IfOk told (λ x. RepliesTo (command.Watch name q) d (desk_watching d g) (reply_of (caller_of d.«open»).schema x))
+asks_writing d txn g name q told is asks =
+    let s : Sight = record { number = length (changes_of txn).caller.seen; writes = (changes_of txn).writes; uncommitted = true } in
+    asks_open d g name q None s told (ap (λ (x : Open). some_open (transaction_of x)) is) refl asks
+
+-- of a snapshot
+abbrev reading_in : Kept → Option Reading
+reading_in (kinds.Committed r) = Some r
+reading_in (kinds.Uncommitted view) = None
+
+-- the snapshot of the name, as the client knows it
+record KeptSight (p : Caller) (k : Kept) (found : Option Sight) : Type 0 where
+  sight : Sight
+  is : found ≡ Some sight
+  seen : IsSeenIn p (reading_in k) sight
+
+kept_sight : (p : Caller) (k : Kept) (found : Option Sight) → IsKeptOf p (Some k) found → KeptSight p k found
+kept_sight p k None keeps = absurd keeps
+kept_sight p (kinds.Committed r) (Some s) keeps = record { sight = s; is = refl; seen = keeps }
+kept_sight p (kinds.Uncommitted view) (Some s) keeps = record { sight = s; is = refl; seen = keeps }
+
+pub asks_kept : (d : Desk) (g : Watching) (name snapshot : Bytes) (q : Query) (k : Kept) (r : Option Reading) (told : Result Reply AllocError) → get_by_text d.snapshots.kept snapshot ≡ Some k → r ≡ reading_in k → IfOk told (λ x. (p : Caller) (v : Client) (s : Sight) → Knows p d.watching v.watching → Holds p d.watching → IsSeenIn p r s → AsksWatch p g v s name q (reply_of p.schema x)) → IfOk told (λ x. RepliesTo (command.WatchIn name snapshot q) d (desk_watching d g) (reply_of (caller_of d.«open»).schema x))
+asks_kept d g name snapshot q k r (Err e) there read asks = tt
+asks_kept d g name snapshot q k r (Ok x) there read asks = λ v follows.
+    let p = caller_of d.«open» in
+    let known = kept_sight p k (snapshot_named snapshot v.snapshots) (subst (λ (o : Option Kept). IsKeptOf p o (snapshot_named snapshot v.snapshots)) there (follows.kept snapshot)) in
+    let asked : AsksWatch p g v known.sight name q (reply_of p.schema x) = asks p v known.sight follows.knows follows.holds (subst (λ (o : Option Reading). IsSeenIn p o known.sight) (sym read) known.seen) in
+    let named : snapshot_named snapshot v.snapshots ≡ Some known.sight = known.is in
+    watch_replied (command.WatchIn name snapshot q) d g (reply_of p.schema x) v follows (record {
+      next = asked.next;
+      says = ap (λ (o : Option Sight). outcome v (watch_turn p.schema p.seen v (needed (codes "unknown-name") o) name q)) named ∙ asked.says;
+      knows = asked.knows;
+      holds = asked.holds;
+    })
+
+-- ---- a check and a wait
+
+-- what is open may be looked beside
+module _ (c : Command) (d : Desk) (o : Open) (free : no_write_open (transaction_of d.«open») ≡ Ok tt) (same : transaction_of o ≡ transaction_of d.«open») (stands : Stands o) (on : HasLookedOn (caller_of d.«open») (caller_of o)) where
+  p : Caller
+  p = caller_of d.«open»
+
+  may_look : (v : Client) → Follows d v → MayLook p d.watching v
+  unfolding p
+  may_look v follows = record {
+    knows = follows.knows;
+    last = follows.last;
+    free = subst (λ (t : Transaction). no_write_open t ≡ Ok tt) (sym follows.transaction) free;
+  }
+
+  pub looked_replies : (r : said.Reply) → TellsLook d.watching c (caller_of d.«open») (caller_of o) r → LooksAndReplies c d (desk_with d o) r
+  unfolding p
+  looked_replies r told = record {
+    at = desk_with d o;
+    looks = record {
+      later = on.later;
+      own = on.own;
+      read = told.prints.read;
+      counts = told.prints.counts;
+      transaction = same;
+      stands = stands;
+    };
+    snapshots = refl;
+    watching = refl;
+    replied = λ v before follows. watch_replied c (desk_with d o) d.watching r v follows (told.told v (may_look v before));
+    loads = λ v follows. told.prints.loads;
+  }
+
+  pub looked_in_vain : ((v : Client) → MayLook (caller_of d.«open») d.watching v → HasStayedQuiet (caller_of d.«open») (caller_of o) v c) → IsWaiting c d (desk_with d o)
+  unfolding p
+  looked_in_vain quiet = record {
+    looks = record {
+      later = on.later;
+      own = on.own;
+      read = on.later.counts.0;
+      counts = sym on.later.counts.1;
+      transaction = same;
+      stands = stands;
+    };
+    tries = on.tries;
+    snapshots = refl;
+    watching = refl;
+    quiet = λ v follows. quiet v (may_look v follows);
+  }
+
+-- with nothing open, or beside a read transaction
+pub looked_closed : (c c' : Command) (d : Desk) (pass new : Caller) (told : Result Reply AllocError) → c' ≡ c → d.«open» ≡ opens.Nothing pass → HasLookedOn pass new → IfOk told (λ r. TellsLook d.watching c pass new (reply_of pass.schema r)) → IfOk told (λ r. LooksAndReplies c' d (desk_with d (opens.Nothing new)) (reply_of (caller_of d.«open»).schema r))
+looked_closed c c' d pass new (Err e) is opened on told = tt
+looked_closed c c' d pass new (Ok r) is opened on told =
+    subst (λ (x : Command). LooksAndReplies x d (desk_with d (opens.Nothing new)) (reply_of (caller_of d.«open»).schema r)) (sym is)
+    (looked_replies c d (opens.Nothing new) (ap (λ (x : Open). no_write_open (transaction_of x)) opened) (sym (ap transaction_of opened)) tt (subst (λ (x : Open). HasLookedOn (caller_of x) new) (sym opened) on) (reply_of (caller_of d.«open»).schema r)
+    (subst (λ (x : Open). TellsLook d.watching c (caller_of x) new (reply_of (caller_of x).schema r)) (sym opened) told))
+
+pub looked_reading : (c c' : Command) (d : Desk) (pass new : Caller) (txn : Reading) (told : Result Reply AllocError) → c' ≡ c → d.«open» ≡ opens.Reading pass txn → Stands d.«open» → HasLookedOn pass new → IfOk told (λ r. TellsLook d.watching c pass new (reply_of pass.schema r)) → IfOk told (λ r. LooksAndReplies c' d (desk_with d (opens.Reading new txn)) (reply_of (caller_of d.«open»).schema r))
+looked_reading c c' d pass new txn (Err e) is opened stands on told = tt
+looked_reading c c' d pass new txn (Ok r) is opened stands on told =
+    subst (λ (x : Command). LooksAndReplies x d (desk_with d (opens.Reading new txn)) (reply_of (caller_of d.«open»).schema r)) (sym is)
+    (looked_replies c d (opens.Reading new txn) (ap (λ (x : Open). no_write_open (transaction_of x)) opened) (sym (ap transaction_of opened)) (reading_longer pass new txn (beginning_later pass new on.later) (subst Stands opened stands)) (subst (λ (x : Open). HasLookedOn (caller_of x) new) (sym opened) on) (reply_of (caller_of d.«open»).schema r)
+    (subst (λ (x : Open). TellsLook d.watching c (caller_of x) new (reply_of (caller_of x).schema r)) (sym opened) told))
+
+-- the same of one look
+pub once_closed : (c : Command) (d : Desk) (pass new : Caller) (told : Result (Option Reply) AllocError) → d.«open» ≡ opens.Nothing pass → HasLookedOn pass new → IfOk told (λ r. TellsOnce d.watching c pass new (option_map (reply_of pass.schema) r)) → IfOk told (λ r. LooksOnce c d (desk_with d (opens.Nothing new)) (option_map (reply_of (caller_of d.«open»).schema) r))
+once_closed c d pass new (Err e) opened on told = tt
+once_closed c d pass new (Ok (Some r)) opened on told = looked_closed c c d pass new (Ok r) refl opened on told
+once_closed c d pass new (Ok None) opened on told =
+    looked_in_vain c d (opens.Nothing new) (ap (λ (x : Open). no_write_open (transaction_of x)) opened) (sym (ap transaction_of opened)) tt (subst (λ (x : Open). HasLookedOn (caller_of x) new) (sym opened) on)
+    (subst (λ (x : Open). (v : Client) → MayLook (caller_of x) d.watching v → HasStayedQuiet (caller_of x) new v c) (sym opened) told)
+
+pub once_reading : (c : Command) (d : Desk) (pass new : Caller) (txn : Reading) (told : Result (Option Reply) AllocError) → d.«open» ≡ opens.Reading pass txn → Stands d.«open» → HasLookedOn pass new → IfOk told (λ r. TellsOnce d.watching c pass new (option_map (reply_of pass.schema) r)) → IfOk told (λ r. LooksOnce c d (desk_with d (opens.Reading new txn)) (option_map (reply_of (caller_of d.«open»).schema) r))
+once_reading c d pass new txn (Err e) opened stands on told = tt
+once_reading c d pass new txn (Ok (Some r)) opened stands on told = looked_reading c c d pass new txn (Ok r) refl opened stands on told
+once_reading c d pass new txn (Ok None) opened stands on told =
+    looked_in_vain c d (opens.Reading new txn) (ap (λ (x : Open). no_write_open (transaction_of x)) opened) (sym (ap transaction_of opened)) (reading_longer pass new txn (beginning_later pass new on.later) (subst Stands opened stands)) (subst (λ (x : Open). HasLookedOn (caller_of x) new) (sym opened) on)
+    (subst (λ (x : Open). (v : Client) → MayLook (caller_of x) d.watching v → HasStayedQuiet (caller_of x) new v c) (sym opened) told)
+
+-- a wait that makes one look is a step
+pub steps_once : (n : ℕ) (c c' : Command) (d d' : Desk) (s : DbSchema) (told : Result (Option Reply) AllocError) → c' ≡ c → ((old new : Caller) → HasNotLost c old new) → (IsWaiting c d d' → IsHeldBack n c d d') → IfOk told (λ r. LooksOnce c d d' (option_map (reply_of s) r)) → IfOk told (λ r. StepsTo n c' d d' (option_map (reply_of s) r))
+steps_once n c c' d d' s (Err e) is free held told = tt
+steps_once n c c' d d' s (Ok (Some r)) is free held told = subst (λ (x : Command). LooksAndReplies x d d' (reply_of s r) × HasNotLost x (caller_of d.«open») (caller_of d'.«open»)) (sym is) (told, free (caller_of d.«open») (caller_of d'.«open»))
+steps_once n c c' d d' s (Ok None) is free held told = subst (λ (x : Command). IsHeldUp n x d d') (sym is) (record { looks = told.looks; snapshots = told.snapshots; watching = told.watching; why = held told })
+
+-- beside a write transaction
+write_told : (c : Command) → IsLook c → (schema : DbSchema) (H : History) (client now : ℕ) (v : Client) → no_write_open v.transaction ≡ Err (codes "write-open") → IsWatchTold schema H client now v c (said.refused (codes "write-open")) v
+write_told command.Read is schema H client now v written = absurd is
+write_told command.Write is schema H client now v written = absurd is
+write_told command.End is schema H client now v written = absurd is
+write_told command.Commit is schema H client now v written = absurd is
+write_told command.Abort is schema H client now v written = absurd is
+write_told (command.Insert table row) is schema H client now v written = absurd is
+write_told (command.Delete table row) is schema H client now v written = absurd is
+write_told (command.DeleteAll q) is schema H client now v written = absurd is
+write_told (command.DeletePrefix q) is schema H client now v written = absurd is
+write_told (command.Defer text) is schema H client now v written = absurd is
+write_told (command.Question q) is schema H client now v written = absurd is
+write_told (command.Snapshot name) is schema H client now v written = absurd is
+write_told (command.InSnapshot name q) is schema H client now v written = absurd is
+write_told (command.Watch name q) is schema H client now v written = absurd is
+write_told (command.WatchIn name snapshot q) is schema H client now v written = absurd is
+write_told (command.Check name) is schema H client now v written = rw written (refl, refl)
+write_told (command.Add set name) is schema H client now v written = absurd is
+write_told (command.AddLimit set limit name other) is schema H client now v written = absurd is
+write_told (command.Size set) is schema H client now v written = absurd is
+write_told (command.Wait set) is schema H client now v written = rw written (refl, refl)
+write_told (command.WaitUntil set until) is schema H client now v written = rw written (refl, refl)
+
+pub look_refused : (c : Command) (d : Desk) (txn : WriteTxn Bytes) → IsLook c → d.«open» ≡ opens.Writing txn → Stands d.«open» → LooksAndReplies c d d (said.refused (codes "write-open"))
+look_refused c d txn is opened stands = record {
+  at = d;
+  looks = looks_self d.«open» stands;
+  snapshots = refl;
+  watching = refl;
+  replied = λ v before follows.
+      let p = caller_of d.«open» in
+      watch_replied c d d.watching (said.refused (codes "write-open")) v follows (record {
+        next = v;
+        says = write_told c is p.schema p.seen p.number (length p.seen) v (ap no_write_open follows.transaction ∙ ap (λ (x : Open). no_write_open (transaction_of x)) opened);
+        knows = follows.knows;
+        holds = follows.holds;
+      });
+  loads = λ v follows. tt;
+}
+
+-- the same of a wait
+pub wait_refused : (set : Bytes) (until : Option Bytes) (d : Desk) (txn : WriteTxn Bytes) → d.«open» ≡ opens.Writing txn → Stands d.«open» → LooksAndReplies (wait_for set until) d d (said.refused (codes "write-open"))
+wait_refused set None d txn opened stands = look_refused (command.Wait set) d txn tt opened stands
+wait_refused set (Some until) d txn opened stands = look_refused (command.WaitUntil set until) d txn tt opened stands

@@ -1,0 +1,265 @@
+//! What a client watches, and the turns of the lines of watches.
+ghost use Rattle.std.specs.Prelude.{◌≡◌, ℕ, IfOk, length, option_copied, option_map};
+ghost use Rattle.client_script.specs.Client.{Client, Sight, nothing_watched};
+ghost use Rattle.client_script.specs.declared.command.Command.TheVariants as command;
+ghost use Rattle.client_session.specs.inner.ReplyOf.{reply_of};
+ghost use Rattle.client_session.specs.inner.SetsKept.{AddsTo, IsThere, RepliesWoken, awaited_in, look_reply, members_in};
+ghost use Rattle.client_session.specs.inner.WatchingView.{AsksWatch, HasLookedOn, Holds, IsSeenIn, Knows, TellsLook, TellsOnce, WatchTold, wait_for};
+ghost use Rattle.mem_txn.specs.Database.{Caller, IsOf};
+
+use crate::named::Named;
+use crate::refusal::{question_rule, refused};
+use crate::reply::Reply;
+use crate::rule::Rule;
+use mdb_datum::Text;
+use mdb_schema::Query;
+use mem_txn::pass_laws::moves_are_touches;
+use mem_txn::{Db, Held, Look, Pass, ReadTxn};
+use std::alloc::{AllocError, Global};
+use std::sync::Wait;
+use watch_set::{WatchSet, Woken};
+
+/// A client's watches, and its sets of them.
+#[derive(Drop)]
+pub(crate) struct Watching {
+    pub(crate) watches: Named<Held>,
+    pub(crate) sets: Named<WatchSet>,
+}
+
+impl Watching {
+    /// Nothing is watched. It takes no memory.
+    pub(crate) fn new(alloc: Global) -> Watching
+        ensures knows { (p : Caller) → Knows p result nothing_watched }
+        ensures holds { (p : Caller) → Holds p result }
+    {
+        Watching {
+            watches: Named::new(alloc),
+            sets: Named::new(alloc),
+        }
+    }
+
+    /// What a question is answered of a state that is read, and keeps the watch of the answer under
+    /// a name. There is nothing to read where what is asked isn't committed.
+    pub(crate) fn ask(
+        &mut self,
+        alloc: Global,
+        name: &Text,
+        reading: Option<&ReadTxn>,
+        query: &Query,
+    ) -> Result<Reply, AllocError>
+        ensures { IfOk result (λ r. (p : Caller) (v : Client) (s : Sight)
+            → Knows p self.old v.watching → Holds p self.old
+            → IsSeenIn p (option_copied reading.entry) s
+            → AsksWatch p self.new v s name.now query.now (reply_of p.schema r)) }
+    {
+        if self.watches.has(name) {
+            return Ok(Reply::Refused(Rule::NameTaken));
+        }
+        let Some(txn) = reading else {
+            return Ok(Reply::Refused(Rule::Uncommitted));
+        };
+        match txn.ask_watch(query) {
+            Ok((answer, held)) => {
+                self.watches.keep(alloc, name, held)?;
+                Ok(Reply::Answered(answer))
+            }
+            Err(error) => refused(question_rule(error)),
+        }
+    }
+
+    /// Adds the watch of a name to a set.
+    pub(crate) fn add(
+        &mut self,
+        alloc: Global,
+        set: &Text,
+        name: &Text,
+    ) -> Result<Reply, AllocError>
+        ensures { IfOk result (λ r. (p : Caller) (now : ℕ) (v : Client)
+            → Knows p self.old v.watching → Holds p self.old
+            → WatchTold p now self.new v (command.Add set.now name.now) (reply_of p.schema r)) }
+    {
+        let Some(held) = self.watches.get(name) else {
+            return Ok(Reply::Refused(Rule::UnknownName));
+        };
+        add_to(&mut self.sets, alloc, set, name, held)
+    }
+
+    /// Adds the one watch to a set while that has fewer members than the limit, and otherwise the
+    /// other.
+    pub(crate) fn add_limit(
+        &mut self,
+        alloc: Global,
+        set: &Text,
+        limit: u32,
+        name: &Text,
+        other: &Text,
+    ) -> Result<Reply, AllocError>
+        ensures { IfOk result (λ r. (p : Caller) (now : ℕ) (v : Client)
+            → Knows p self.old v.watching → Holds p self.old
+            → WatchTold p now self.new v (command.AddLimit set.now limit name.now other.now)
+            (reply_of p.schema r)) }
+    {
+        let (Some(held), Some(alternative)) = (self.watches.get(name), self.watches.get(other))
+        else {
+            return Ok(Reply::Refused(Rule::UnknownName));
+        };
+        if size_of(&self.sets, set) < limit as usize {
+            add_to(&mut self.sets, alloc, set, name, held)
+        } else {
+            add_to(&mut self.sets, alloc, set, other, alternative)
+        }
+    }
+
+    /// How many members the set of a name has.
+    pub(crate) fn size(&self, set: &Text) -> Reply
+        ensures { (p : Caller) (now : ℕ) (v : Client) → Knows p self.now v.watching
+            → Holds p self.now
+            → WatchTold p now self.now v (command.Size set.now) (reply_of p.schema result) }
+    {
+        match self.sets.get(set) {
+            Some(members) => Reply::Sized(members.len()),
+            None => Reply::Refused(Rule::UnknownName),
+        }
+    }
+
+    /// Whether the watch of a name has fired.
+    pub(crate) fn check<R: Wait>(
+        &self,
+        rt: &R,
+        db: &Db,
+        pass: &mut Pass,
+        name: &Text,
+    ) -> Result<Reply, AllocError>
+        requires own { IsOf db.now pass.old }
+        requires holds { Holds pass.old self.now }
+        ensures told { IfOk result (λ r. TellsLook self.now (command.Check name.now) pass.old pass.new
+            (reply_of pass.old.schema r)) }
+        ensures looked { HasLookedOn pass.old pass.new }
+    {
+        let Some(held) = self.watches.get(name) else {
+            return Ok(Reply::Refused(Rule::UnknownName));
+        };
+        let look = db.check(rt, pass, held)?;
+        moves_are_touches(pass);
+        Ok(look_reply(look))
+    }
+
+    /// Waits till a member of a set has fired, or the watch that cancels, if there is one.
+    pub(crate) fn wait<R: Wait>(
+        &self,
+        rt: &R,
+        alloc: Global,
+        db: &Db,
+        pass: &mut Pass,
+        set: &Text,
+        until: Option<&Text>,
+    ) -> Result<Reply, AllocError>
+        requires own { IsOf db.now pass.old }
+        requires holds { Holds pass.old self.now }
+        ensures told { IfOk result (λ r. TellsLook self.now
+            (wait_for set.now (option_copied until.entry)) pass.old pass.new
+            (reply_of pass.old.schema r)) }
+        ensures looked { HasLookedOn pass.old pass.new }
+    {
+        let Some((members, until)) = self.awaited(set, until) else {
+            return Ok(Reply::Refused(Rule::UnknownName));
+        };
+        let woken = members.wait(rt, db, pass, until)?;
+        moves_are_touches(pass);
+        woken_reply(alloc, members, woken)
+    }
+
+    /// The same, but for one look at each. It gives no reply where all are quiet.
+    pub(crate) fn look_once<R: Wait>(
+        &self,
+        rt: &R,
+        alloc: Global,
+        db: &Db,
+        pass: &mut Pass,
+        set: &Text,
+        until: Option<&Text>,
+    ) -> Result<Option<Reply>, AllocError>
+        requires own { IsOf db.now pass.old }
+        requires holds { Holds pass.old self.now }
+        ensures told { IfOk result (λ r. TellsOnce self.now
+            (wait_for set.now (option_copied until.entry)) pass.old pass.new
+            (option_map (reply_of pass.old.schema) r)) }
+        ensures looked { HasLookedOn pass.old pass.new }
+    {
+        let Some((members, until)) = self.awaited(set, until) else {
+            return Ok(Some(Reply::Refused(Rule::UnknownName)));
+        };
+        let Some(woken) = members.look_once(rt, db, pass, until)? else {
+            return Ok(None);
+        };
+        moves_are_touches(pass);
+        Ok(Some(woken_reply(alloc, members, woken)?))
+    }
+
+    /// The set of a name, and the watch that cancels a wait for it, if there is one; nothing where
+    /// a name is unknown.
+    fn awaited(&self, set: &Text, until: Option<&Text>) -> Option<(&WatchSet, Option<&Held>)>
+        ensures { option_map (λ r. (r.0.now, option_copied r.1)) result
+            ≡ awaited_in self.now set.now (option_copied until.entry) }
+    {
+        let members = self.sets.get(set)?;
+        match until {
+            Some(name) => Some((members, Some(self.watches.get(name)?))),
+            None => Some((members, None)),
+        }
+    }
+}
+
+/// How many members the set of a name has; none where there is no such set.
+fn size_of(sets: &Named<WatchSet>, set: &Text) -> usize
+    ensures { result ≡ length (members_in sets.now set.now) }
+{
+    match sets.get(set) {
+        Some(members) => members.len(),
+        None => 0,
+    }
+}
+
+/// Adds a watch to the set of a name, which is made where there is none.
+fn add_to(
+    sets: &mut Named<WatchSet>,
+    alloc: Global,
+    set: &Text,
+    name: &Text,
+    held: &Held,
+) -> Result<Reply, AllocError>
+    ensures { IfOk result (λ r. AddsTo sets.old sets.new set.now name.now held.now r) }
+{
+    let mut members = match sets.take(set) {
+        Some(members) => members,
+        None => WatchSet::new(alloc),
+    };
+    members.add(name, held)?;
+    let size = members.len();
+    sets.keep(alloc, set, members)?;
+    Ok(Reply::Sized(size))
+}
+
+/// The reply to a check.
+fn look_reply(look: Look) -> Reply
+    ensures { result ≡ look_reply look }
+{
+    match look {
+        Look::Quiet { at } => Reply::QuietAt(at),
+        Look::Fired { at } => Reply::FiredAt(at),
+    }
+}
+
+/// The reply to a wait that has ended.
+fn woken_reply(alloc: Global, members: &WatchSet, woken: Woken) -> Result<Reply, AllocError>
+    requires { IsThere members.now woken }
+    ensures { IfOk result (λ r. RepliesWoken members.now woken r) }
+{
+    match woken {
+        Woken::Fired { place, at } => match members.name(place) {
+            Some(name) => Ok(Reply::WokenBy(Text::of(alloc, name.as_str())?, at)),
+            None => unreachable!(),
+        },
+        Woken::Stopped { at } => Ok(Reply::StoppedAt(at)),
+    }
+}
