@@ -1,6 +1,7 @@
 //! The top call over files and a sink in memory: worked sessions, each status with its text, and a
 //! failure at each call and each allocation.
 use super::*;
+use crate::tests::clients::{are_sixty_four, are_two_hundred};
 use mdb_ports::{CallList, FileList, Gate, MemFiles, MemSink};
 use std::sync::Wait;
 use std::test::Fail;
@@ -11,6 +12,36 @@ mod clients;
 mod held;
 mod sessions;
 mod watches;
+
+/// A text, and how often it stands.
+type Part = (&'static str, usize);
+
+/// A file's name, and the parts of its text.
+type File = (&'static str, &'static [Part]);
+
+/// What the output of a run has to be.
+#[derive(Clone, Copy)]
+enum Want {
+    /// This text under this status.
+    Ends(u8, &'static str),
+    /// Under status 6 the front of `ANN_OUT`: so many pieces of 7 bytes.
+    Cut(u8),
+    /// One of these texts under status 0.
+    OneOf(&'static [&'static str]),
+    /// Nothing under status 4, or else one of these texts under 0.
+    AllOrNothing(&'static [&'static str]),
+    /// The answers of two clients of a hundred commits each.
+    TwoHundred,
+    /// The answers of sixty-four clients of a commit each.
+    SixtyFour,
+}
+
+/// A run: its words, its files, the call of the files and that of the sink that fail (counted from
+/// 1, and 0 for none), and its output.
+type Run = (&'static str, &'static [File], (u64, u64), Want);
+
+/// A schema, a script, and the status and the text of their run.
+type Row = (&'static str, &'static str, u8, &'static str);
 
 const SCHEMA: &str = r#"{"memdb":1,"tables":{"t":{"indexes":{
 "id":{"unique":true,"indexer":{"kind":"text","field":"name"}}}}}}"#;
@@ -94,17 +125,11 @@ const NO_UUID_OUT: &str = r#"client 1 c1
 6: refused bad-uuid
 "#;
 
-/// Words that are no command.
-static NO_COMMANDS: [&str; 5] = ["", "run S", "run S c1 -x", "run -x c1", "make 1 65 3"];
-
 const ENDS: &str = "client 1 c1\n1: write @0\n2: commit @1\n3: read @1\n";
 
 const NO_LINES: &str = "client 1 c1\n";
 
-/// A schema and a script, and the status and the text of their run.
-type Case = (&'static str, &'static str, u8, &'static str);
-
-static CASES: [Case; 15] = [
+static ROWS: [Row; 15] = [
     (SCHEMA, ANN, 0, ANN_OUT),
     (DEFAULTS, ANN, 0, ANN_OUT),
     (SCHEMA, TWICE, 0, TWICE_OUT),
@@ -133,7 +158,7 @@ static CASES: [Case; 15] = [
 ];
 
 /// A schema and a script of which the rule that is told is broken: the schema's comes first.
-static BROKEN: [Case; 11] = [
+static BROKEN: [Row; 11] = [
     (
         SCHEMA,
         "write\nwrites\n",
@@ -152,34 +177,68 @@ static BROKEN: [Case; 11] = [
     (NO_ID, "wait\n", 2, "schema no-id \"t\"\n"),
 ];
 
+/// The words that blanks part in a text.
 fn parted(alloc: Global, text: &str) -> Result<Vec<Text>, AllocError> {
     let mut words = Vec::new(alloc);
     for word in text.split_terminator(' ') {
-        words.push(Text::of(alloc, word)?)?;
+        push_word(alloc, &mut words, word)?;
     }
     Ok(words)
 }
 
+fn push_word(alloc: Global, words: &mut Vec<Text>, word: &str) -> Result<(), AllocError> {
+    words.push(Text::of(alloc, word)?)?;
+    Ok(())
+}
+
+/// Adds a text that stands so often.
+fn add_part(alloc: Global, text: &mut Vec<u8>, part: Part) -> Result<(), AllocError> {
+    text.extend_from_slice(part.0.repeat(alloc, part.1)?.as_bytes())
+}
+
+/// The text of these parts.
+fn joined(alloc: Global, parts: &[Part]) -> Result<Vec<u8>, AllocError> {
+    let mut text = Vec::new(alloc);
+    for at in 0..parts.len() {
+        add_part(alloc, &mut text, parts[at])?;
+    }
+    Ok(text)
+}
+
 /// Lists a file.
-fn list(alloc: Global, files: &mut FileList, name: &str, text: &str) -> Result<(), AllocError> {
-    files.push((
-        Text::of(alloc, name)?,
-        Vec::from_slice(alloc, text.as_bytes())?,
-    ))
+fn list(alloc: Global, files: &mut FileList, name: &str, text: Vec<u8>) -> Result<(), AllocError> {
+    files.push((Text::of(alloc, name)?, text))
+}
+
+/// The files of a list.
+fn listed(alloc: Global, files: &[File]) -> Result<FileList, AllocError> {
+    let mut list = FileList::new(alloc);
+    for at in 0..files.len() {
+        list_parts(alloc, &mut list, files[at])?;
+    }
+    Ok(list)
+}
+
+/// Lists a file whose text has these parts.
+fn list_parts(alloc: Global, files: &mut FileList, file: File) -> Result<(), AllocError> {
+    list(alloc, files, file.0, joined(alloc, file.1)?)
+}
+
+/// Lists a file of this text.
+fn list_text(
+    alloc: Global,
+    files: &mut FileList,
+    name: &str,
+    text: &[u8],
+) -> Result<(), AllocError> {
+    list(alloc, files, name, Vec::from_slice(alloc, text)?)
 }
 
 /// The files `S` and `c1`.
-fn two_files(alloc: Global, schema: &str, client: &str) -> Result<FileList, AllocError> {
+fn two_files(alloc: Global, schema: &str, client: &[u8]) -> Result<FileList, AllocError> {
     let mut files = FileList::new(alloc);
-    list(alloc, &mut files, "S", schema)?;
-    list(alloc, &mut files, "c1", client)?;
-    Ok(files)
-}
-
-/// The one file of a name.
-fn one_file(alloc: Global, name: &str, text: &str) -> Result<FileList, AllocError> {
-    let mut files = FileList::new(alloc);
-    list(alloc, &mut files, name, text)?;
+    list_text(alloc, &mut files, "S", schema.as_bytes())?;
+    list_text(alloc, &mut files, "c1", client)?;
     Ok(files)
 }
 
@@ -192,61 +251,92 @@ fn failing(alloc: Global, call: u64) -> Result<CallList, AllocError> {
 
 /// A sink that takes 7 bytes a call, of which one may fail.
 fn sink(alloc: Global, call: u64) -> Result<MemSink, AllocError> {
-    MemSink::of(alloc, 4096, 7, failing(alloc, call)?)
+    MemSink::of(alloc, 65_536, 7, failing(alloc, call)?)
 }
 
-/// Runs words over files, past a gate. Gives the status and the sink.
-fn run_on<R: Threads + Wait + Sync, G: Gate + Sync>(
-    rt: &R,
-    alloc: Global,
-    words: &str,
-    files: MemFiles,
-    out: MemSink,
-    gate: &G,
-) -> Result<(u8, MemSink), AllocError> {
-    let mut files = files;
-    let mut out = out;
-    let words = parted(alloc, words)?;
-    let status = run::run(rt, alloc, &words, &mut files, &mut out, gate);
-    Ok((status, out))
+/// Whether these are the bytes of one of the texts.
+fn is_one_of(bytes: &[u8], texts: &[&str]) -> bool {
+    texts.iter().any(|text| text.as_bytes() == bytes)
 }
 
-/// Runs words over files, where a call of the files and one of the sink may fail. Gives the status
-/// and the sink.
-fn run_over<R: Threads + Wait + Sync>(
-    rt: &R,
-    alloc: Global,
-    words: &str,
-    files: FileList,
-    calls: (u64, u64),
-) -> Result<(u8, MemSink), AllocError> {
-    let files = MemFiles::of(files, failing(alloc, calls.0)?);
-    run_on(rt, alloc, words, files, sink(alloc, calls.1)?, &OpenGate)
+/// Whether these are the first bytes of `ANN_OUT`, in so many pieces.
+fn is_front(bytes: &[u8], pieces: u8) -> bool {
+    ANN_OUT.as_bytes().get(..usize::from(pieces) * 7) == Some(bytes)
 }
 
-/// What was written under a status. Want of memory is an error.
-fn written(status: u8, out: &MemSink) -> Result<&[u8], AllocError> {
-    match out.bytes() {
-        [] if status == 4 => Err(AllocError),
-        bytes => Ok(bytes),
+/// Whether what a run wrote under a status is all of one of the texts, or nothing for want of
+/// memory.
+fn is_all_or_nothing(status: u8, bytes: &[u8], texts: &[&str]) -> bool {
+    match status {
+        0 => is_one_of(bytes, texts),
+        4 => bytes.is_empty(),
+        _ => false,
     }
 }
 
-/// Whether a run ended with a status and a text.
-fn is_ended(ran: &(u8, MemSink), status: u8, text: &[u8]) -> Result<bool, AllocError> {
-    Ok(written(ran.0, &ran.1)? == text && ran.0 == status)
+/// Whether a status and what was written under it are as wanted. Want of memory is an error, where
+/// nothing else is wanted.
+fn is_wanted(alloc: Global, status: u8, bytes: &[u8], want: Want) -> Result<bool, AllocError> {
+    match want {
+        Want::AllOrNothing(texts) => Ok(is_all_or_nothing(status, bytes, texts)),
+        _ if status == 4 && bytes.is_empty() => Err(AllocError),
+        Want::OneOf(texts) => Ok(is_all_or_nothing(status, bytes, texts)),
+        Want::Ends(wanted, text) => Ok(status == wanted && bytes == text.as_bytes()),
+        Want::Cut(pieces) => Ok(status == 6 && is_front(bytes, pieces)),
+        Want::TwoHundred => are_two_hundred(alloc, bytes),
+        Want::SixtyFour => are_sixty_four(alloc, bytes),
+    }
 }
 
-/// Whether the run of words over files ends with a status and a text.
-fn ends<R: Threads + Wait + Sync>(
+/// Whether the run of words over files is as wanted, past a gate and over a sink whose call of this
+/// number fails.
+fn is_run<R: Threads + Wait + Sync, G: Gate + Sync>(
+    rt: &R,
+    alloc: Global,
+    words: &[Text],
+    files: &mut MemFiles,
+    gate: &G,
+    call: u64,
+    want: Want,
+) -> Result<bool, AllocError> {
+    let mut out = sink(alloc, call)?;
+    let status = run::run(rt, alloc, words, files, &mut out, gate);
+    is_wanted(alloc, status, out.bytes(), want)
+}
+
+/// The same, of words in a text.
+fn is_run_past<R: Threads + Wait + Sync, G: Gate + Sync>(
     rt: &R,
     alloc: Global,
     words: &str,
-    files: FileList,
-    want: (u8, &str),
+    files: &mut MemFiles,
+    gate: &G,
+    call: u64,
+    want: Want,
 ) -> Result<bool, AllocError> {
-    let ran = run_over(rt, alloc, words, files, (0, 0))?;
-    is_ended(&ran, want.0, want.1.as_bytes())
+    let words = parted(alloc, words)?;
+    is_run(rt, alloc, &words, files, gate, call, want)
+}
+
+/// Files in memory, of which one call may fail.
+fn files_of(alloc: Global, files: &[File], call: u64) -> Result<MemFiles, AllocError> {
+    Ok(MemFiles::of(listed(alloc, files)?, failing(alloc, call)?))
+}
+
+/// Whether a run's output is as it says.
+fn is_held<R: Threads + Wait + Sync>(rt: &R, alloc: Global, run: &Run) -> Result<bool, AllocError> {
+    let mut files = files_of(alloc, run.1, run.2.0)?;
+    is_run_past(rt, alloc, run.0, &mut files, &OpenGate, run.2.1, run.3)
+}
+
+/// Fails with the place of the first run whose output is another.
+fn all_hold<R: Threads + Wait + Sync>(rt: &R, alloc: Global, runs: &[Run]) -> Result<(), Fail> {
+    for at in 0..runs.len() {
+        if !is_held(rt, alloc, &runs[at])? {
+            return Err(Fail::from(at));
+        }
+    }
+    Ok(())
 }
 
 /// Whether the run of a schema and a script ends with a status and a text.
@@ -254,192 +344,143 @@ fn is_answered<R: Threads + Wait + Sync>(
     rt: &R,
     alloc: Global,
     schema: &str,
-    client: &str,
-    want: (u8, &str),
+    script: &[u8],
+    want: Want,
 ) -> Result<bool, AllocError> {
-    let files = two_files(alloc, schema, client)?;
-    ends(rt, alloc, "run S c1", files, want)
+    let files = two_files(alloc, schema, script)?;
+    let mut files = MemFiles::of(files, CallList::new(alloc));
+    is_run_past(rt, alloc, "run S c1", &mut files, &OpenGate, 0, want)
 }
 
-/// How many cases are answered so before the first that isn't.
-fn count_answered<R: Threads + Wait + Sync>(
-    rt: &R,
-    alloc: Global,
-    cases: &[Case],
-) -> Result<usize, AllocError> {
-    for at in 0..cases.len() {
-        let case = &cases[at];
-        if !is_answered(rt, alloc, case.0, case.1, (case.2, case.3))? {
-            return Ok(at);
+/// Fails with the place of the first row that is answered otherwise.
+fn all_answered<R: Threads + Wait + Sync>(rt: &R, alloc: Global, rows: &[Row]) -> Result<(), Fail> {
+    for at in 0..rows.len() {
+        let (schema, script, status, text) = rows[at];
+        if !is_answered(
+            rt,
+            alloc,
+            schema,
+            script.as_bytes(),
+            Want::Ends(status, text),
+        )? {
+            return Err(Fail::from(at));
         }
     }
-    Ok(cases.len())
+    Ok(())
 }
 
 #[test]
 fn a_schema_and_a_script_are_answered(rt: HostRuntime) -> Result<(), Fail> {
-    let count = count_answered(&rt, rt.alloc(), &CASES)?;
-    assert!(rt; count == CASES.len(), "after {count}");
-    Ok(())
+    all_answered(&rt, rt.alloc(), &ROWS)
 }
 
 #[test]
 fn the_first_rule_that_is_broken_is_told(rt: HostRuntime) -> Result<(), Fail> {
-    let count = count_answered(&rt, rt.alloc(), &BROKEN)?;
-    assert!(rt; count == BROKEN.len(), "after {count}");
-    Ok(())
+    all_answered(&rt, rt.alloc(), &BROKEN)
 }
 
-/// Whether words give the usage, beside lawful files.
-fn is_no_command<R: Threads + Wait + Sync>(
-    rt: &R,
-    alloc: Global,
-    words: &str,
-) -> Result<bool, AllocError> {
-    let files = two_files(alloc, SCHEMA, ANN)?;
-    ends(rt, alloc, words, files, (1, USAGE))
-}
+const LAWFUL: &[File] = &[("S", &[(SCHEMA, 1)]), ("c1", &[(ANN, 1)])];
 
-/// How many words give the usage before the first that don't.
-fn count_no_commands<R: Threads + Wait + Sync>(
-    rt: &R,
-    alloc: Global,
-    words: &[&str],
-) -> Result<usize, AllocError> {
-    for at in 0..words.len() {
-        if !is_no_command(rt, alloc, words[at])? {
-            return Ok(at);
-        }
-    }
-    Ok(words.len())
-}
+/// Words that are no command, beside lawful files.
+static NO_COMMANDS: [Run; 5] = [
+    ("", LAWFUL, (0, 0), Want::Ends(1, USAGE)),
+    ("run S", LAWFUL, (0, 0), Want::Ends(1, USAGE)),
+    ("run S c1 -x", LAWFUL, (0, 0), Want::Ends(1, USAGE)),
+    ("run -x c1", LAWFUL, (0, 0), Want::Ends(1, USAGE)),
+    ("make 1 65 3", LAWFUL, (0, 0), Want::Ends(1, USAGE)),
+];
 
 #[test]
 fn words_that_are_no_command_give_the_usage(rt: HostRuntime) -> Result<(), Fail> {
-    let count = count_no_commands(&rt, rt.alloc(), &NO_COMMANDS)?;
-    assert!(rt; count == NO_COMMANDS.len(), "after {count}");
-    Ok(())
-}
-
-/// The files `S` and `c1`, of which the second has these bytes.
-fn script_files(alloc: Global, script: &[u8]) -> Result<FileList, AllocError> {
-    let mut files = one_file(alloc, "S", SCHEMA)?;
-    files.push((Text::of(alloc, "c1")?, Vec::from_slice(alloc, script)?))?;
-    Ok(files)
-}
-
-/// Whether the run of a script of these bytes writes that it breaks a rule of no line.
-fn is_broken<R: Threads + Wait + Sync>(
-    rt: &R,
-    alloc: Global,
-    script: &[u8],
-    out: &str,
-) -> Result<bool, AllocError> {
-    let files = script_files(alloc, script)?;
-    ends(rt, alloc, "run S c1", files, (3, out))
-}
-
-/// Whether a script of so many empty lines has too many of them.
-fn are_too_many_lines<R: Threads + Wait + Sync>(
-    rt: &R,
-    alloc: Global,
-    lines: usize,
-) -> Result<bool, AllocError> {
-    let lines = "\n".repeat(alloc, lines)?;
-    is_broken(rt, alloc, lines.as_bytes(), "script 1 too-many-lines\n")
+    all_hold(&rt, rt.alloc(), &NO_COMMANDS)
 }
 
 #[test]
-fn a_rule_of_no_line_is_told_without_one(rt: HostRuntime) -> Result<(), Fail> {
-    assert!(rt; is_broken(&rt, rt.alloc(), b"read\n\xff", "script 1 not-text\n")?);
-    assert!(rt; are_too_many_lines(&rt, rt.alloc(), 100_001)?);
+fn a_script_that_is_no_text_is_told(rt: HostRuntime) -> Result<(), Fail> {
+    let want = Want::Ends(3, "script 1 not-text\n");
+    assert!(rt; is_answered(&rt, rt.alloc(), SCHEMA, b"read\n\xff", want)?);
     Ok(())
 }
 
-/// Whether the run where only the file of this name is there tells that the other isn't.
-fn is_absent<R: Threads + Wait + Sync>(
-    rt: &R,
-    alloc: Global,
-    name: &str,
-    text: &str,
-    out: &str,
-) -> Result<bool, AllocError> {
-    let files = one_file(alloc, name, text)?;
-    ends(rt, alloc, "run S c1", files, (5, out))
-}
-
-#[test]
-fn an_absent_schema_is_told(rt: HostRuntime) -> Result<(), Fail> {
-    assert!(rt; is_absent(&rt, rt.alloc(), "c1", ANN, "cannot read S\n")?);
-    Ok(())
-}
-
-#[test]
-fn an_absent_client_is_told(rt: HostRuntime) -> Result<(), Fail> {
-    assert!(rt; is_absent(&rt, rt.alloc(), "S", "{}", "cannot read c1\n")?);
-    Ok(())
-}
-
-/// The run of one row, where a call of the files and one of the sink may fail.
-fn run_ann<R: Threads + Wait + Sync>(
-    rt: &R,
-    alloc: Global,
-    calls: (u64, u64),
-) -> Result<(u8, MemSink), AllocError> {
-    let files = two_files(alloc, SCHEMA, ANN)?;
-    run_over(rt, alloc, "run S c1", files, calls)
-}
-
-/// A call of the files that fails, and the status and the text of the run.
-type FileCall = (u64, u8, &'static str);
-
-/// Each file takes two calls: its bytes, and its end.
-static FILE_CALLS: [FileCall; 5] = [
-    (1, 5, "cannot read S\n"),
-    (2, 5, "cannot read S\n"),
-    (3, 5, "cannot read c1\n"),
-    (4, 5, "cannot read c1\n"),
-    (5, 0, ANN_OUT),
+/// Files without the schema or the client, and files at a limit and past it.
+static FILES: [Run; 6] = [
+    (
+        "run S c1",
+        &[("c1", &[(ANN, 1)])],
+        (0, 0),
+        Want::Ends(5, "cannot read S\n"),
+    ),
+    (
+        "run S c1",
+        &[("S", &[("{}", 1)])],
+        (0, 0),
+        Want::Ends(5, "cannot read c1\n"),
+    ),
+    (
+        "run S c1",
+        &[("S", &[(SCHEMA, 1)]), ("c1", &[("\n", 100_001)])],
+        (0, 0),
+        Want::Ends(3, "script 1 too-many-lines\n"),
+    ),
+    (
+        "run S c1",
+        &[
+            ("S", &[(SCHEMA, 1)]),
+            ("c1", &[("\n", 99_999), ("#", 948_577)]),
+        ],
+        (0, 0),
+        Want::Ends(0, NO_LINES),
+    ),
+    (
+        "run S c1",
+        &[
+            ("S", &[(SCHEMA, 1)]),
+            ("c1", &[("\n", 99_999), ("#", 948_578)]),
+        ],
+        (0, 0),
+        Want::Ends(7, "too large c1\n"),
+    ),
+    (
+        "run S c1",
+        &[("S", &[(" ", 1_048_577)])],
+        (0, 0),
+        Want::Ends(7, "too large S\n"),
+    ),
 ];
 
-/// Whether the run whose call of the files fails ends so.
-fn is_told<R: Threads + Wait + Sync>(
-    rt: &R,
-    alloc: Global,
-    call: &FileCall,
-) -> Result<bool, AllocError> {
-    let ran = run_ann(rt, alloc, (call.0, 0))?;
-    is_ended(&ran, call.1, call.2.as_bytes())
+#[test]
+fn absent_files_and_files_past_a_limit_are_told(rt: HostRuntime) -> Result<(), Fail> {
+    all_hold(&rt, rt.alloc(), &FILES)
 }
 
-/// How many calls are told so before the first that isn't.
-fn count_told<R: Threads + Wait + Sync>(
-    rt: &R,
-    alloc: Global,
-    calls: &[FileCall],
-) -> Result<usize, AllocError> {
-    for at in 0..calls.len() {
-        if !is_told(rt, alloc, &calls[at])? {
-            return Ok(at);
-        }
-    }
-    Ok(calls.len())
-}
+/// Each file takes two calls: its bytes, and its end.
+static FILE_CALLS: [Run; 5] = [
+    ("run S c1", LAWFUL, (1, 0), Want::Ends(5, "cannot read S\n")),
+    ("run S c1", LAWFUL, (2, 0), Want::Ends(5, "cannot read S\n")),
+    (
+        "run S c1",
+        LAWFUL,
+        (3, 0),
+        Want::Ends(5, "cannot read c1\n"),
+    ),
+    (
+        "run S c1",
+        LAWFUL,
+        (4, 0),
+        Want::Ends(5, "cannot read c1\n"),
+    ),
+    ("run S c1", LAWFUL, (5, 0), Want::Ends(0, ANN_OUT)),
+];
 
 #[test]
 fn a_call_of_the_files_that_fails_is_told(rt: HostRuntime) -> Result<(), Fail> {
-    let count = count_told(&rt, rt.alloc(), &FILE_CALLS)?;
-    assert!(rt; count == FILE_CALLS.len(), "after {count}");
-    Ok(())
+    all_hold(&rt, rt.alloc(), &FILE_CALLS)
 }
 
 /// Whether a run whose call of the sink fails after so many has written their pieces alone.
 fn is_cut<R: Threads + Wait + Sync>(rt: &R, alloc: Global, taken: u8) -> Result<bool, AllocError> {
-    let ran = run_ann(rt, alloc, (0, u64::from(taken) + 1))?;
-    match ANN_OUT.as_bytes().get(..usize::from(taken) * 7) {
-        Some(front) => is_ended(&ran, 6, front),
-        None => Ok(false),
-    }
+    let calls = (0, u64::from(taken) + 1);
+    is_held(rt, alloc, &("run S c1", LAWFUL, calls, Want::Cut(taken)))
 }
 
 /// After how many calls the run is cut so, up to the first after which it isn't.
@@ -460,70 +501,10 @@ fn a_call_of_the_sink_that_fails_leaves_the_front(rt: HostRuntime) -> Result<(),
     Ok(())
 }
 
-/// A text of 99,999 empty lines and a comment of so many bytes.
-fn long_text(alloc: Global, bytes: usize) -> Result<String, AllocError> {
-    let mut text = "\n".repeat(alloc, 99_999)?;
-    text.push_str(&"#".repeat(alloc, bytes)?)?;
-    Ok(text)
-}
-
-/// The file of a name, and that of a schema.
-fn beside_schema(alloc: Global, name: &str, text: &str) -> Result<FileList, AllocError> {
-    let mut files = one_file(alloc, name, text)?;
-    list(alloc, &mut files, "S", SCHEMA)?;
-    Ok(files)
-}
-
-/// The files of such a text under a name, and of a schema.
-fn long_files(alloc: Global, name: &str, bytes: usize) -> Result<FileList, AllocError> {
-    let text = long_text(alloc, bytes)?;
-    beside_schema(alloc, name, &text)
-}
-
-/// Whether the run over these files ends with a status and a text.
-fn is_long<R: Threads + Wait + Sync>(
-    rt: &R,
-    alloc: Global,
-    name: &str,
-    bytes: usize,
-    want: (u8, &str),
-) -> Result<bool, AllocError> {
-    let files = long_files(alloc, name, bytes)?;
-    ends(rt, alloc, "run S c1", files, want)
-}
-
-#[test]
-fn a_client_past_the_limit_is_told(rt: HostRuntime) -> Result<(), Fail> {
-    assert!(rt; is_long(&rt, rt.alloc(), "c1", 948_577, (0, NO_LINES))?);
-    assert!(rt; is_long(&rt, rt.alloc(), "c1", 948_578, (7, "too large c1\n"))?);
-    Ok(())
-}
-
-#[test]
-fn a_schema_past_the_limit_is_told(rt: HostRuntime) -> Result<(), Fail> {
-    assert!(rt; is_long(&rt, rt.alloc(), "S", 948_578, (7, "too large S\n"))?);
-    Ok(())
-}
-
-/// Whether a run wrote nothing under status 4, or else one of these texts under 0.
-fn wrote_all_or_nothing(ran: &(u8, MemSink), texts: &[&str]) -> bool {
-    let bytes = ran.1.bytes();
-    match ran.0 {
-        0 => texts.iter().any(|text| text.as_bytes() == bytes),
-        4 => bytes.is_empty(),
-        _ => false,
-    }
-}
-
-/// Whether that is so of the run of one row.
-fn is_all_or_nothing<R: Threads + Wait + Sync>(rt: &R, alloc: Global) -> Result<bool, AllocError> {
-    let ran = run_ann(rt, alloc, (0, 0))?;
-    Ok(wrote_all_or_nothing(&ran, &[ANN_OUT]))
-}
+static ALL_OR_NOTHING: [Run; 1] = [("run S c1", LAWFUL, (0, 0), Want::AllOrNothing(&[ANN_OUT]))];
 
 // With an allocation that is refused the status is 4 and nothing is written, and else it is 0.
 #[test]
 fn a_run_that_wants_memory_writes_nothing(rt: HostRuntime) -> Result<(), Fail> {
-    assert!(rt; is_all_or_nothing(&rt, rt.alloc())?);
-    Ok(())
+    all_hold(&rt, rt.alloc(), &ALL_OR_NOTHING)
 }

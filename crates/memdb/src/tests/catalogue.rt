@@ -1,6 +1,6 @@
 //! A session over a catalogue of nodes and services: keys in lower case, of two parts, of each
 //! member of a map, and of a test.
-use super::is_answered;
+use super::{Row, all_answered};
 use std::test::Fail;
 
 const SCHEMA: &str = r#"{"memdb":1,"tables":{
@@ -68,8 +68,9 @@ const OUT: &str = r#"client 1 c1
 23: rows 0
 "#;
 
+static ROWS: [Row; 1] = [(SCHEMA, CATALOGUE, 0, OUT)];
+
 #[test]
 fn a_catalogue_is_answered(rt: HostRuntime) -> Result<(), Fail> {
-    assert!(rt; is_answered(&rt, rt.alloc(), SCHEMA, CATALOGUE, (0, OUT))?);
-    Ok(())
+    all_answered(&rt, rt.alloc(), &ROWS)
 }

@@ -1,15 +1,9 @@
 //! Worked sessions over keys, notes, rules and users: scripts, each with the whole output of its
 //! run.
-use super::is_answered;
-use std::alloc::{AllocError, Global};
-use std::sync::Wait;
+use super::{Row, Run, Want, all_answered, all_hold};
 use std::test::Fail;
-use std::thread::Threads;
 
-/// A script, and the output of its run.
-pub(super) type Case = (&'static str, &'static str);
-
-const SCHEMA: &str = r#"{"memdb":1,"tables":{
+pub(super) const SCHEMA: &str = r#"{"memdb":1,"tables":{
 "keys":{"indexes":{"id":{"unique":true,"indexer":{"kind":"uuid","field":"key"}}}},
 "notes":{"indexes":{"id":{"unique":true,"indexer":{"kind":"text","field":"name"}}}},
 "rules":{"indexes":{"id":{"unique":true,"indexer":{"kind":"text","field":"name"}},
@@ -21,7 +15,8 @@ const SCHEMA: &str = r#"{"memdb":1,"tables":{
 "tags":{"allow_missing":true,"indexer":{"kind":"text_list","field":"tags"}}}}}}"#;
 
 /// A row is committed, read, replaced, and read again.
-const OWN_COMMIT: Case = (
+const OWN_COMMIT: Row = (
+    SCHEMA,
     r#"write
 insert users {"name":"ann","age":3}
 commit
@@ -35,6 +30,7 @@ read
 get users age [3]
 get users age [4]
 "#,
+    0,
     r#"client 1 c1
 1: write @0
 2: inserted
@@ -53,7 +49,8 @@ get users age [4]
 );
 
 /// A transaction sees its own writes, in the order of their keys; a snapshot keeps its rows.
-const ORDER_BY_KEY: Case = (
+const ORDER_BY_KEY: Row = (
+    SCHEMA,
     r#"read
 get users id []
 snapshot s
@@ -69,6 +66,7 @@ in s get users id
 commit
 in s get users id
 "#,
+    0,
     r#"client 1 c1
 1: read @0
 2: rows 0
@@ -91,7 +89,8 @@ in s get users id
 );
 
 /// A text ends where it ends, unless the index is asked by its name with `_prefix`.
-const END_BYTE: Case = (
+const END_BYTE: Row = (
+    SCHEMA,
     r#"write
 insert users {"name":"ann","age":1}
 insert users {"name":"anna","age":2}
@@ -102,6 +101,7 @@ get users id_prefix ["ann"]
 first users id ["an"]
 get-reverse users id_prefix ["an"]
 "#,
+    0,
     r#"client 1 c1
 1: write @0
 2: inserted
@@ -121,7 +121,8 @@ get-reverse users id_prefix ["an"]
 );
 
 /// Numbers of two bytes, from a bound on and down to one.
-const BOUNDS: Case = (
+const BOUNDS: Row = (
+    SCHEMA,
     r#"write
 insert users {"name":"x","age":255}
 insert users {"name":"y","age":256}
@@ -131,6 +132,7 @@ reverse-lower users age [256]
 reverse-lower users age [257]
 reverse-lower users age []
 "#,
+    0,
     r#"client 1 c1
 1: write @0
 2: inserted
@@ -148,7 +150,8 @@ reverse-lower users age []
 );
 
 /// A full key that another row has.
-const TAKEN_KEY: Case = (
+const TAKEN_KEY: Row = (
+    SCHEMA,
     r#"write
 insert users {"name":"ann","age":1,"mail":"m"}
 insert users {"name":"bob","age":2,"mail":"m"}
@@ -156,6 +159,7 @@ insert users {"name":"bob","age":2}
 get users mail
 commit
 "#,
+    0,
     r#"client 1 c1
 1: write @0
 2: inserted
@@ -167,13 +171,15 @@ commit
 "#,
 );
 
-const UUID: Case = (
+const UUID: Row = (
+    SCHEMA,
     r#"write
 insert keys {"key":"12345678-9abc-def0-1234-56789abcdef0"}
 get keys id_prefix ["12-34"]
 get keys id_prefix ["123"]
 first keys id ["12345678-9abc-def0-1234-56789abcdef"]
 "#,
+    0,
     r#"client 1 c1
 1: write @0
 2: inserted
@@ -185,7 +191,8 @@ first keys id ["12345678-9abc-def0-1234-56789abcdef"]
 );
 
 /// A row can be deleted once.
-const REPEATED: Case = (
+const REPEATED: Row = (
+    SCHEMA,
     r#"write
 insert users {"name":"bob","age":2}
 delete users {"name":"bob"}
@@ -193,10 +200,12 @@ delete users {"name":"bob"}
 commit
 read
 "#,
+    0,
     "client 1 c1\n1: write @0\n2: inserted\n3: deleted\n4: refused not-found\n5: commit @1\n6: read @1\n",
 );
 
-const EACH_RULE: Case = (
+const EACH_RULE: Row = (
+    SCHEMA,
     r#"insert users {"name":"a","age":1}
 read
 write
@@ -224,6 +233,7 @@ delete-prefix users id ["a"]
 abort
 abort
 "#,
+    0,
     r#"client 1 c1
 1: refused no-transaction
 2: read @0
@@ -255,7 +265,8 @@ abort
 );
 
 /// A snapshot keeps the writes so far; an abort leaves nothing.
-const UNCOMMITTED_SNAPSHOT: Case = (
+const UNCOMMITTED_SNAPSHOT: Row = (
+    SCHEMA,
     r#"write
 insert users {"name":"a","age":1}
 snapshot s
@@ -267,6 +278,7 @@ in s first users id ["a"]
 read
 get users id
 "#,
+    0,
     r#"client 1 c1
 1: write @0
 2: inserted
@@ -282,7 +294,8 @@ get users id
 "#,
 );
 
-const LONGEST_PREFIX: Case = (
+const LONGEST_PREFIX: Row = (
+    SCHEMA,
     r#"write
 insert rules {"dc":"east","name":"a"}
 insert rules {"dc":"east","name":"b","svc":"web"}
@@ -290,6 +303,7 @@ longest rules path_prefix ["east","db"]
 longest rules path_prefix ["east","web"]
 longest rules path_prefix ["west"]
 "#,
+    0,
     r#"client 1 c1
 1: write @0
 2: inserted
@@ -301,7 +315,8 @@ longest rules path_prefix ["west"]
 );
 
 /// Wipes tell how many rows they took out; deferred texts are handed out once, the last first.
-const WIPES: Case = (
+const WIPES: Row = (
+    SCHEMA,
     r#"write
 insert users {"name":"ann","age":1}
 insert users {"name":"anna","age":2}
@@ -315,6 +330,7 @@ commit
 write
 commit
 "#,
+    0,
     r#"client 1 c1
 1: write @0
 2: inserted
@@ -334,7 +350,8 @@ commit
 );
 
 /// A name is taken for the whole session, and the snapshot that has it stays.
-const NAMES: Case = (
+const NAMES: Row = (
+    SCHEMA,
     r#"in s get notes id
 snapshot s
 read
@@ -348,6 +365,7 @@ in s get notes id
 in t get notes id
 in u get notes id
 "#,
+    0,
     r#"client 1 c1
 1: refused unknown-name
 2: refused no-transaction
@@ -366,12 +384,14 @@ in u get notes id
 );
 
 /// Lines without a command are counted; the transaction at the end stays open.
-const SILENT_LINES: Case = (
+const SILENT_LINES: Row = (
+    SCHEMA,
     "# a comment\n\nwrite\r\n \t\n  insert notes {\"name\":\"n\"}\n#commit\nget notes id",
+    0,
     "client 1 c1\n3: write @0\n5: inserted\n7: rows 1\n  {\"name\":\"n\"}\n",
 );
 
-static CASES: [Case; 13] = [
+static ROWS: [Row; 13] = [
     OWN_COMMIT,
     ORDER_BY_KEY,
     END_BYTE,
@@ -387,106 +407,67 @@ static CASES: [Case; 13] = [
     SILENT_LINES,
 ];
 
-/// How many cases are answered before the first that isn't.
-pub(super) fn count_answered<R: Threads + Wait + Sync>(
-    rt: &R,
-    alloc: Global,
-    cases: &[Case],
-) -> Result<usize, AllocError> {
-    for at in 0..cases.len() {
-        let (script, out) = cases[at];
-        if !is_answered(rt, alloc, SCHEMA, script, (0, out))? {
-            return Ok(at);
-        }
-    }
-    Ok(cases.len())
-}
-
 #[test]
 fn worked_sessions_are_answered(rt: HostRuntime) -> Result<(), Fail> {
-    let count = count_answered(&rt, rt.alloc(), &CASES)?;
-    assert!(rt; count == CASES.len(), "after {count}");
-    Ok(())
+    all_answered(&rt, rt.alloc(), &ROWS)
 }
 
-/// The parts of a row's text, of which the second stands so many times, and its answer.
-type LongRow = (
-    &'static str,
-    (&'static str, usize),
-    &'static str,
-    &'static str,
-);
-
-static LONG_ROWS: [LongRow; 3] = [
-    (r#"{"age":1,"name":""#, ("a", 1023), r#""}"#, "inserted"),
+/// Keys at a limit and past it, and keys past their number.
+static LONG_ROWS: [Run; 3] = [
     (
-        r#"{"age":1,"name":""#,
-        ("a", 1024),
-        r#""}"#,
-        "refused too-long id",
+        "run S c1",
+        &[
+            ("S", &[(SCHEMA, 1)]),
+            (
+                "c1",
+                &[
+                    ("write\ninsert users {\"age\":1,\"name\":\"", 1),
+                    ("a", 1023),
+                    ("\"}\n", 1),
+                ],
+            ),
+        ],
+        (0, 0),
+        Want::Ends(0, "client 1 c1\n1: write @0\n2: inserted\n"),
     ),
     (
-        r#"{"age":1,"name":"a","tags":["t""#,
-        (r#","t""#, 256),
-        "]}",
-        "refused too-many tags",
+        "run S c1",
+        &[
+            ("S", &[(SCHEMA, 1)]),
+            (
+                "c1",
+                &[
+                    ("write\ninsert users {\"age\":1,\"name\":\"", 1),
+                    ("a", 1024),
+                    ("\"}\n", 1),
+                ],
+            ),
+        ],
+        (0, 0),
+        Want::Ends(0, "client 1 c1\n1: write @0\n2: refused too-long id\n"),
+    ),
+    (
+        "run S c1",
+        &[
+            ("S", &[(SCHEMA, 1)]),
+            (
+                "c1",
+                &[
+                    (
+                        "write\ninsert users {\"age\":1,\"name\":\"a\",\"tags\":[\"t\"",
+                        1,
+                    ),
+                    (",\"t\"", 256),
+                    ("]}\n", 1),
+                ],
+            ),
+        ],
+        (0, 0),
+        Want::Ends(0, "client 1 c1\n1: write @0\n2: refused too-many tags\n"),
     ),
 ];
 
-/// Three texts as one.
-fn joined(alloc: Global, first: &str, second: &str, third: &str) -> Result<String, AllocError> {
-    let mut whole = String::new(alloc);
-    whole.push_str(first)?;
-    whole.push_str(second)?;
-    whole.push_str(third)?;
-    Ok(whole)
-}
-
-/// Whether the insert of a row is answered so.
-fn is_inserted<R: Threads + Wait + Sync>(
-    rt: &R,
-    alloc: Global,
-    row: &str,
-    answer: &str,
-) -> Result<bool, AllocError> {
-    let script = joined(alloc, "write\ninsert users ", row, "\n")?;
-    let out = joined(alloc, "client 1 c1\n1: write @0\n2: ", answer, "\n")?;
-    is_answered(rt, alloc, SCHEMA, &script, (0, &out))
-}
-
-/// The text of a long row.
-fn long_row(alloc: Global, row: &LongRow) -> Result<String, AllocError> {
-    let part = row.1.0.repeat(alloc, row.1.1)?;
-    joined(alloc, row.0, &part, row.2)
-}
-
-/// Whether the insert of a long row is answered as it says.
-fn is_long_inserted<R: Threads + Wait + Sync>(
-    rt: &R,
-    alloc: Global,
-    row: &LongRow,
-) -> Result<bool, AllocError> {
-    let text = long_row(alloc, row)?;
-    is_inserted(rt, alloc, &text, row.3)
-}
-
-/// How many long rows are answered so before the first that isn't.
-fn count_inserted<R: Threads + Wait + Sync>(
-    rt: &R,
-    alloc: Global,
-    rows: &[LongRow],
-) -> Result<usize, AllocError> {
-    for at in 0..rows.len() {
-        if !is_long_inserted(rt, alloc, &rows[at])? {
-            return Ok(at);
-        }
-    }
-    Ok(rows.len())
-}
-
 #[test]
 fn keys_and_their_number_have_limits(rt: HostRuntime) -> Result<(), Fail> {
-    let count = count_inserted(&rt, rt.alloc(), &LONG_ROWS)?;
-    assert!(rt; count == LONG_ROWS.len(), "after {count}");
-    Ok(())
+    all_hold(&rt, rt.alloc(), &LONG_ROWS)
 }

@@ -1,9 +1,11 @@
 //! Worked sessions that watch: scripts, each with the whole output of its run.
-use super::sessions::{Case, count_answered};
+use super::sessions::SCHEMA;
+use super::{Row, all_answered};
 use std::test::Fail;
 
 /// A watch of a key that isn't there fires when the key is put, and one of another key stays quiet.
-const MISSING_KEY: Case = (
+const MISSING_KEY: Row = (
+    SCHEMA,
     r#"write
 insert users {"name":"foo","age":1}
 insert users {"name":"football","age":2}
@@ -18,6 +20,7 @@ commit
 check w
 check k
 "#,
+    0,
     r#"client 1 c1
 1: write @0
 2: inserted
@@ -36,7 +39,8 @@ check k
 );
 
 /// The same where the new key splits a prefix.
-const SPLIT: Case = (
+const SPLIT: Row = (
+    SCHEMA,
     r#"write
 insert users {"name":"foo","age":1}
 insert users {"name":"football","age":2}
@@ -51,6 +55,7 @@ commit
 check w
 check k
 "#,
+    0,
     r#"client 1 c1
 1: write @0
 2: inserted
@@ -69,7 +74,8 @@ check k
 );
 
 /// A delete that merges a node fires the watch of what begins with its path.
-const MERGE: Case = (
+const MERGE: Row = (
+    SCHEMA,
     r#"write
 insert users {"name":"foo","age":1}
 insert users {"name":"football","age":2}
@@ -84,6 +90,7 @@ commit
 check w
 check k
 "#,
+    0,
     r#"client 1 c1
 1: write @0
 2: inserted
@@ -104,7 +111,8 @@ check k
 );
 
 /// Another table's commit fires nothing.
-const OTHER_TABLE: Case = (
+const OTHER_TABLE: Row = (
+    SCHEMA,
     r#"write
 insert users {"name":"foo","age":1}
 insert users {"name":"football","age":2}
@@ -118,6 +126,7 @@ insert notes {"name":"n"}
 commit
 check w
 "#,
+    0,
     r#"client 1 c1
 1: write @0
 2: inserted
@@ -135,7 +144,8 @@ check w
 );
 
 /// A watch fires where the node beside its key was copied, though its answer is as before.
-const NEIGHBOURS: Case = (
+const NEIGHBOURS: Row = (
+    SCHEMA,
     r#"write
 insert users {"name":"foo","age":1}
 insert users {"name":"football","age":2}
@@ -150,6 +160,7 @@ commit
 check w
 check f
 "#,
+    0,
     r#"client 1 c1
 1: write @0
 2: inserted
@@ -168,7 +179,8 @@ check f
 );
 
 /// What is aborted fires nothing.
-const ABORT: Case = (
+const ABORT: Row = (
+    SCHEMA,
     r#"write
 insert users {"name":"foo","age":1}
 insert users {"name":"football","age":2}
@@ -185,6 +197,7 @@ write
 commit
 check w
 "#,
+    0,
     r#"client 1 c1
 1: write @0
 2: inserted
@@ -205,7 +218,8 @@ check w
 );
 
 /// A set has each cell once, and a wait tells its first member that has fired, or what cancels it.
-const SET_WAITS: Case = (
+const SET_WAITS: Row = (
+    SCHEMA,
     r#"write
 insert users {"name":"ann","age":1}
 commit
@@ -231,6 +245,7 @@ wait t until c
 add-limit r 1 b a
 wait r until c
 "#,
+    0,
     r#"client 1 c1
 1: write @0
 2: inserted
@@ -260,7 +275,8 @@ wait r until c
 );
 
 /// What isn't committed can't be watched, nor a question for bounds.
-const UNCOMMITTED: Case = (
+const UNCOMMITTED: Row = (
+    SCHEMA,
     r#"write
 insert users {"name":"a","age":1}
 snapshot s
@@ -275,6 +291,7 @@ get users id
 watch w lower users age [1]
 check w
 "#,
+    0,
     r#"client 1 c1
 1: write @0
 2: inserted
@@ -293,7 +310,7 @@ check w
 "#,
 );
 
-static CASES: [Case; 8] = [
+static ROWS: [Row; 8] = [
     MISSING_KEY,
     SPLIT,
     MERGE,
@@ -306,7 +323,5 @@ static CASES: [Case; 8] = [
 
 #[test]
 fn worked_watches_are_told(rt: HostRuntime) -> Result<(), Fail> {
-    let count = count_answered(&rt, rt.alloc(), &CASES)?;
-    assert!(rt; count == CASES.len(), "after {count}");
-    Ok(())
+    all_answered(&rt, rt.alloc(), &ROWS)
 }

@@ -28,11 +28,16 @@ static CASES: [Case; 19] = [
     ("Run|s.json|c1", false),
 ];
 
+fn push_word(alloc: Global, words: &mut Vec<Text>, word: &str) -> Result<(), AllocError> {
+    words.push(Text::of(alloc, word)?)?;
+    Ok(())
+}
+
 /// The words that stand in a text, parted by bars.
 fn words_in(alloc: Global, text: &str) -> Result<Vec<Text>, AllocError> {
     let mut words = Vec::new(alloc);
     for word in text.split('|') {
-        words.push(Text::of(alloc, word)?)?;
+        push_word(alloc, &mut words, word)?;
     }
     Ok(words)
 }
@@ -60,11 +65,18 @@ fn run_names_a_schema_and_clients(rt: HostRuntime) -> Result<(), Fail> {
     Ok(())
 }
 
-/// Whether a schema's word and so many clients' are a command.
-fn may_be_so_many(alloc: Global, clients: usize) -> Result<bool, AllocError> {
+/// A schema's word and so many clients'.
+fn run_of(alloc: Global, clients: usize) -> Result<String, AllocError> {
     let mut text = String::from_str(alloc, "run|s.json")?;
-    text.push_str(&"|c".repeat(alloc, clients)?)?;
-    is_command(alloc, &text)
+    for _ in 0..clients {
+        text.push_str("|c")?;
+    }
+    Ok(text)
+}
+
+/// Whether they are a command.
+fn may_be_so_many(alloc: Global, clients: usize) -> Result<bool, AllocError> {
+    is_command(alloc, &run_of(alloc, clients)?)
 }
 
 #[test]
