@@ -10,7 +10,7 @@ use Rattle.memdb.specs.Causes.{Finds, Reaches, CallsFor, no_command, absent, too
 use Rattle.memdb.specs.Outcome.{HasRead, IsAnswer, done, usage, broken_schema, cannot_read}
 use Rattle.memdb.specs.Outcome as outcome
 use Rattle.memdb.specs.Words.{Named, files_named, in_order}
-use Rattle.memdb.specs.inner.Judged.{JudgedRead, inputs_read, schema_broken, script_broken}
+use Rattle.memdb.specs.inner.ReadAnswer.{IsAnswerTo, inputs_read, schema_broken, script_broken}
 use Rattle.run_io.specs.Causes.{HasNoExcuse}
 use Rattle.run_io.specs.Inputs.{schema_error}
 use Rattle.run_io.specs.Loads as load
@@ -60,12 +60,12 @@ same_read words seen named named' read read' plain h f =
     let here : load.IsRead seen (in_order named') read = subst (λ (n : Named). load.IsRead seen (in_order n) read) names h.reads in
     record { names = names; reads = read_once seen (in_order named') plain f.schema f.clients read f.whole here ∙ f.comes }
 
--- where all files are whole, what their bytes come to is judged
-read_judged : (words : List Bytes) (seen : Observed) (status : ℕ) (text : Bytes) (named : Named) (read : Result Inputs LoadError) →
-    IsAnswer words seen status text → Finds words seen named read → HasNoExcuse seen → JudgedRead named.clients read status text
-read_judged words seen status text named read a f plain = by_answer a
+-- where all files are whole, what their bytes come to is answered
+read_answered : (words : List Bytes) (seen : Observed) (status : ℕ) (text : Bytes) (named : Named) (read : Result Inputs LoadError) →
+    IsAnswer words seen status text → Finds words seen named read → HasNoExcuse seen → IsAnswerTo named.clients read status text
+read_answered words seen status text named read a f plain = by_answer a
   where
-    by_answer : IsAnswer words seen status text → JudgedRead named.clients read status text
+    by_answer : IsAnswer words seen status text → IsAnswerTo named.clients read status text
     by_answer (done is d) =
         let same = same_read words seen d.named named (Ok d.inputs) read plain d.read f in
         inputs_read is d.inputs (sym same.reads) (subst (λ (n : Named). Legal d.inputs.schema n.clients d.inputs.scripts text) same.names d.legal)
@@ -88,17 +88,17 @@ never_both read inputs e f g = let h : Ok inputs ≡ Err e = sym f ∙ g in cc
 never_mixed : (read : Result Inputs LoadError) (rule : Broken) (client : ℕ) (why : ScriptError) → read ≡ Err (Schema (schema_error rule)) → read ≡ Err (Script client why) → ⊥
 never_mixed read rule client why e f = let h : Err (Schema (schema_error rule)) ≡ Err (Script client why) = sym e ∙ f in cc
 
-broken_first : (names : List Bytes) (read : Result Inputs LoadError) (status : ℕ) (text : Bytes) (rule : Broken) → JudgedRead names read status text → read ≡ Err (Schema (schema_error rule)) → status ≡ 2
+broken_first : (names : List Bytes) (read : Result Inputs LoadError) (status : ℕ) (text : Bytes) (rule : Broken) → IsAnswerTo names read status text → read ≡ Err (Schema (schema_error rule)) → status ≡ 2
 broken_first names read status text rule (inputs_read is i e legal) b = absurd (never_both read i _ e b)
 broken_first names read status text rule (schema_broken is r e says) b = is
 broken_first names read status text rule (script_broken is client why e says) b = absurd (never_mixed read rule client why b e)
 
-script_next : (names : List Bytes) (read : Result Inputs LoadError) (status : ℕ) (text : Bytes) (client : ℕ) (why : ScriptError) → JudgedRead names read status text → read ≡ Err (Script client why) → status ≡ 3
+script_next : (names : List Bytes) (read : Result Inputs LoadError) (status : ℕ) (text : Bytes) (client : ℕ) (why : ScriptError) → IsAnswerTo names read status text → read ≡ Err (Script client why) → status ≡ 3
 script_next names read status text client why (inputs_read is i e legal) b = absurd (never_both read i _ e b)
 script_next names read status text client why (schema_broken is rule e says) b = absurd (never_mixed read rule client why e b)
 script_next names read status text client why (script_broken is k w e says) b = is
 
-answered_last : (names : List Bytes) (read : Result Inputs LoadError) (status : ℕ) (text : Bytes) (inputs : Inputs) → JudgedRead names read status text → read ≡ Ok inputs → status ≡ 0
+answered_last : (names : List Bytes) (read : Result Inputs LoadError) (status : ℕ) (text : Bytes) (inputs : Inputs) → IsAnswerTo names read status text → read ≡ Ok inputs → status ≡ 0
 answered_last names read status text inputs (inputs_read is i e legal) f = is
 answered_last names read status text inputs (schema_broken is rule e says) f = absurd (never_both read inputs _ f e)
 answered_last names read status text inputs (script_broken is k w e says) f = absurd (never_both read inputs _ f e)
@@ -148,8 +148,8 @@ called_for words seen status called text a (no_command is none) = no_command_usa
 called_for words seen status called text a (absent is named name r gone) = absent_unread words seen status text named name a r gone ∙ sym is
 called_for words seen status called text a (too_large is named name r l plain) = large_refused words seen status text named name a r l plain ∙ sym is
 called_for words seen status called text a (broken is named rule f plain) =
-    broken_first named.clients _ status text rule (read_judged words seen status text named _ a f plain) refl ∙ sym is
+    broken_first named.clients _ status text rule (read_answered words seen status text named _ a f plain) refl ∙ sym is
 called_for words seen status called text a (broken_script is named client rule f plain) =
-    script_next named.clients _ status text client rule (read_judged words seen status text named _ a f plain) refl ∙ sym is
+    script_next named.clients _ status text client rule (read_answered words seen status text named _ a f plain) refl ∙ sym is
 called_for words seen status called text a (lawful is named inputs f plain) =
-    answered_last named.clients _ status text inputs (read_judged words seen status text named _ a f plain) refl ∙ sym is
+    answered_last named.clients _ status text inputs (read_answered words seen status text named _ a f plain) refl ∙ sym is

@@ -1,6 +1,6 @@
 pub mod CommandLine
 pub mod FilesOf
-pub mod Judged
 pub mod NamedOf
+pub mod ReadAnswer
 pub mod Sessions
 pub mod ToldOf

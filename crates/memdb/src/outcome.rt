@@ -81,13 +81,13 @@ fn loaded<R: Threads + Wait + Sync, F: Files, G: Gate + Sync>(
         → IsAnswer words seen output.status output.text.items) }
 {
     match load(alloc, files, &named.schema, &named.clients) {
-        Ok(inputs) => answered_all(rt, alloc, gate, named.names(), inputs),
+        Ok(inputs) => output_of(rt, alloc, gate, named.names(), inputs),
         Err(error) => told(alloc, named, error),
     }
 }
 
 /// The answers to the scripts of clients whose files have these names.
-fn answered_all<R: Threads + Wait + Sync, G: Gate + Sync>(
+fn output_of<R: Threads + Wait + Sync, G: Gate + Sync>(
     rt: &R,
     alloc: Global,
     gate: &G,

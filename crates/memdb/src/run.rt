@@ -28,7 +28,8 @@ use std::thread::Threads;
 /// - 6: the sink failed, and the beginning of a text was written;
 /// - 7: a file has more than 1,048,576 bytes, and `too large NAME` was written.
 ///
-/// Each client is run on a thread of its own. The gate is passed at each line of its script.
+/// Each client is run on a thread of its own. The gate is passed at each line of its script. The call
+/// returns once all clients are done: never, where one waits for what nobody does.
 pub fn run<R: Threads + Wait + Sync, F: Files, S: Sink, G: Gate + Sync>(
     rt: &R,
     alloc: Global,

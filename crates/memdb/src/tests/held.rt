@@ -44,28 +44,81 @@ fn crossed() -> HoldGate {
     HoldGate::new(reader, writer)
 }
 
-/// Whether a read transaction answers from the commit on which it began, though another is made in
-/// its midst.
+/// Whether the clients of these files are answered so past a gate.
 fn is_told<R: Threads + Wait + Sync>(
     rt: &R,
     alloc: Global,
     gate: &HoldGate,
+    files: &[File],
+    told: &'static str,
 ) -> Result<bool, AllocError> {
-    let mut files = files_of(alloc, FILES, 0)?;
-    let want = Want::Ends(0, TOLD);
+    let mut files = files_of(alloc, files, 0)?;
+    let want = Want::Ends(0, told);
     is_run_past(rt, alloc, "run S c1 c2", &mut files, gate, 0, want)
 }
 
 /// Whether that is so, and no line has waited in vain.
-fn is_told_in_time<R: Threads + Wait + Sync>(rt: &R, alloc: Global) -> Result<bool, AllocError> {
-    let gate = crossed();
-    let told = is_told(rt, alloc, &gate);
+fn is_told_in_time<R: Threads + Wait + Sync>(
+    rt: &R,
+    alloc: Global,
+    gate: &HoldGate,
+    files: &[File],
+    told: &'static str,
+) -> Result<bool, AllocError> {
+    let told = is_told(rt, alloc, gate, files, told);
     let in_time = !gate.expired();
     Ok(told? && in_time)
 }
 
+// The read transaction answers from the commit on which it began, though another is made in its
+// midst.
 #[test]
 fn a_reader_and_a_writer_wait_for_each_other(rt: HostRuntime) -> Result<(), Fail> {
-    assert!(rt; is_told_in_time(&rt, rt.alloc())?);
+    assert!(rt; is_told_in_time(&rt, rt.alloc(), &crossed(), FILES, TOLD)?);
+    Ok(())
+}
+
+/// A client that waits for a row, and the writer.
+const WAITING: &[File] = &[
+    ("S", &[(USERS, 1)]),
+    (
+        "c1",
+        &[(
+            "read\nwatch w first users id [\"z\"]\nend\nadd s w\nwait s\n",
+            1,
+        )],
+    ),
+    (
+        "c2",
+        &[(
+            "write\ninsert users {\"name\":\"z\",\"age\":1}\ncommit\n",
+            1,
+        )],
+    ),
+];
+
+const WOKEN: &str = "client 1 c1\n1: read @0\n2: none\n3: ended\n4: size 1\n5: fired w @1\n\
+client 2 c2\n1: write @0\n2: inserted\n3: commit @1\n";
+
+/// The writer begins when the other client watches, and inserts when it is about to wait.
+fn watched_first() -> HoldGate {
+    let begins = Hold {
+        client: 2,
+        line: 1,
+        until_client: 1,
+        until_line: 2,
+    };
+    let inserts = Hold {
+        client: 2,
+        line: 2,
+        until_client: 1,
+        until_line: 4,
+    };
+    HoldGate::new(begins, inserts)
+}
+
+#[test]
+fn a_wait_ends_by_another_clients_commit(rt: HostRuntime) -> Result<(), Fail> {
+    assert!(rt; is_told_in_time(&rt, rt.alloc(), &watched_first(), WAITING, WOKEN)?);
     Ok(())
 }

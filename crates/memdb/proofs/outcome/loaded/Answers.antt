@@ -14,8 +14,8 @@ use Rattle.run_io.specs.Observed.{observed}
 use Rattle.memdb.proofs.RunAnswers.{inputs_answered, error_answered, names_file, scripts_loaded}
 use Rattle.memdb.proofs.outcome.loaded.Goals as goal
 
-pub answered_all-requires-clause-named : goal.answered_all-requires-clause-named
-answered_all-requires-clause-named g c κs within =
+pub output_of-requires-clause-named : goal.output_of-requires-clause-named
+output_of-requires-clause-named g c κs within =
     let named = named_of c.args.named.now in
     let inputs = c.in-Ok.inputs in
     let seen = observed (g.F.Files.told c.args.files.now) (g.F.Files.reliable c.args.files.now) (g.F.Files.faults c.args.files.now) (g.F.Files.faults c.load.new.files) in
@@ -41,7 +41,7 @@ returns-in-Ok-clause-answer g c =
     let done : Output → Type 0 = λ o. zero o × legal o in
     let answer : Output → Type 0 = λ o. (words : List Bytes) → files_named words ≡ Some named → IsAnswer words seen o.status o.text.items in
     let of_names : (o : Output) → done o → Legal inputs.schema named.clients inputs.scripts o.text.items = λ o d. subst (λ (ns : List Bytes). Legal inputs.schema ns inputs.scripts o.text.items) c.names.ensures.names d.1 in
-    IfOk-weaker c.answered_all.result done answer (λ o d words is. inputs_answered words seen named inputs o.status o.text.items d.0 is loads (of_names o d)) (both zero legal c.answered_all.result c.answered_all.ensures.status c.answered_all.ensures.legal)
+    IfOk-weaker c.output_of.result done answer (λ o d words is. inputs_answered words seen named inputs o.status o.text.items d.0 is loads (of_names o d)) (both zero legal c.output_of.result c.output_of.ensures.status c.output_of.ensures.legal)
   where
     both : {A E : Type 0} (P Q : A → Type 0) (r : Result A E) → IfOk r P → IfOk r Q → IfOk r (λ a. P a × Q a)
     both P Q (Ok a) p q = (p, q)

@@ -11,12 +11,12 @@ use Rattle.run_io.specs.declared.load_error.LoadError.{LoadError}
 use Rattle.run_io.specs.declared.load_error.LoadError.TheVariants.{Schema, Script}
 
 -- a status and its text, for what the bytes come to, where the clients' files have these names
-pub data JudgedRead (names : List Bytes) (read : Result Inputs LoadError) (status : ℕ)
+pub data IsAnswerTo (names : List Bytes) (read : Result Inputs LoadError) (status : ℕ)
     (text : Bytes) : Type 0 where
   inputs_read : status ≡ 0 → (inputs : Inputs) → read ≡ Ok inputs
-      → Legal inputs.schema names inputs.scripts text → JudgedRead names read status text
+      → Legal inputs.schema names inputs.scripts text → IsAnswerTo names read status text
   schema_broken : status ≡ 2 → (rule : Broken) → read ≡ Err (Schema (schema_error rule))
-      → text ≡ broken_text rule → JudgedRead names read status text
+      → text ≡ broken_text rule → IsAnswerTo names read status text
   script_broken : status ≡ 3 → (client : ℕ) (rule : ScriptError)
       → read ≡ Err (Script client rule) → text ≡ script_text client rule
-      → JudgedRead names read status text
+      → IsAnswerTo names read status text
