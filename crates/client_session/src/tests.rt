@@ -12,7 +12,6 @@ use std::sync::Wait;
 use std::test::Fail;
 
 mod callers;
-mod catalogue;
 mod steps;
 mod users;
 mod watches;
@@ -96,6 +95,16 @@ fn is_answered<R: Wait>(
     let told = tells(rt, &db, &mut session, answers);
     close(rt, db, passes, session);
     told
+}
+
+/// Fails with the place of the first case that is answered otherwise, over the tables of users.
+fn all_answered<R: Wait>(rt: &R, alloc: Global, cases: &[Case]) -> Result<(), Fail> {
+    for at in 0..cases.len() {
+        if !is_answered(rt, alloc, users::SCHEMA, cases[at].0, cases[at].1)? {
+            return Err(Fail::from(at));
+        }
+    }
+    Ok(())
 }
 
 /// What goes to a thread.

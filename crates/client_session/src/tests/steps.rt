@@ -2,8 +2,7 @@
 ghost use Rattle.std.specs.Prelude.{◌≡◌, IfOk};
 ghost use Rattle.mem_txn.specs.Database.{IsCaller, IsOf};
 
-use super::callers::pair;
-use super::{Case, close, opened, script_of, tells, users};
+use super::{Case, close, opened, tells, users};
 use crate::{Session, Stepped};
 use mem_txn::Db;
 use std::alloc::Global;
@@ -37,25 +36,23 @@ fn is_answered_by_steps<R: Wait>(rt: &R, alloc: Global, case: &Case) -> Result<b
     told
 }
 
-/// How many cases are answered so before the first that isn't.
-pub(super) fn count_answered_by_steps<R: Wait>(
+/// Fails with the place of the first case that is answered otherwise.
+pub(super) fn all_answered_by_steps<R: Wait>(
     rt: &R,
     alloc: Global,
     cases: &[Case],
-) -> Result<usize, Fail> {
+) -> Result<(), Fail> {
     for at in 0..cases.len() {
         if !is_answered_by_steps(rt, alloc, &cases[at])? {
-            return Ok(at);
+            return Err(Fail::from(at));
         }
     }
-    Ok(cases.len())
+    Ok(())
 }
 
 #[test]
 fn worked_sessions_are_answered_by_steps(rt: HostRuntime) -> Result<(), Fail> {
-    let count = count_answered_by_steps(&rt, rt.alloc(), &users::CASES)?;
-    assert!(rt; count == users::CASES.len(), "after {count}");
-    Ok(())
+    all_answered_by_steps(&rt, rt.alloc(), &users::CASES)
 }
 
 /// Takes a step, and then runs the rest.
@@ -88,46 +85,5 @@ fn runs_the_rest<R: Wait>(rt: &R, alloc: Global) -> Result<bool, Fail> {
 #[test]
 fn a_run_carries_out_what_steps_have_left(rt: HostRuntime) -> Result<(), Fail> {
     assert!(rt; runs_the_rest(&rt, rt.alloc())?);
-    Ok(())
-}
-
-/// Two callers: while one writes, the other's `write` is blocked, and tells nothing.
-fn are_blocked_in_turn<R: Wait>(
-    rt: &R,
-    db: &Db,
-    one: &mut Session,
-    two: &mut Session,
-) -> Result<bool, Fail>
-    requires one { IsOf db.now one.old.caller }
-    requires two { IsOf db.now two.old.caller }
-    ensures one { IsCaller db.now one.old.caller.number one.new.caller }
-    ensures two { IsCaller db.now two.old.caller.number two.new.caller }
-{
-    let begun = one.step(rt, db)? == Stepped::Answered { line: 1 };
-    let blocked = two.step(rt, db)? == Stepped::Blocked { line: 1 } && two.answers().is_empty();
-    let committed = one.step(rt, db)? == Stepped::Answered { line: 2 };
-    let free = two.step(rt, db)? == Stepped::Answered { line: 1 };
-    let told = two.answers() == "1: write @1\n".as_bytes();
-    Ok(begun && blocked && committed && free && told)
-}
-
-/// Whether a `write` is blocked while another's transaction is open, and what is open at the end is
-/// aborted.
-fn is_blocked_by_another<R: Wait>(rt: &R, alloc: Global) -> Result<bool, Fail> {
-    let first = script_of(alloc, "write\ncommit\n")?;
-    let second = script_of(alloc, "write\n")?;
-    let (db, mut passes, one, two) = pair(alloc)?;
-    let mut one = Session::new(alloc, one.number(), first, one);
-    let mut two = Session::new(alloc, two.number(), second, two);
-    let told = are_blocked_in_turn(rt, &db, &mut one, &mut two);
-    passes.give(one.end(&db));
-    passes.give(two.end(&db));
-    let commits = db.close(rt, passes).number();
-    Ok(told? && commits == 1)
-}
-
-#[test]
-fn a_write_is_blocked_while_another_writes(rt: HostRuntime) -> Result<(), Fail> {
-    assert!(rt; is_blocked_by_another(&rt, rt.alloc())?);
     Ok(())
 }

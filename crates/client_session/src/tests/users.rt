@@ -1,7 +1,7 @@
 //! Sessions over keys, notes, rules and users.
 ghost use Rattle.mem_txn.specs.Database.{IsCaller, IsOf};
 
-use super::{Case, close, is_answered, opened, tells};
+use super::{Case, all_answered, close, opened, tells};
 use crate::Session;
 use mem_txn::Db;
 use std::alloc::Global;
@@ -19,174 +19,50 @@ pub(super) const SCHEMA: &str = r#"{"memdb":1,"tables":{
 "mail":{"unique":true,"allow_missing":true,"indexer":{"kind":"text","field":"mail"}},
 "tags":{"allow_missing":true,"indexer":{"kind":"text_list","field":"tags"}}}}}}"#;
 
-/// A row is committed, read, replaced, and read again.
-const OWN_COMMIT: Case = (
+/// Rows are written, committed, and asked for in each way.
+const EACH_QUESTION: Case = (
     r#"write
-insert users {"name":"ann","age":3}
+insert users {"name":"ann","age":255}
+insert users {"name":"anna","age":1}
+insert users {"name":"anna","age":256}
+insert rules {"dc":"east","name":"a"}
+insert rules {"dc":"east","name":"b","svc":"web"}
 commit
 read
 first users id ["ann"]
-end
-write
-insert users {"name":"ann","age":4}
-commit
-read
-get users age [3]
-get users age [4]
-"#,
-    r#"1: write @0
-2: inserted
-3: commit @1
-4: read @1
-5: row {"age":3,"name":"ann"}
-6: ended
-7: write @1
-8: replaced
-9: commit @2
-10: read @2
-11: rows 0
-12: rows 1
-  {"age":4,"name":"ann"}
-"#,
-);
-
-/// A transaction sees its own writes, in the order of their keys; a snapshot keeps its rows.
-const ORDER_BY_KEY: Case = (
-    r#"read
-get users id []
-snapshot s
-in s get users id
-end
-write
-insert users {"name":"cy","age":1}
-insert users {"name":"bob","age":2}
-insert users {"name":"ann","age":3}
-get users id
 last users id
-in s get users id
-commit
-in s get users id
-"#,
-    r#"1: read @0
-2: rows 0
-3: snapshot @0
-4: rows 0
-5: ended
-6: write @0
-7: inserted
-8: inserted
-9: inserted
-10: rows 3
-  {"age":3,"name":"ann"}
-  {"age":2,"name":"bob"}
-  {"age":1,"name":"cy"}
-11: row {"age":1,"name":"cy"}
-12: rows 0
-13: commit @1
-14: rows 0
-"#,
-);
-
-/// A text ends where it ends, unless the index is asked by its name with `_prefix`.
-const END_BYTE: Case = (
-    r#"write
-insert users {"name":"ann","age":1}
-insert users {"name":"anna","age":2}
-commit
-read
-get users id ["ann"]
+get users age [1]
 get users id_prefix ["ann"]
-first users id ["an"]
 get-reverse users id_prefix ["an"]
-"#,
-    r#"1: write @0
-2: inserted
-3: inserted
-4: commit @1
-5: read @1
-6: rows 1
-  {"age":1,"name":"ann"}
-7: rows 2
-  {"age":1,"name":"ann"}
-  {"age":2,"name":"anna"}
-8: none
-9: rows 2
-  {"age":2,"name":"anna"}
-  {"age":1,"name":"ann"}
-"#,
-);
-
-/// Numbers of two bytes, from a bound on and down to one.
-const BOUNDS: Case = (
-    r#"write
-insert users {"name":"x","age":255}
-insert users {"name":"y","age":256}
 lower users age [256]
-lower users age [65536]
 reverse-lower users age [256]
-reverse-lower users age [257]
-reverse-lower users age []
+longest rules path_prefix ["east","db"]
+end
 "#,
     r#"1: write @0
 2: inserted
 3: inserted
-4: rows 1
-  {"age":256,"name":"y"}
-5: refused out-of-range
-6: rows 1
-  {"age":255,"name":"x"}
-7: rows 2
-  {"age":256,"name":"y"}
-  {"age":255,"name":"x"}
-8: refused arg-count
+4: replaced
+5: inserted
+6: inserted
+7: commit @1
+8: read @1
+9: row {"age":255,"name":"ann"}
+10: row {"age":256,"name":"anna"}
+11: rows 0
+12: rows 2
+  {"age":255,"name":"ann"}
+  {"age":256,"name":"anna"}
+13: rows 2
+  {"age":256,"name":"anna"}
+  {"age":255,"name":"ann"}
+14: rows 1
+  {"age":256,"name":"anna"}
+15: rows 1
+  {"age":255,"name":"ann"}
+16: row {"dc":"east","name":"a"}
+17: ended
 "#,
-);
-
-/// A full key that another row has.
-const TAKEN_KEY: Case = (
-    r#"write
-insert users {"name":"ann","age":1,"mail":"m"}
-insert users {"name":"bob","age":2,"mail":"m"}
-insert users {"name":"bob","age":2}
-get users mail
-commit
-"#,
-    r#"1: write @0
-2: inserted
-3: refused key-taken mail
-4: inserted
-5: rows 1
-  {"age":1,"mail":"m","name":"ann"}
-6: commit @1
-"#,
-);
-
-const UUID: Case = (
-    r#"write
-insert keys {"key":"12345678-9abc-def0-1234-56789abcdef0"}
-get keys id_prefix ["12-34"]
-get keys id_prefix ["123"]
-first keys id ["12345678-9abc-def0-1234-56789abcdef"]
-"#,
-    r#"1: write @0
-2: inserted
-3: rows 1
-  {"key":"12345678-9abc-def0-1234-56789abcdef0"}
-4: refused bad-uuid
-5: refused bad-uuid
-"#,
-);
-
-/// A row can be deleted once.
-const REPEATED: Case = (
-    r#"write
-insert users {"name":"bob","age":2}
-delete users {"name":"bob"}
-delete users {"name":"bob"}
-commit
-read
-"#,
-    "1: write @0\n2: inserted\n3: deleted\n4: refused not-found\n5: commit @1\n6: read @1\n",
 );
 
 const EACH_RULE: Case = (
@@ -214,6 +90,13 @@ insert users {"name":"a","age":1,"tags":"x"}
 insert users {"name":"","age":1}
 insert user {"name":"a"}
 delete-prefix users id ["a"]
+insert users {"name":"a","age":1,"mail":"m"}
+insert users {"name":"b","age":1,"mail":"m"}
+delete users {"name":"b"}
+get keys id_prefix ["123"]
+snapshot s
+snapshot s
+in u get users id
 abort
 abort
 "#,
@@ -241,8 +124,15 @@ abort
 22: refused no-id
 23: refused unknown-table
 24: refused no-prefix-name
-25: aborted
-26: refused no-transaction
+25: inserted
+26: refused key-taken mail
+27: refused not-found
+28: refused bad-uuid
+29: snapshot @0+
+30: refused name-taken
+31: refused unknown-name
+32: aborted
+33: refused no-transaction
 "#,
 );
 
@@ -270,23 +160,6 @@ get users id
 8: row {"age":1,"name":"a"}
 9: read @0
 10: rows 0
-"#,
-);
-
-const LONGEST_PREFIX: Case = (
-    r#"write
-insert rules {"dc":"east","name":"a"}
-insert rules {"dc":"east","name":"b","svc":"web"}
-longest rules path_prefix ["east","db"]
-longest rules path_prefix ["east","web"]
-longest rules path_prefix ["west"]
-"#,
-    r#"1: write @0
-2: inserted
-3: inserted
-4: row {"dc":"east","name":"a"}
-5: row {"dc":"east","name":"a"}
-6: none
 "#,
 );
 
@@ -322,82 +195,24 @@ commit
 "#,
 );
 
-/// A name is taken for the whole session, and the snapshot that has it stays.
-const NAMES: Case = (
-    r#"in s get notes id
-snapshot s
-read
-snapshot s
-end
-write
-insert notes {"name":"n"}
-snapshot s
-snapshot t
-in s get notes id
-in t get notes id
-in u get notes id
-"#,
-    r#"1: refused unknown-name
-2: refused no-transaction
-3: read @0
-4: snapshot @0
-5: ended
-6: write @0
-7: inserted
-8: refused name-taken
-9: snapshot @0+
-10: rows 0
-11: rows 1
-  {"name":"n"}
-12: refused unknown-name
-"#,
-);
-
 /// Lines without a command are counted; the transaction at the end stays open.
 const SILENT_LINES: Case = (
     "# a comment\n\nwrite\r\n \t\n  insert notes {\"name\":\"n\"}\n#commit\nget notes id",
     "3: write @0\n5: inserted\n7: rows 1\n  {\"name\":\"n\"}\n",
 );
 
-const NOTHING: Case = ("", "");
-
-pub(super) const CASES: [Case; 14] = [
-    OWN_COMMIT,
-    ORDER_BY_KEY,
-    END_BYTE,
-    BOUNDS,
-    TAKEN_KEY,
-    UUID,
-    REPEATED,
+pub(super) static CASES: [Case; 6] = [
+    EACH_QUESTION,
     EACH_RULE,
     UNCOMMITTED_SNAPSHOT,
-    LONGEST_PREFIX,
     WIPES,
-    NAMES,
     SILENT_LINES,
-    NOTHING,
+    ("", ""),
 ];
-
-/// How many cases are answered before the first that isn't.
-pub(super) fn count_answered<R: Wait>(
-    rt: &R,
-    alloc: Global,
-    cases: &[Case],
-) -> Result<usize, Fail> {
-    for at in 0..cases.len() {
-        let (script, answers) = cases[at];
-        if !is_answered(rt, alloc, SCHEMA, script, answers)? {
-            return Ok(at);
-        }
-    }
-    Ok(cases.len())
-}
 
 #[test]
 fn worked_sessions_are_answered(rt: HostRuntime) -> Result<(), Fail> {
-    let count = count_answered(&rt, rt.alloc(), &CASES)?;
-    assert!(rt; count == CASES.len(), "after {count}");
-    Ok(())
+    all_answered(&rt, rt.alloc(), &CASES)
 }
 
 const ONE_COMMIT: &str = "1: write @0\n2: commit @1\n";

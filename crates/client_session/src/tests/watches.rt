@@ -1,14 +1,6 @@
 //! Sessions that watch.
-ghost use Rattle.mem_txn.specs.Database.{IsCaller, IsOf};
-
-use super::callers::pair;
-use super::steps::count_answered_by_steps;
-use super::users::count_answered;
-use super::{Case, script_of};
-use crate::{Session, Stepped};
-use mem_txn::Db;
-use std::alloc::Global;
-use std::sync::Wait;
+use super::steps::all_answered_by_steps;
+use super::{Case, all_answered};
 use std::test::Fail;
 
 /// A watch of a key that isn't there fires when the key is put, and one of another key stays quiet.
@@ -177,65 +169,10 @@ static CASES: [Case; 3] = [MISSING_KEY, SET_WAITS, RULES];
 
 #[test]
 fn watches_are_told_as_worked(rt: HostRuntime) -> Result<(), Fail> {
-    let count = count_answered(&rt, rt.alloc(), &CASES)?;
-    assert!(rt; count == CASES.len(), "after {count}");
-    Ok(())
+    all_answered(&rt, rt.alloc(), &CASES)
 }
 
 #[test]
 fn watches_are_told_by_steps(rt: HostRuntime) -> Result<(), Fail> {
-    let count = count_answered_by_steps(&rt, rt.alloc(), &CASES)?;
-    assert!(rt; count == CASES.len(), "after {count}");
-    Ok(())
-}
-
-const WAITS: &str = "read\nwatch w first notes id [\"n\"]\nend\nadd s w\nwait s\n";
-
-const WOKEN: &str = "1: read @0\n2: none\n3: ended\n4: size 1\n5: fired w @1\n";
-
-/// Takes so many steps, each of which answers a line.
-fn takes_steps<R: Wait>(rt: &R, db: &Db, session: &mut Session, steps: u32) -> Result<bool, Fail>
-    requires { IsOf db.now session.old.caller }
-    ensures { IsCaller db.now session.old.caller.number session.new.caller }
-{
-    for line in 1..=steps {
-        if session.step(rt, db)? != (Stepped::Answered { line }) {
-            return Ok(false);
-        }
-    }
-    Ok(true)
-}
-
-/// Two callers: a wait is blocked till the other's commit fires what it waits for.
-fn is_woken<R: Wait>(rt: &R, db: &Db, one: &mut Session, two: &mut Session) -> Result<bool, Fail>
-    requires one { IsOf db.now one.old.caller }
-    requires two { IsOf db.now two.old.caller }
-    ensures one { IsCaller db.now one.old.caller.number one.new.caller }
-    ensures two { IsCaller db.now two.old.caller.number two.new.caller }
-{
-    let begun = takes_steps(rt, db, one, 4)?;
-    let blocked = one.step(rt, db)? == Stepped::Blocked { line: 5 };
-    let committed = takes_steps(rt, db, two, 3)?;
-    let woken = one.step(rt, db)? == Stepped::Answered { line: 5 };
-    Ok(begun && blocked && committed && woken && one.answers() == WOKEN.as_bytes())
-}
-
-/// The same in a new database.
-fn is_blocked_and_woken<R: Wait>(rt: &R, alloc: Global) -> Result<bool, Fail> {
-    let first = script_of(alloc, WAITS)?;
-    let second = script_of(alloc, "write\ninsert notes {\"name\":\"n\"}\ncommit\n")?;
-    let (db, mut passes, one, two) = pair(alloc)?;
-    let mut one = Session::new(alloc, one.number(), first, one);
-    let mut two = Session::new(alloc, two.number(), second, two);
-    let told = is_woken(rt, &db, &mut one, &mut two);
-    passes.give(one.end(&db));
-    passes.give(two.end(&db));
-    drop(db.close(rt, passes));
-    told
-}
-
-#[test]
-fn a_wait_is_blocked_till_another_commits(rt: HostRuntime) -> Result<(), Fail> {
-    assert!(rt; is_blocked_and_woken(&rt, rt.alloc())?);
-    Ok(())
+    all_answered_by_steps(&rt, rt.alloc(), &CASES)
 }
