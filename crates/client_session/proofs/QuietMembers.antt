@@ -91,7 +91,7 @@ module _ (old mid new : Caller) (more : Follows mid new) (n : ℕ) (few : n ≤ 
 
 module _ (old new : Caller) where
   was_quiet : (name : Bytes) (h : HeldWatch) → IsGuardedBy old new h → WasQuiet old new (watch_of name h)
-  was_quiet name h g = record { at = g.at; later = g.later; seen = g.seen; quiet = g.unchanged }
+  was_quiet name h g = record { at = g.at; earlier = g.earlier; further = g.further; counts = g.counts; later = g.later; seen = g.seen; quiet = g.unchanged }
 
   were_quiet : (ms : List Member) (hs : List HeldWatch) (ws : List Watch) → AreGuarded old new (watches_of ms ++ hs) → (AreGuarded old new hs → WereQuiet old new ws) → WereQuiet old new (map member_of ms ++ ws)
   were_quiet [] hs ws all rest = rest all

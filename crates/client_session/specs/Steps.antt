@@ -37,9 +37,12 @@ awaited_by (command.WaitUntil set until) v = do
   Ok (p.0.members ++ p.1 ∷ [])
 awaited_by c v = Err []
 
--- a watch was quiet at one of the looks of a call
+-- a watch was quiet at one of the looks of a call: after a count of commits that the pass read in it
 pub record WasQuiet (old new : Caller) (w : Watch) : Type 0 where
   pub at : ℕ
+  pub earlier : List ℕ
+  pub further : List ℕ
+  pub counts : new.counts ≡ old.counts ++ (earlier ++ at ∷ further)
   pub later : length old.seen ≤ at
   pub seen : at ≤ length new.seen
   pub quiet : IsQuiet new.schema new.seen new.number w at

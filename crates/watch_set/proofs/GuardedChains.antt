@@ -8,7 +8,7 @@ use Rattle.mdb_schema.specs.History.{History, IsMadeBy, after_commits, state_at}
 use Rattle.mdb_schema.specs.Query.{Query}
 use Rattle.mdb_schema.specs.Schema.{DbSchema}
 use Rattle.mdb_schema.specs.State.{State, empty_state}
-use Rattle.mem_txn.specs.Checked.{IsQuiet}
+use Rattle.mem_txn.specs.Checked.{HasLooked, IsQuiet}
 use Rattle.mem_txn.specs.Database.{Caller, HasSeen}
 use Rattle.mem_txn.specs.Held.{HeldWatch}
 use Rattle.watch_set.specs.Checks.{AreQuiet}
@@ -28,20 +28,41 @@ item-there [] more n within = absurd (omega arith)
 item-there (x ∷ xs) more zero within = refl
 item-there (x ∷ xs) more (suc n) within = item-there xs more n (omega arith)
 
+prefix-twice : {X : Type 0} (xs ys zs : List X) → IsPrefix xs ys → IsPrefix ys zs → IsPrefix xs zs
+prefix-twice xs ys zs p q = (p.0 ++ q.0, sym (append_assoc xs p.0 q.0) ∙ ap (λ (l : List _). l ++ q.0) p.1 ∙ q.1)
+
+-- what was read up to a look, and then more
+read-longer : (xs ys zs read : List ℕ) (at : ℕ) → ys ≡ xs ++ (read ++ at ∷ []) → (q : IsPrefix ys zs) → zs ≡ xs ++ (read ++ at ∷ q.0)
+read-longer xs ys zs read at e q =
+    sym q.1
+    ∙ ap (λ (l : List ℕ). l ++ q.0) e
+    ∙ append_assoc xs (read ++ at ∷ []) q.0
+    ∙ ap (λ (l : List ℕ). xs ++ l) (append_assoc read (at ∷ []) q.0)
+
+-- and what was read before
+read-sooner : (xs ys zs rest : List ℕ) (p : IsPrefix xs ys) (read : List ℕ) → zs ≡ ys ++ (read ++ rest) → zs ≡ xs ++ ((p.0 ++ read) ++ rest)
+read-sooner xs ys zs rest p read e =
+    e
+    ∙ ap (λ (l : List ℕ). l ++ (read ++ rest)) (sym p.1)
+    ∙ append_assoc xs p.0 (read ++ rest)
+    ∙ ap (λ (l : List ℕ). xs ++ l) (sym (append_assoc p.0 read rest))
+
 -- ---- the caller at the end of a chain
 
--- it has seen as much or more, and is the same caller
+-- it has seen and read as much or more, and is the same caller
 record Follows (old new : Caller) : Type 0 where
   seen : IsPrefix old.seen new.seen
+  counts : IsPrefix old.counts new.counts
   schema : new.schema ≡ old.schema
   number : new.number ≡ old.number
 
 follows-itself : (p : Caller) → Follows p p
-follows-itself p = record { seen = ([], append-nil p.seen); schema = refl; number = refl }
+follows-itself p = record { seen = ([], append-nil p.seen); counts = ([], append-nil p.counts); schema = refl; number = refl }
 
 follows-on : (old mid new : Caller) → HasSeen old mid → Follows mid new → Follows old new
 follows-on old mid new first then = record {
-  seen = (first.seen.0 ++ then.seen.0, sym (append_assoc old.seen first.seen.0 then.seen.0) ∙ ap (λ (H : History). H ++ then.seen.0) first.seen.1 ∙ then.seen.1);
+  seen = prefix-twice old.seen mid.seen new.seen first.seen then.seen;
+  counts = prefix-twice old.counts mid.counts new.counts first.counts then.counts;
   schema = then.schema ∙ ap (λ (p : Caller). p.schema) first.others;
   number = then.number ∙ ap (λ (p : Caller). p.number) first.others;
 }
@@ -68,12 +89,16 @@ own-before mid new at more last own =
       own.3 ∙ more.number,
     )
 
-one-guarded : (old mid new : Caller) (h : HeldWatch) (at : ℕ) → HasSeen old mid → at ≡ length mid.seen → IsQuiet mid h at → Follows mid new → IsGuardedBy old new h
-one-guarded old mid new h at seen last told more =
+one-guarded : (old mid new : Caller) (h : HeldWatch) (at : ℕ) → HasSeen old mid → HasLooked old mid at → IsQuiet mid h at → Follows mid new → IsGuardedBy old new h
+one-guarded old mid new h at seen looked told more =
+    let last = looked.number in
     let before = within-longer old.seen mid.seen seen.seen in
     let after = within-longer mid.seen new.seen more.seen in
     record {
       at = at;
+      earlier = looked.read;
+      further = more.counts.0;
+      counts = read-longer old.counts mid.counts new.counts looked.read at looked.counts more.counts;
       later = omega arith;
       seen = omega arith;
       unchanged = record {
@@ -82,17 +107,24 @@ one-guarded old mid new h at seen last told more =
       };
     }
 
-guarded-sooner : (old mid new : Caller) (hs : List HeldWatch) → length old.seen ≤ length mid.seen → AreGuarded mid new hs → AreGuarded old new hs
-guarded-sooner old mid new [] less all = tt
-guarded-sooner old mid new (h ∷ hs) less all =
-    let later = all.0.later in (
-      record { at = all.0.at; later = omega arith; seen = all.0.seen; unchanged = all.0.unchanged },
-      guarded-sooner old mid new hs less all.1,
-    )
+guarded-sooner : (old mid new : Caller) (hs : List HeldWatch) → HasSeen old mid → AreGuarded mid new hs → AreGuarded old new hs
+guarded-sooner old mid new [] seen all = tt
+guarded-sooner old mid new (h ∷ hs) seen all = (
+  record {
+    at = all.0.at;
+    earlier = seen.counts.0 ++ all.0.earlier;
+    further = all.0.further;
+    counts = read-sooner old.counts mid.counts new.counts (all.0.at ∷ all.0.further) seen.counts all.0.earlier all.0.counts;
+    later = let less = within-longer old.seen mid.seen seen.seen in let later = all.0.later in omega arith;
+    seen = all.0.seen;
+    unchanged = all.0.unchanged;
+  },
+  guarded-sooner old mid new hs seen all.1,
+)
 
 pub quiet_is_guarded : QuietIsGuarded
 quiet_is_guarded old new [] same = tt
 quiet_is_guarded old new (h ∷ hs) (next, at, told, rest) = (
-  one-guarded old next new h at told.0 told.1.0.number told.1.1 (chain-follows next new hs rest),
-  guarded-sooner old next new hs (within-longer old.seen next.seen told.0.seen) (quiet_is_guarded next new hs rest),
+  one-guarded old next new h at told.0 told.1.0 told.1.1 (chain-follows next new hs rest),
+  guarded-sooner old next new hs told.0 (quiet_is_guarded next new hs rest),
 )

@@ -1,14 +1,18 @@
 -- What looks at sets tell of answers.
-use Rattle.std.specs.Prelude.{◌≤◌, ℕ, List, [], ◌∷◌, length}
+use Rattle.std.specs.Prelude.{◌≡◌, ◌≤◌, ◌++◌, ℕ, List, [], ◌∷◌, length}
 use Rattle.mdb_schema.specs.Guarded.{IsUnchanged}
 use Rattle.mem_txn.specs.Database.{Caller}
 use Rattle.mem_txn.specs.Held.{HeldWatch}
 use Rattle.watch_set.specs.Checks.{AreQuiet}
 
 -- The question's answer has not changed up to the commit before commit `at`, and up to that one
--- where it is the caller's own; `at` was the last commit at one of the looks of a call.
+-- where it is the caller's own. `at` was the last commit at one of the looks of a call: a count of
+-- commits that the pass has read in it.
 pub record IsGuardedBy (old new : Caller) (h : HeldWatch) : Type 0 where
   pub at : ℕ
+  pub earlier : List ℕ
+  pub further : List ℕ
+  pub counts : new.counts ≡ old.counts ++ (earlier ++ at ∷ further)
   pub later : length old.seen ≤ at
   pub seen : at ≤ length new.seen
   pub unchanged : IsUnchanged new.schema new.seen new.number h.query h.number at
