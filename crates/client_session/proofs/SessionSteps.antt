@@ -19,7 +19,7 @@ use Rattle.client_session.specs.Steps.{AnswersStep, HasNotLost, IsBlocked, Waits
 use Rattle.client_session.specs.declared.desk.Desk.{Desk}
 use Rattle.client_session.specs.declared.stepped.Stepped.TheVariants as stepped
 use Rattle.client_session.specs.inner.Carried.{AddsSome, AnswersLine, CarriedOn, CarriesOut, SoFar, StepsLine, Stops, StopsLine}
-use Rattle.client_session.specs.inner.DeskView.{Follows, IsHeldBack, IsHeldUp, IsWaiting}
+use Rattle.client_session.specs.inner.DeskView.{Follows, HoldsUp, IsHeldUp, IsWaiting}
 use Rattle.client_session.specs.inner.OpenView.{caller_of}
 use Rattle.client_session.specs.inner.StoredSession.{HasDone, IsUnfinished, caller_in}
 
@@ -239,7 +239,7 @@ module _ (client : ℕ) (script : List Line) (d d' : Desk) (n : ℕ) (text text'
     own = held.looks.own;
   }
 
-  pub blocked : (callers : ℕ) (c : Command) → IsHeldBack callers c d d' → IsBlocked callers (progress_of client script (Some d) n text failed) (progress_of client script (Some d') n text' failed') c
+  pub blocked : (callers : ℕ) (c : Command) → HoldsUp callers c d d' → IsBlocked callers (progress_of client script (Some d) n text failed) (progress_of client script (Some d') n text' failed') c
   unfolding sooner later
   blocked callers command.Write held = held
   blocked callers command.Read held = waits command.Read held

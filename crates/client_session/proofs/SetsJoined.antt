@@ -20,7 +20,8 @@ use Rattle.client_session.specs.declared.named.Named.{Named}
 use Rattle.client_session.specs.declared.watching.Watching.{Watching}
 use Rattle.client_session.specs.inner.ReplyOf.{reply_of}
 use Rattle.client_session.specs.declared.reply.Reply as own
-use Rattle.client_session.specs.inner.SetsKept.{AddsTo, members_in, members_or_none}
+use Rattle.client_session.specs.declared.reply.Reply.TheVariants as replies
+use Rattle.client_session.specs.inner.SetsKept.{PutsBack, Sets, members_in, members_or_empty}
 use Rattle.client_session.specs.inner.WatchingView.{HasCellOf, Holds, HoldsSet, IsSet, IsSetOf, Knows, member_of, watch_of}
 use Rattle.client_session.proofs.CellsOfSets.{cell_joins, cell_stays, member_held, member_of_cell, one_cell, one_index_held}
 use Rattle.client_session.proofs.IndexPlaces.{some_once}
@@ -112,13 +113,13 @@ module _ (p : Caller) (ms : List Member) (set name : Bytes) (h : HeldWatch) (v :
 
 -- ---- all sets
 
-set_known : (p : Caller) (set : Bytes) (kept : Option (List Member)) (found : Option WatchSet) → IsSetOf p kept found → IsSet p (members_or_none kept) (set_or_new set found)
+set_known : (p : Caller) (set : Bytes) (kept : Option (List Member)) (found : Option WatchSet) → IsSetOf p kept found → IsSet p (members_or_empty kept) (set_or_new set found)
 set_known p set None None is = record { members = refl; added = λ w within. absurd (Contains-nil w within) }
 set_known p set None (Some s) is = absurd is
 set_known p set (Some ms) None is = absurd is
 set_known p set (Some ms) (Some s) is = is
 
-all_held : (p : Caller) (kept : Option (List Member)) → ((ms : List Member) → kept ≡ Some ms → HoldsSet p ms) → AreHeldBy p (watches_of (members_or_none kept))
+all_held : (p : Caller) (kept : Option (List Member)) → ((ms : List Member) → kept ≡ Some ms → HoldsSet p ms) → AreHeldBy p (watches_of (members_or_empty kept))
 all_held p None holds = tt
 all_held p (Some ms) holds = let set = holds ms refl in set.held
 
@@ -136,6 +137,13 @@ one_set p false ms s kept known is before = before
 one_held : (p : Caller) (b : Bool) (ms new : List Member) (kept : Option (List Member)) → HoldsSet p ms → ((xs : List Member) → kept ≡ Some xs → HoldsSet p xs) → cond b (Some ms) kept ≡ Some new → HoldsSet p new
 one_held p true ms new kept is before e = subst (HoldsSet p) (some_once (Some ms) ms new refl e) is
 one_held p false ms new kept is before e = before new e
+
+-- the set of a name, made where there was none, has one more watch, unless it had that watch's cell;
+-- the reply tells how many members it then has
+pub record AddsTo (old new : Sets) (set name : Bytes) (h : HeldWatch) (r : own.Reply) : Type 0 where
+  pub kept : (q : Bytes) → get_by_text new.kept q
+      ≡ cond (bytes_eq set q) (Some (with_watch name h (members_in old set))) (get_by_text old.kept q)
+  pub reply : r ≡ replies.Sized (length (with_watch name h (members_in old set)))
 
 -- what the client then knows of all that it watches
 pub record Added (p : Caller) (new : Watching) (set : Bytes) (w : Watch) (v : Client) (r : Reply) : Type 0 where
@@ -173,3 +181,19 @@ set_added p old new v set name h r knows holds own watches adds =
             one_held p (bytes_eq set q) joined xs (get_by_text old.sets.kept q) (holds_joined p ms set name h v known all own (has_cell (cell_name h) ms) refl) (holds.sets q) (sym (adds.kept q) ∙ there);
       };
     }
+
+-- ---- a set that was taken out, and put back with a watch more
+
+put_over : {X : Type 0} (b : Bool) (x y z : X) → cond b x (cond b y z) ≡ cond b x z
+put_over true x y z = refl
+put_over false x y z = refl
+
+pub put_added : (old mid new : Sets) (set name : Bytes) (h : HeldWatch) (ms : List Member) (r : own.Reply) → ((q : Bytes) → get_by_text mid.kept q ≡ cond (bytes_eq set q) None (get_by_text old.kept q)) → ms ≡ with_watch name h (members_in old set) → PutsBack mid new set ms r
+    → AddsTo old new set name h r
+put_added old mid new set name h ms r left is puts = record {
+  kept = λ q.
+      puts.kept q ∙ ap (λ (o : Option (List Member)). cond (bytes_eq set q) (Some ms) o) (left q)
+      ∙ put_over (bytes_eq set q) (Some ms) None (get_by_text old.kept q)
+      ∙ ap (λ (x : List Member). cond (bytes_eq set q) (Some x) (get_by_text old.kept q)) is;
+  reply = puts.reply ∙ ap (λ (x : List Member). replies.Sized (length x)) is;
+}

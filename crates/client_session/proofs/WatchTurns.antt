@@ -34,7 +34,7 @@ use Rattle.client_session.specs.declared.«open».Open.{Open}
 use Rattle.client_session.specs.declared.«open».Open.TheVariants as opens
 use Rattle.client_session.specs.declared.reply.Reply.{Reply}
 use Rattle.client_session.specs.declared.watching.Watching.{Watching}
-use Rattle.client_session.specs.inner.DeskView.{Follows, IsHeldBack, IsHeldUp, IsKeptOf, IsLook, IsWaiting, LooksAndReplies, LooksOnce, Replied, RepliesTo, StepsTo}
+use Rattle.client_session.specs.inner.DeskView.{Follows, HoldsUp, IsHeldUp, IsKeptOf, IsLook, IsWaiting, LooksAndReplies, LooksOnce, Replied, RepliesTo, StepsTo}
 use Rattle.client_session.specs.inner.OpenView.{Stands, caller_of, made, transaction_of}
 use Rattle.client_session.specs.inner.ReplyOf.{reply_of}
 use Rattle.client_session.specs.inner.WatchingView.{AsksWatch, HasLookedOn, Holds, IsReadBy, IsSeenIn, Knows, MayLook, TellsLook, TellsOnce, WatchTold, wait_for}
@@ -239,7 +239,7 @@ once_reading c d pass new txn (Ok None) opened stands on told =
     (subst (λ (x : Open). (v : Client) → MayLook (caller_of x) d.watching v → HasStayedQuiet (caller_of x) new v c) (sym opened) told)
 
 -- a wait that makes one look is a step
-pub steps_once : (n : ℕ) (c c' : Command) (d d' : Desk) (s : DbSchema) (told : Result (Option Reply) AllocError) → c' ≡ c → ((old new : Caller) → HasNotLost c old new) → (IsWaiting c d d' → IsHeldBack n c d d') → IfOk told (λ r. LooksOnce c d d' (option_map (reply_of s) r)) → IfOk told (λ r. StepsTo n c' d d' (option_map (reply_of s) r))
+pub steps_once : (n : ℕ) (c c' : Command) (d d' : Desk) (s : DbSchema) (told : Result (Option Reply) AllocError) → c' ≡ c → ((old new : Caller) → HasNotLost c old new) → (IsWaiting c d d' → HoldsUp n c d d') → IfOk told (λ r. LooksOnce c d d' (option_map (reply_of s) r)) → IfOk told (λ r. StepsTo n c' d d' (option_map (reply_of s) r))
 steps_once n c c' d d' s (Err e) is free held told = tt
 steps_once n c c' d d' s (Ok (Some r)) is free held told = subst (λ (x : Command). LooksAndReplies x d d' (reply_of s r) × HasNotLost x (caller_of d.«open») (caller_of d'.«open»)) (sym is) (told, free (caller_of d.«open») (caller_of d'.«open»))
 steps_once n c c' d d' s (Ok None) is free held told = subst (λ (x : Command). IsHeldUp n x d d') (sym is) (record { looks = told.looks; snapshots = told.snapshots; watching = told.watching; why = held told })

@@ -23,6 +23,8 @@ use Rattle.mem_txn.specs.Checked.{IsHeldBy}
 use Rattle.mem_txn.specs.Database.{Caller, Reading, reading_of}
 use Rattle.mem_txn.specs.Held.{AnswersHeld, HeldWatch, IsHeldOf, tells_own}
 use Rattle.mem_txn.proofs.HeldAlong.{asked_is_held, held_longer}
+use Rattle.watch_set.specs.Members as set_specs
+use Rattle.watch_set.specs.Members.{Member, chosen}
 use Rattle.client_script.specs.Client.{Client, Judged, Sight, Watch, set_named, state_seen, watch_named}
 use Rattle.client_script.specs.RefusedWord.{question_word}
 use Rattle.client_script.specs.Reply.{answered, refused}
@@ -37,12 +39,12 @@ use Rattle.client_session.specs.declared.watching.Watching.{Watching}
 use Rattle.client_session.specs.inner.Refusal.{question_rule}
 use Rattle.client_session.specs.inner.ReplyOf.{reply_of}
 use Rattle.client_session.specs.inner.RuleName.{question_name, rule_name}
-use Rattle.client_session.specs.inner.SetsKept.{AddsTo, Sets, members_in}
+use Rattle.client_session.specs.inner.SetsKept.{PutsBack, Sets, members_in}
 use Rattle.client_session.specs.inner.WatchingView.{AsksWatch, Holds, IsReadBy, IsSeenIn, IsSetOf, Knows, WatchTold, watch_of}
 use Rattle.client_session.proofs.IndexPlaces.{ok_once, some_once}
 use Rattle.client_session.proofs.LooksTold.{called_none, called_watch, judged_not, judged_so, unknown}
 use Rattle.client_session.proofs.QuietBefore.{state_of_more}
-use Rattle.client_session.proofs.SetsJoined.{count_known, set_added}
+use Rattle.client_session.proofs.SetsJoined.{AddsTo, count_known, put_added, set_added}
 use Rattle.client_session.proofs.WatchesNamed.{same_bytes, watches_more}
 
 -- ---- the answer to a question with its watch
@@ -306,3 +308,23 @@ module _ (p : Caller) (now : ℕ) (old new : Watching) (v : Client) (knows : Kno
             knows = a.knows;
             holds = a.holds;
           }
+
+      module _ (mid : Sets) (found ms : List Member) (r : own.Reply) where
+        abbrev chosen_of : Bool → Member
+        chosen_of b = if b then record { name = name; held = h } else record { name = other; held = o }
+
+        abbrev one_more : Member → List Member
+        one_more m = set_specs.with_watch m.name m.held (members_in old.sets set)
+
+        limit_either : (b : Bool) → nat_lt (length (members_in old.sets set)) limit ≡ b → new.watches ≡ old.watches → ((q : Bytes) → get_by_text mid.kept q ≡ cond (bytes_eq set q) None (get_by_text old.sets.kept q)) → ms ≡ one_more (chosen_of b) → PutsBack mid new.sets set ms r
+            → WatchTold p now new v (command.AddLimit set limit name other) (reply_of p.schema r)
+        limit_either true is watches left more puts = limit_first r is watches (put_added old.sets mid new.sets set name h ms r left more puts)
+        limit_either false is watches left more puts = limit_other r is watches (put_added old.sets mid new.sets set other o ms r left more puts)
+
+        -- the set that was taken out has a watch more, and was put back
+        pub limit_told : new.watches ≡ old.watches → ((q : Bytes) → get_by_text mid.kept q ≡ cond (bytes_eq set q) None (get_by_text old.sets.kept q)) → found ≡ members_in old.sets set
+            → (let m = chosen limit found (record { name = name; held = h }) (record { name = other; held = o }) in ms ≡ set_specs.with_watch m.name m.held found) → PutsBack mid new.sets set ms r
+            → WatchTold p now new v (command.AddLimit set limit name other) (reply_of p.schema r)
+        limit_told watches left is more puts =
+            limit_either (nat_lt (length (members_in old.sets set)) limit) refl watches left
+            (subst (λ (xs : List Member). let m = chosen limit xs (record { name = name; held = h }) (record { name = other; held = o }) in ms ≡ set_specs.with_watch m.name m.held xs) is more) puts

@@ -1,6 +1,7 @@
 -- What a call of a session has done: the text of its answers is that of replies that are a session
 -- in the history that its pass has seen, the commits that this call told are just those that its
--- pass has made in it, and the transactions that it told stand on counts that its pass has read.
+-- pass has made in it, and the numbers that its looks tell (of transactions that begin, of checks
+-- and of waits) are counts that its pass has read in it.
 use Rattle.std.specs.Prelude.{◌≡◌, ◌-◌, ◌<◌, ◌≤◌, ◌++◌, ℕ, List, [], ◌∷◌, Option, Some, length, map, take, slice_get, ⊤}
 use mathlib.Core.List.{IsPrefix}
 use Rattle.mdb_schema.specs.History.{Commit, History}
@@ -41,7 +42,8 @@ pub record AreTold (s : Progress) (replies : List Reply) : Type 0 where
   pub written : s.text ≡ lines_text (take s.answered s.script) replies
 
 -- A call has told these replies behind those that were told before. The numbers that they print for
--- transactions that begin are, in order, some of the counts that the pass has read since.
+-- transactions that begin, for checks and for waits are, in order, some of the counts that the pass
+-- has read since.
 pub record Tells (old new : Progress) : Type 0 where
   pub before : List Reply
   pub told_before : AreTold old before

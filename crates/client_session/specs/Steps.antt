@@ -1,5 +1,6 @@
 -- What one step of a session does.
-use Rattle.std.specs.Prelude.{◌≡◌, ◌⊎◌, ◌≤◌, ◌+◌, ◌++◌, ℕ, List, [], ◌∷◌, Some, Result, Ok, Err, length, slice_get, take, ⊤}
+use Rattle.std.specs.Prelude.{◌≡◌, ◌⊎◌, ◌≤◌, ◌+◌, ◌++◌, ℕ, List, [], ◌∷◌}
+use Rattle.std.specs.Prelude.{Some, Result, Ok, Err, length, slice_get, take, ⊤}
 use Rattle.std.specs.declared.alloc.AllocError.{AllocError}
 use Rattle.mdb_schema.specs.Tests.{◌>>=◌}
 use Rattle.mem_txn.specs.Database.{Caller}
@@ -27,7 +28,8 @@ HasNotLost c old new = ⊤
 
 -- ---- waits that find nothing
 
--- the watches that a line waits for, the one that cancels the wait behind the members of the set
+-- the watches that a line waits for, the one that cancels the wait behind the members of the set;
+-- other lines wait for none
 abbrev pub awaited_by : Command → Client → Judged (List Watch)
 awaited_by (command.Wait set) v = do
   s ← wait_judged v set

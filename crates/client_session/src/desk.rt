@@ -4,7 +4,8 @@ ghost use Rattle.mem_txn.specs.Database.{IsOf};
 ghost use Rattle.client_session.specs.Answered.{IsLater};
 ghost use Rattle.client_script.specs.declared.command.Command.TheVariants as command;
 ghost use Rattle.client_script.specs.Client.{at_start};
-ghost use Rattle.client_session.specs.inner.DeskView.{Follows, IsLook, IsRequest, LooksAndReplies, LooksOnce, RepliesTo, StepsTo};
+ghost use Rattle.client_session.specs.inner.DeskView.{Follows, IsLook, IsRequest, LooksAndReplies};
+ghost use Rattle.client_session.specs.inner.DeskView.{LooksOnce, RepliesTo, StepsTo};
 ghost use Rattle.client_session.specs.inner.OpenView.{caller_of, IsOpen, Stands};
 ghost use Rattle.client_session.specs.inner.KeptView.{seen_in};
 ghost use Rattle.client_session.specs.inner.ReplyOf.{reply_of};
@@ -182,7 +183,7 @@ impl Desk {
         }
     }
 
-    /// What a question of the open transaction is answered, and keeps its watch.
+    /// Asks the open transaction, and keeps the answer's watch.
     fn watch(&mut self, alloc: Global, name: &Text, query: &Query) -> Result<Reply, AllocError>
         requires stands { Stands self.old.open }
         ensures turn { IfOk result (λ r. RepliesTo (command.Watch name.now query.now) self.old
@@ -196,7 +197,7 @@ impl Desk {
         }
     }
 
-    /// What a question of a snapshot is answered, and keeps its watch.
+    /// Asks a snapshot, and keeps the answer's watch.
     fn watch_in(
         &mut self,
         alloc: Global,

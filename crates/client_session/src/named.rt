@@ -49,7 +49,7 @@ impl<T: Drop> Named<T> {
         self.put(name, value)
     }
 
-    /// Keeps a value under a name of its own.
+    /// Keeps a value under a name that is handed over.
     fn put(&mut self, name: String, value: T) -> Result<(), AllocError>
         ensures kept { OnOk result ((q : Bytes) → get_by_text self.new.kept q
             ≡ cond (bytes_eq (string_bytes name) q) (Some value) (get_by_text self.old.kept q)) }

@@ -160,7 +160,7 @@ fn write_number(number: u64, out: &mut Vec<u8>) -> Result<(), AllocError>
     out.extend_from_slice(buffer.format(number).as_bytes())
 }
 
-/// Adds what a snapshot of a write transaction is answered.
+/// Adds the answer to the snapshot of a write transaction.
 fn write_within(number: u64, out: &mut Vec<u8>) -> Result<(), AllocError>
     ensures { OnOk result (out.new.items ≡ out.old.items
         ++ (codes "snapshot @" ++ (decimal number ++ codes "+"))) }
@@ -169,7 +169,7 @@ fn write_within(number: u64, out: &mut Vec<u8>) -> Result<(), AllocError>
     out.extend_from_slice(b"+")
 }
 
-/// Adds what a wait is answered that a member of the set has ended.
+/// Adds the answer to a wait that a member of the set has ended.
 fn write_woken(name: &Text, number: u64, out: &mut Vec<u8>) -> Result<(), AllocError>
     ensures { OnOk result (out.new.items ≡ out.old.items
         ++ (codes "fired " ++ (name.now ++ (codes " @" ++ decimal number)))) }

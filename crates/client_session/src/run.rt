@@ -3,7 +3,8 @@ ghost use Rattle.std.specs.Prelude.{◌≡◌, ◌≤◌, ◌++◌, MatchResult,
 ghost use Rattle.mem_txn.specs.Database.{IsOf};
 ghost use Rattle.client_session.specs.Answered.{IsLater};
 ghost use Rattle.client_script.specs.Reply.{line_text};
-ghost use Rattle.client_session.specs.inner.Carried.{AddsSome, AnswersLine, CarriedOn, CarriesOut, SoFar, StepsLine, Stops, StopsLine};
+ghost use Rattle.client_session.specs.inner.Carried.{AddsSome, AnswersLine, CarriedOn, CarriesOut};
+ghost use Rattle.client_session.specs.inner.Carried.{SoFar, StepsLine, Stops, StopsLine};
 ghost use Rattle.client_session.specs.inner.OpenView.{caller_of, Stands};
 ghost use Rattle.client_session.specs.inner.ReplyOf.{reply_of};
 ghost use Rattle.client_session.specs.inner.WatchingView.{Holds};
@@ -131,8 +132,9 @@ fn add_reply(
     }
 }
 
-/// Carries out a line, but `write` for one try and a wait for one look alone, and adds its answer.
-/// It gives whether there is one. After `AllocError` nothing is open, and the text is as before.
+/// Carries out a line, with one try alone at `write` and one look alone at a wait, and adds its
+/// answer. It gives whether there is one. After `AllocError` nothing is open, and the text is as
+/// before.
 pub(crate) fn step_line<R: Wait>(
     rt: &R,
     db: &Db,

@@ -67,7 +67,8 @@ impl Session {
     }
 
     /// Carries out every line that is left, and keeps the answers. A transaction that the script
-    /// leaves open is aborted. After `AllocError` an open transaction was aborted, unless its
+    /// leaves open is aborted. It waits for the writer's turn at `write`, and at a wait till a watch
+    /// fires, which may be never. After `AllocError` an open transaction was aborted, unless its
     /// `commit` was made and found no memory for the answer; the answers kept are those to some
     /// first lines, and each later call answers it again.
     pub fn run<R: Wait, G: Gate>(&mut self, rt: &R, db: &Db, gate: &G) -> Result<(), AllocError>

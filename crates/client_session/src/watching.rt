@@ -1,10 +1,15 @@
 //! What a client watches, and the turns of the lines of watches.
-ghost use Rattle.std.specs.Prelude.{◌≡◌, ℕ, IfOk, length, option_copied, option_map};
+ghost use Rattle.std.specs.Prelude.{◌≡◌, ℕ, IfOk, None, cond, option_copied, option_map};
+ghost use Rattle.std.specs.BTreeMap.{get_by_text};
+ghost use Rattle.std.specs.Str.{bytes_eq};
+ghost use Rattle.mdb_datum.specs.Bytes.{Bytes};
 ghost use Rattle.client_script.specs.Client.{Client, Sight, nothing_watched};
 ghost use Rattle.client_script.specs.declared.command.Command.TheVariants as command;
 ghost use Rattle.client_session.specs.inner.ReplyOf.{reply_of};
-ghost use Rattle.client_session.specs.inner.SetsKept.{AddsTo, IsThere, RepliesWoken, awaited_in, look_reply, members_in};
-ghost use Rattle.client_session.specs.inner.WatchingView.{AsksWatch, HasLookedOn, Holds, IsSeenIn, Knows, TellsLook, TellsOnce, WatchTold, wait_for};
+ghost use Rattle.client_session.specs.inner.SetsKept.{IsThere, PutsBack, RepliesWoken};
+ghost use Rattle.client_session.specs.inner.SetsKept.{awaited_in, look_reply, members_in};
+ghost use Rattle.client_session.specs.inner.WatchingView.{AsksWatch, HasLookedOn, Holds, IsSeenIn, Knows};
+ghost use Rattle.client_session.specs.inner.WatchingView.{TellsLook, TellsOnce, WatchTold, wait_for};
 ghost use Rattle.mem_txn.specs.Database.{Caller, IsOf};
 
 use crate::named::Named;
@@ -38,8 +43,8 @@ impl Watching {
         }
     }
 
-    /// What a question is answered of a state that is read, and keeps the watch of the answer under
-    /// a name. There is nothing to read where what is asked isn't committed.
+    /// Asks a question of a state that is read, and keeps the answer's watch under a name. `reading`
+    /// is `None` where what is asked isn't committed.
     pub(crate) fn ask(
         &mut self,
         alloc: Global,
@@ -81,7 +86,9 @@ impl Watching {
         let Some(held) = self.watches.get(name) else {
             return Ok(Reply::Refused(Rule::UnknownName));
         };
-        add_to(&mut self.sets, alloc, set, name, held)
+        let mut members = taken(&mut self.sets, alloc, set);
+        members.add(name, held)?;
+        put_back(&mut self.sets, alloc, set, members)
     }
 
     /// Adds the one watch to a set while that has fewer members than the limit, and otherwise the
@@ -103,11 +110,9 @@ impl Watching {
         else {
             return Ok(Reply::Refused(Rule::UnknownName));
         };
-        if size_of(&self.sets, set) < limit as usize {
-            add_to(&mut self.sets, alloc, set, name, held)
-        } else {
-            add_to(&mut self.sets, alloc, set, other, alternative)
-        }
+        let mut members = taken(&mut self.sets, alloc, set);
+        members.add_with_limit(limit as usize, name, held, other, alternative)?;
+        put_back(&mut self.sets, alloc, set, members)
     }
 
     /// How many members the set of a name has.
@@ -210,31 +215,28 @@ impl Watching {
     }
 }
 
-/// How many members the set of a name has; none where there is no such set.
-fn size_of(sets: &Named<WatchSet>, set: &Text) -> usize
-    ensures { result ≡ length (members_in sets.now set.now) }
+/// The set of a name, taken out, or a new one where there is none. It is gone where no memory is
+/// found before it is put back; the session then carries out no further line.
+fn taken(sets: &mut Named<WatchSet>, alloc: Global, set: &Text) -> WatchSet
+    ensures members { result ≡ members_in sets.old set.now }
+    ensures left { (q : Bytes) → get_by_text sets.new.kept q
+        ≡ cond (bytes_eq set.now q) None (get_by_text sets.old.kept q) }
 {
-    match sets.get(set) {
-        Some(members) => members.len(),
-        None => 0,
+    match sets.take(set) {
+        Some(members) => members,
+        None => WatchSet::new(alloc),
     }
 }
 
-/// Adds a watch to the set of a name, which is made where there is none.
-fn add_to(
+/// Puts a set back under its name, and tells its size.
+fn put_back(
     sets: &mut Named<WatchSet>,
     alloc: Global,
     set: &Text,
-    name: &Text,
-    held: &Held,
+    members: WatchSet,
 ) -> Result<Reply, AllocError>
-    ensures { IfOk result (λ r. AddsTo sets.old sets.new set.now name.now held.now r) }
+    ensures { IfOk result (λ r. PutsBack sets.old sets.new set.now members r) }
 {
-    let mut members = match sets.take(set) {
-        Some(members) => members,
-        None => WatchSet::new(alloc),
-    };
-    members.add(name, held)?;
     let size = members.len();
     sets.keep(alloc, set, members)?;
     Ok(Reply::Sized(size))

@@ -70,7 +70,8 @@ abbrev pub RepliesTo : Command → Desk → Desk → Reply → Type 0
 RepliesTo c old new r = (v : Client) → Follows old v → Replied c old new r v
 
 -- The same, once the caller has seen the commits that there are by then. What the reply prints of
--- them is a count that it has read. What the client knew before is still as it was then.
+-- them is a count that it has read. It is said of each client that the desk followed before that
+-- look and follows after it.
 pub record LooksAndReplies (c : Command) (old new : Desk) (r : Reply) : Type 0 where
   pub at : Desk
   pub looks : Looks old.open at.open
@@ -93,19 +94,19 @@ abbrev pub LooksOnce : Command → Desk → Desk → Option Reply → Type 0
 LooksOnce c old new (Some r) = LooksAndReplies c old new r
 LooksOnce c old new None = IsWaiting c old new
 
--- what holds a line up: at `write`, that another has the writer's turn, as its one try has found; else
--- that a wait has found all quiet
-abbrev pub IsHeldBack : ℕ → Command → Desk → Desk → Type 0
-IsHeldBack callers command.Write old new =
+-- why a line is held up: at `write` another has the writer's turn, as its one try has found; else a
+-- wait has found all quiet
+abbrev pub HoldsUp : ℕ → Command → Desk → Desk → Type 0
+HoldsUp callers command.Write old new =
     HasLost callers (caller_of old.open) (caller_of new.open)
-IsHeldBack callers c old new = IsWaiting c old new
+HoldsUp callers c old new = IsWaiting c old new
 
 -- a line is still to do, and nothing else was done
 pub record IsHeldUp (callers : ℕ) (c : Command) (old new : Desk) : Type 0 where
   pub looks : Looks old.open new.open
   pub snapshots : new.snapshots ≡ old.snapshots
   pub watching : new.watching ≡ old.watching
-  pub why : IsHeldBack callers c old new
+  pub why : HoldsUp callers c old new
 
 -- a step's reply; it gives none where the line is still to do
 abbrev pub StepsTo : ℕ → Command → Desk → Desk → Option Reply → Type 0

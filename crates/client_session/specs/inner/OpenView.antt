@@ -103,7 +103,7 @@ BeginsOrEnds command.Commit = ⊤
 BeginsOrEnds command.Abort = ⊤
 BeginsOrEnds c = ⊥
 
--- the caller has seen more commits, of others, and read these counts; all else is as before
+-- the caller has seen more commits, of others, and read these counts; it may have made tries
 pub record Looks (old new : Open) : Type 0 where
   pub later : IsLater (caller_of old) (caller_of new)
   pub own : (caller_of new).own ≡ (caller_of old).own

@@ -6,7 +6,7 @@ use Rattle.mdb_datum.specs.Bytes.{Bytes}
 use Rattle.mem_txn.specs.Held.{HeldWatch}
 use Rattle.mem_txn.specs.declared.look.Look.{Look}
 use Rattle.mem_txn.specs.declared.look.Look.TheVariants as look
-use Rattle.watch_set.specs.Members.{Member, with_watch}
+use Rattle.watch_set.specs.Members.{Member}
 use Rattle.watch_set.specs.declared.woken.Woken.{Woken}
 use Rattle.watch_set.specs.declared.woken.Woken.TheVariants as woken
 use Rattle.client_session.specs.declared.named.Named.{Named}
@@ -17,20 +17,19 @@ use Rattle.client_session.specs.declared.watching.Watching.{Watching}
 abbrev pub Sets : Type 0
 Sets = Named (List Member)
 
-abbrev pub members_or_none : Option (List Member) → List Member
-members_or_none None = []
-members_or_none (Some ms) = ms
+abbrev pub members_or_empty : Option (List Member) → List Member
+members_or_empty None = []
+members_or_empty (Some ms) = ms
 
 -- the members of the set of a name
 abbrev pub members_in : Sets → Bytes → List Member
-members_in sets set = members_or_none (get_by_text sets.kept set)
+members_in sets set = members_or_empty (get_by_text sets.kept set)
 
--- the set of a name has a watch more, if it lacked its cell, and there is such a set; the reply
--- tells how many members that then has
-pub record AddsTo (old new : Sets) (set name : Bytes) (h : HeldWatch) (r : Reply) : Type 0 where
+-- the set of a name has these members; the reply tells how many
+pub record PutsBack (old new : Sets) (set : Bytes) (ms : List Member) (r : Reply) : Type 0 where
   pub kept : (q : Bytes) → get_by_text new.kept q
-      ≡ cond (bytes_eq set q) (Some (with_watch name h (members_in old set))) (get_by_text old.kept q)
-  pub reply : r ≡ reply.Sized (length (with_watch name h (members_in old set)))
+      ≡ cond (bytes_eq set q) (Some ms) (get_by_text old.kept q)
+  pub reply : r ≡ reply.Sized (length ms)
 
 -- ---- what a line waits for
 
@@ -39,6 +38,7 @@ abbrev pub until_in : Watching → Option Bytes → Option (Option HeldWatch)
 until_in g None = Some None
 until_in g (Some name) = option_map Some (get_by_text g.watches.kept name)
 
+-- a set's members and what cancels, where both are there
 abbrev pub beside : Option (List Member) → Option (Option HeldWatch)
     → Option (List Member × Option HeldWatch)
 beside None until = None

@@ -1,5 +1,6 @@
 -- What a client watches, as the definitions of sessions see it.
-use Rattle.std.specs.Prelude.{◌≡◌, ◌<◌, ◌≤◌, ◌++◌, ℕ, true, false, List, [], Contains, Option, Some, None, Ok, length, map, option_map, ⊤}
+use Rattle.std.specs.Prelude.{◌≡◌, ◌<◌, ◌≤◌, ◌++◌, ℕ, true, false, List, []}
+use Rattle.std.specs.Prelude.{Contains, Option, Some, None, Ok, length, map, option_map, ⊤}
 use Rattle.std.specs.BTreeMap.{get_by_text}
 use Rattle.mdb_datum.specs.Bytes.{Bytes}
 use Rattle.mdb_schema.specs.Query.{Query}
