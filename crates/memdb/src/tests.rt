@@ -259,9 +259,9 @@ fn is_one_of(bytes: &[u8], texts: &[&str]) -> bool {
     texts.iter().any(|text| text.as_bytes() == bytes)
 }
 
-/// Whether these are the first bytes of `ANN_OUT`, in so many pieces.
-fn is_front(bytes: &[u8], pieces: u8) -> bool {
-    ANN_OUT.as_bytes().get(..usize::from(pieces) * 7) == Some(bytes)
+/// Whether these are the first bytes of `ANN_OUT`, in so many pieces, under status 6.
+fn is_front(status: u8, bytes: &[u8], pieces: u8) -> bool {
+    status == 6 && ANN_OUT.as_bytes().get(..usize::from(pieces) * 7) == Some(bytes)
 }
 
 /// Whether what a run wrote under a status is all of one of the texts, or nothing for want of
@@ -282,7 +282,7 @@ fn is_wanted(alloc: Global, status: u8, bytes: &[u8], want: Want) -> Result<bool
         _ if status == 4 && bytes.is_empty() => Err(AllocError),
         Want::OneOf(texts) => Ok(is_all_or_nothing(status, bytes, texts)),
         Want::Ends(wanted, text) => Ok(status == wanted && bytes == text.as_bytes()),
-        Want::Cut(pieces) => Ok(status == 6 && is_front(bytes, pieces)),
+        Want::Cut(pieces) => Ok(is_front(status, bytes, pieces)),
         Want::TwoHundred => are_two_hundred(alloc, bytes),
         Want::SixtyFour => are_sixty_four(alloc, bytes),
     }
@@ -381,13 +381,15 @@ fn the_first_rule_that_is_broken_is_told(rt: HostRuntime) -> Result<(), Fail> {
 
 const LAWFUL: &[File] = &[("S", &[(SCHEMA, 1)]), ("c1", &[(ANN, 1)])];
 
+const NO_COMMAND: Want = Want::Ends(1, USAGE);
+
 /// Words that are no command, beside lawful files.
 static NO_COMMANDS: [Run; 5] = [
-    ("", LAWFUL, (0, 0), Want::Ends(1, USAGE)),
-    ("run S", LAWFUL, (0, 0), Want::Ends(1, USAGE)),
-    ("run S c1 -x", LAWFUL, (0, 0), Want::Ends(1, USAGE)),
-    ("run -x c1", LAWFUL, (0, 0), Want::Ends(1, USAGE)),
-    ("make 1 65 3", LAWFUL, (0, 0), Want::Ends(1, USAGE)),
+    ("", LAWFUL, (0, 0), NO_COMMAND),
+    ("run S", LAWFUL, (0, 0), NO_COMMAND),
+    ("run S c1 -x", LAWFUL, (0, 0), NO_COMMAND),
+    ("run -x c1", LAWFUL, (0, 0), NO_COMMAND),
+    ("make 1 65 3", LAWFUL, (0, 0), NO_COMMAND),
 ];
 
 #[test]
@@ -402,47 +404,48 @@ fn a_script_that_is_no_text_is_told(rt: HostRuntime) -> Result<(), Fail> {
     Ok(())
 }
 
-/// Files without the schema or the client, and files at a limit and past it.
+const UNREAD_S: Want = Want::Ends(5, "cannot read S\n");
+
+const UNREAD_C1: Want = Want::Ends(5, "cannot read c1\n");
+
+const NO_SCHEMA: &[File] = &[("c1", &[(ANN, 1)])];
+
+const NO_CLIENT: &[File] = &[("S", &[("{}", 1)])];
+
+const LINES_OVER: &[File] = &[("S", &[(SCHEMA, 1)]), ("c1", &[("\n", 100_001)])];
+
+/// As many lines and bytes as a file may have.
+const LIMIT: &[File] = &[
+    ("S", &[(SCHEMA, 1)]),
+    ("c1", &[("\n", 99_999), ("#", 948_577)]),
+];
+
+const CLIENT_OVER: &[File] = &[
+    ("S", &[(SCHEMA, 1)]),
+    ("c1", &[("\n", 99_999), ("#", 948_578)]),
+];
+
+const SCHEMA_OVER: &[File] = &[("S", &[(SCHEMA, 1), (" ", 1_048_576)])];
+
 static FILES: [Run; 6] = [
+    ("run S c1", NO_SCHEMA, (0, 0), UNREAD_S),
+    ("run S c1", NO_CLIENT, (0, 0), UNREAD_C1),
     (
         "run S c1",
-        &[("c1", &[(ANN, 1)])],
-        (0, 0),
-        Want::Ends(5, "cannot read S\n"),
-    ),
-    (
-        "run S c1",
-        &[("S", &[("{}", 1)])],
-        (0, 0),
-        Want::Ends(5, "cannot read c1\n"),
-    ),
-    (
-        "run S c1",
-        &[("S", &[(SCHEMA, 1)]), ("c1", &[("\n", 100_001)])],
+        LINES_OVER,
         (0, 0),
         Want::Ends(3, "script 1 too-many-lines\n"),
     ),
+    ("run S c1", LIMIT, (0, 0), Want::Ends(0, NO_LINES)),
     (
         "run S c1",
-        &[
-            ("S", &[(SCHEMA, 1)]),
-            ("c1", &[("\n", 99_999), ("#", 948_577)]),
-        ],
-        (0, 0),
-        Want::Ends(0, NO_LINES),
-    ),
-    (
-        "run S c1",
-        &[
-            ("S", &[(SCHEMA, 1)]),
-            ("c1", &[("\n", 99_999), ("#", 948_578)]),
-        ],
+        CLIENT_OVER,
         (0, 0),
         Want::Ends(7, "too large c1\n"),
     ),
     (
         "run S c1",
-        &[("S", &[(" ", 1_048_577)])],
+        SCHEMA_OVER,
         (0, 0),
         Want::Ends(7, "too large S\n"),
     ),
@@ -455,20 +458,10 @@ fn absent_files_and_files_past_a_limit_are_told(rt: HostRuntime) -> Result<(), F
 
 /// Each file takes two calls: its bytes, and its end.
 static FILE_CALLS: [Run; 5] = [
-    ("run S c1", LAWFUL, (1, 0), Want::Ends(5, "cannot read S\n")),
-    ("run S c1", LAWFUL, (2, 0), Want::Ends(5, "cannot read S\n")),
-    (
-        "run S c1",
-        LAWFUL,
-        (3, 0),
-        Want::Ends(5, "cannot read c1\n"),
-    ),
-    (
-        "run S c1",
-        LAWFUL,
-        (4, 0),
-        Want::Ends(5, "cannot read c1\n"),
-    ),
+    ("run S c1", LAWFUL, (1, 0), UNREAD_S),
+    ("run S c1", LAWFUL, (2, 0), UNREAD_S),
+    ("run S c1", LAWFUL, (3, 0), UNREAD_C1),
+    ("run S c1", LAWFUL, (4, 0), UNREAD_C1),
     ("run S c1", LAWFUL, (5, 0), Want::Ends(0, ANN_OUT)),
 ];
 

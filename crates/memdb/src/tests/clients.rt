@@ -97,6 +97,11 @@ fn number_in(line: &str, front: &str, back: &str) -> Option<u64> {
     number.parse::<u64>().ok()
 }
 
+/// The number of the commit that a line tells, or the greatest number.
+fn commit_in(line: &str) -> u64 {
+    number_in(line, ": commit @", "").unwrap_or(u64::MAX)
+}
+
 /// Whether a line reads no commit before this one.
 fn reads_on(line: &str, last: u64) -> bool {
     match number_in(line, ": read @", "") {
@@ -110,7 +115,7 @@ fn reads_on(line: &str, last: u64) -> bool {
 fn are_in_order(text: &str, commits: &mut Vec<u64>) -> Result<bool, AllocError> {
     let mut last = 0;
     for line in text.lines() {
-        let commit = number_in(line, ": commit @", "").unwrap_or(u64::MAX);
+        let commit = commit_in(line);
         if commit <= last || !reads_on(line, last) {
             return Ok(false);
         }

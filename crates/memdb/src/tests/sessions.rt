@@ -1,6 +1,6 @@
 //! Worked sessions over keys, notes, rules and users: scripts, each with the whole output of its
 //! run.
-use super::{Row, Run, Want, all_answered, all_hold};
+use super::{File, Part, Row, Run, Want, all_answered, all_hold};
 use std::test::Fail;
 
 pub(super) const SCHEMA: &str = r#"{"memdb":1,"tables":{
@@ -412,59 +412,39 @@ fn worked_sessions_are_answered(rt: HostRuntime) -> Result<(), Fail> {
     all_answered(&rt, rt.alloc(), &ROWS)
 }
 
-/// Keys at a limit and past it, and keys past their number.
+const NAME: Part = ("write\ninsert users {\"age\":1,\"name\":\"", 1);
+
+const TAGS: Part = (
+    "write\ninsert users {\"age\":1,\"name\":\"a\",\"tags\":[\"t\"",
+    1,
+);
+
+/// A key of as many bytes as it may have.
+const LONG: &[File] = &[
+    ("S", &[(SCHEMA, 1)]),
+    ("c1", &[NAME, ("a", 1023), ("\"}\n", 1)]),
+];
+
+const TOO_LONG: &[File] = &[
+    ("S", &[(SCHEMA, 1)]),
+    ("c1", &[NAME, ("a", 1024), ("\"}\n", 1)]),
+];
+
+const TOO_MANY: &[File] = &[
+    ("S", &[(SCHEMA, 1)]),
+    ("c1", &[TAGS, (",\"t\"", 256), ("]}\n", 1)]),
+];
+
+const LONG_OUT: &str = "client 1 c1\n1: write @0\n2: inserted\n";
+
+const TOO_LONG_OUT: &str = "client 1 c1\n1: write @0\n2: refused too-long id\n";
+
+const TOO_MANY_OUT: &str = "client 1 c1\n1: write @0\n2: refused too-many tags\n";
+
 static LONG_ROWS: [Run; 3] = [
-    (
-        "run S c1",
-        &[
-            ("S", &[(SCHEMA, 1)]),
-            (
-                "c1",
-                &[
-                    ("write\ninsert users {\"age\":1,\"name\":\"", 1),
-                    ("a", 1023),
-                    ("\"}\n", 1),
-                ],
-            ),
-        ],
-        (0, 0),
-        Want::Ends(0, "client 1 c1\n1: write @0\n2: inserted\n"),
-    ),
-    (
-        "run S c1",
-        &[
-            ("S", &[(SCHEMA, 1)]),
-            (
-                "c1",
-                &[
-                    ("write\ninsert users {\"age\":1,\"name\":\"", 1),
-                    ("a", 1024),
-                    ("\"}\n", 1),
-                ],
-            ),
-        ],
-        (0, 0),
-        Want::Ends(0, "client 1 c1\n1: write @0\n2: refused too-long id\n"),
-    ),
-    (
-        "run S c1",
-        &[
-            ("S", &[(SCHEMA, 1)]),
-            (
-                "c1",
-                &[
-                    (
-                        "write\ninsert users {\"age\":1,\"name\":\"a\",\"tags\":[\"t\"",
-                        1,
-                    ),
-                    (",\"t\"", 256),
-                    ("]}\n", 1),
-                ],
-            ),
-        ],
-        (0, 0),
-        Want::Ends(0, "client 1 c1\n1: write @0\n2: refused too-many tags\n"),
-    ),
+    ("run S c1", LONG, (0, 0), Want::Ends(0, LONG_OUT)),
+    ("run S c1", TOO_LONG, (0, 0), Want::Ends(0, TOO_LONG_OUT)),
+    ("run S c1", TOO_MANY, (0, 0), Want::Ends(0, TOO_MANY_OUT)),
 ];
 
 #[test]
