@@ -84,7 +84,7 @@ pub(crate) fn read_uuid(value: Option<&Datum>) -> Result<Option<Piece<'_>>, KeyR
     }
 }
 
-/// Whether the member is there and stands for something.
+/// Whether the member is absent, or has the value of its type that stands for nothing.
 pub(crate) fn is_blank(value: Option<&Datum>) -> bool
     ensures { result ≡ is_blank (doc_at value.entry) }
 {

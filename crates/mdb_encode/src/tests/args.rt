@@ -1,7 +1,7 @@
 //! Arguments and their keys, exact and in the prefix form.
 
-use super::samples::{Sample, Width, arg_answer, is_key, items_in};
-use crate::{ArgError, Key};
+use super::answers::{args_give, items_in};
+use super::samples::{Sample, Width};
 use mdb_datum::{Datum, Items};
 use std::alloc::{AllocError, Global};
 use std::test::Fail;
@@ -85,27 +85,6 @@ const PAST: [(Sample, i128); 6] = [
     (Sample::Sint(Width::Eight), i128::MIN),
 ];
 
-/// The word for a refusal.
-fn word(error: ArgError) -> &'static str {
-    match error {
-        ArgError::Memory => "Memory",
-        ArgError::ArgCount => "ArgCount",
-        ArgError::ArgKind => "ArgKind",
-        ArgError::OutOfRange => "OutOfRange",
-        ArgError::BadUuid => "BadUuid",
-        ArgError::TooLong => "TooLong",
-        ArgError::NoPrefixForm => "NoPrefixForm",
-    }
-}
-
-/// Whether the answer is this key, or this refusal.
-fn is_answer(alloc: Global, answer: Result<Key, ArgError>, want: &str) -> Result<bool, Fail> {
-    match answer {
-        Ok(key) => is_key(alloc, &key, want),
-        Err(error) => Ok(word(error) == want),
-    }
-}
-
 /// Whether the arguments make this key, or are refused so.
 fn gives(
     alloc: Global,
@@ -115,7 +94,7 @@ fn gives(
     want: &str,
 ) -> Result<bool, Fail> {
     let args = items_in(alloc, args)?;
-    is_answer(alloc, arg_answer(alloc, sample, &args, is_prefix)?, want)
+    args_give(alloc, sample, &args, is_prefix, want)
 }
 
 /// A list of one number.
@@ -128,11 +107,7 @@ fn list_of(alloc: Global, number: i128) -> Result<Items, AllocError> {
 /// Whether a number is refused as outside the width.
 fn is_past(alloc: Global, sample: Sample, number: i128) -> Result<bool, Fail> {
     let args = list_of(alloc, number)?;
-    is_answer(
-        alloc,
-        arg_answer(alloc, sample, &args, false)?,
-        "OutOfRange",
-    )
+    args_give(alloc, sample, &args, false, "OutOfRange")
 }
 
 #[test]

@@ -1,7 +1,8 @@
 //! The limits: 256 keys of a row, and 1,024 bytes of a key.
 
-use super::samples::{Sample, arg_answer, items_in, row_answer};
-use crate::{ArgError, Key, KeyError, Keys};
+use super::answers::{args_give, items_in, row_gives};
+use super::samples::Sample;
+use mdb_datum::Items;
 use std::alloc::{AllocError, Global};
 use std::test::Fail;
 
@@ -9,55 +10,62 @@ use std::test::Fail;
 #[derive(Clone, Copy)]
 struct Spread(&'static str, &'static str, usize, &'static str);
 
-/// Rows at a limit and just past it: how many keys they have, and of how many bytes, or the
-/// refusal.
-const ROWS: [(Sample, Spread, Result<(usize, usize), KeyError>); 6] = [
+/// Rows at a limit and just past it, and their keys in hexadecimal or the refusal.
+const ROWS: [(Sample, Spread, Spread); 6] = [
     (
         Sample::Str(false),
         Spread("{\"f\":\"", "x", 1023, "\"}"),
-        Ok((1, 1024)),
+        Spread("", "78", 1023, "00;"),
     ),
     (
         Sample::Str(false),
         Spread("{\"f\":\"", "x", 1024, "\"}"),
-        Err(KeyError::TooLong),
+        Spread("TooLong", "", 0, ""),
     ),
     (
         Sample::StrList(false),
         Spread("{\"f\":[\"x\"", ",\"x\"", 255, "]}"),
-        Ok((256, 2)),
+        Spread("", "7800;", 256, ""),
     ),
     (
         Sample::StrList(false),
         Spread("{\"f\":[\"x\"", ",\"x\"", 256, "]}"),
-        Err(KeyError::TooMany),
+        Spread("TooMany", "", 0, ""),
     ),
     (
         Sample::Pair(false),
         Spread("{\"b\":\"z\",\"a\":\"", "x", 1021, "\"}"),
-        Ok((1, 1024)),
+        Spread("", "78", 1021, "007a00;"),
     ),
     (
         Sample::Pair(false),
         Spread("{\"b\":\"z\",\"a\":\"", "x", 1022, "\"}"),
-        Err(KeyError::TooLong),
+        Spread("TooLong", "", 0, ""),
     ),
 ];
 
-/// Arguments at the limit and just past it, whether they are of the prefix form, and the last byte
-/// of a key of 1,024 bytes or the refusal. The prefix form has no end byte.
-const ARGS: [(Spread, bool, Result<u8, ArgError>); 4] = [
-    (Spread("[\"", "x", 1023, "\"]"), false, Ok(0)),
+/// Arguments at the limit and just past it, whether they are of the prefix form, and their key in
+/// hexadecimal or the refusal. The prefix form has no end byte.
+const ARGS: [(Spread, bool, Spread); 4] = [
+    (
+        Spread("[\"", "x", 1023, "\"]"),
+        false,
+        Spread("", "78", 1023, "00"),
+    ),
     (
         Spread("[\"", "x", 1024, "\"]"),
         false,
-        Err(ArgError::TooLong),
+        Spread("TooLong", "", 0, ""),
     ),
-    (Spread("[\"", "x", 1024, "\"]"), true, Ok(b'x')),
+    (
+        Spread("[\"", "x", 1024, "\"]"),
+        true,
+        Spread("", "78", 1024, ""),
+    ),
     (
         Spread("[\"", "x", 1025, "\"]"),
         true,
-        Err(ArgError::TooLong),
+        Spread("TooLong", "", 0, ""),
     ),
 ];
 
@@ -71,63 +79,34 @@ fn text_of(alloc: Global, spread: &Spread) -> Result<String, AllocError> {
     Ok(text)
 }
 
-/// Whether a key has so many bytes, the first an `x`, and this one last.
-fn has_ends(key: &Key, len: usize, last: u8) -> bool {
-    let bytes = key.bytes();
-    bytes.len() == len
-        && bytes.first().copied() == Some(b'x')
-        && bytes.last().copied() == Some(last)
+/// Whether the row gives these keys, or this refusal.
+fn is_row_so(alloc: Global, sample: Sample, row: &Spread, want: &Spread) -> Result<bool, Fail> {
+    let row = text_of(alloc, row)?;
+    let want = text_of(alloc, want)?;
+    row_gives(alloc, sample, row.as_str(), want.as_str())
 }
 
-/// Whether there are so many keys of so many bytes, each with its end byte.
-fn are_keys(keys: &Keys, count: usize, len: usize) -> bool {
-    keys.len() == count && keys.iter().all(|key| has_ends(key, len, 0))
+/// The arguments of a list.
+fn args_of(alloc: Global, args: &Spread) -> Result<Items, Fail> {
+    let text = text_of(alloc, args)?;
+    items_in(alloc, text.as_str())
 }
 
-/// What a row gives.
-fn answer_to(
-    alloc: Global,
-    sample: Sample,
-    spread: &Spread,
-) -> Result<Result<Keys, KeyError>, Fail> {
-    let row = text_of(alloc, spread)?;
-    row_answer(alloc, sample, row.as_str())
-}
-
-/// Whether the answer is so many keys of so many bytes, or this refusal.
-fn are_answered(answer: &Result<Keys, KeyError>, want: &Result<(usize, usize), KeyError>) -> bool {
-    match (answer, want) {
-        (Ok(keys), Ok((count, len))) => are_keys(keys, *count, *len),
-        (Err(error), Err(wanted)) => *error == *wanted,
-        _ => false,
-    }
-}
-
-/// What arguments give.
-fn arg_answer_to(
-    alloc: Global,
-    spread: &Spread,
-    is_prefix: bool,
-) -> Result<Result<Key, ArgError>, Fail> {
-    let text = text_of(alloc, spread)?;
-    let args = items_in(alloc, text.as_str())?;
-    arg_answer(alloc, Sample::Str(false), &args, is_prefix)
-}
-
-/// Whether the answer is a key of 1,024 bytes with this one last, or this refusal.
-fn is_answered(answer: &Result<Key, ArgError>, want: &Result<u8, ArgError>) -> bool {
-    match (answer, want) {
-        (Ok(key), Ok(last)) => has_ends(key, 1024, *last),
-        (Err(error), Err(wanted)) => *error == *wanted,
-        _ => false,
-    }
+/// Whether the arguments give this key, or this refusal.
+fn are_args_so(alloc: Global, args: &Spread, is_prefix: bool, want: &Spread) -> Result<bool, Fail> {
+    let args = args_of(alloc, args)?;
+    let want = text_of(alloc, want)?;
+    args_give(alloc, Sample::Str(false), &args, is_prefix, want.as_str())
 }
 
 #[test]
 fn rows_are_limited(rt: HostRuntime) -> Result<(), Fail> {
     for (sample, row, want) in &ROWS {
-        let answer = answer_to(rt.alloc(), *sample, row)?;
-        assert!(rt; are_answered(&answer, want), "{} copies", row.2);
+        assert!(rt;
+            is_row_so(rt.alloc(), *sample, row, want)?,
+            "{} copies",
+            row.2
+        );
     }
     Ok(())
 }
@@ -135,8 +114,11 @@ fn rows_are_limited(rt: HostRuntime) -> Result<(), Fail> {
 #[test]
 fn arguments_are_limited(rt: HostRuntime) -> Result<(), Fail> {
     for (args, is_prefix, want) in &ARGS {
-        let answer = arg_answer_to(rt.alloc(), args, *is_prefix)?;
-        assert!(rt; is_answered(&answer, want), "{} copies", args.2);
+        assert!(rt;
+            are_args_so(rt.alloc(), args, *is_prefix, want)?,
+            "{} copies",
+            args.2
+        );
     }
     Ok(())
 }

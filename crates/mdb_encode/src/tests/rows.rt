@@ -1,8 +1,7 @@
 //! Rows and their keys.
 
-use super::samples::{Sample, Width, are_keys, row_answer};
-use crate::KeyError;
-use std::alloc::Global;
+use super::answers::row_gives;
+use super::samples::{Sample, Width};
 use std::test::Fail;
 
 /// Rows, and their keys in hexadecimal or the refusal.
@@ -183,30 +182,10 @@ const ROWS: [(Sample, &str, &str); 98] = [
     (Sample::Mixed, "{\"b\":256}", ""),
 ];
 
-/// The word for a refusal.
-fn word(error: KeyError) -> &'static str {
-    match error {
-        KeyError::Memory => "Memory",
-        KeyError::WrongKind => "WrongKind",
-        KeyError::OutOfRange => "OutOfRange",
-        KeyError::BadUuid => "BadUuid",
-        KeyError::TooMany => "TooMany",
-        KeyError::TooLong => "TooLong",
-    }
-}
-
-/// Whether the row has these keys, or is refused so.
-fn gives(alloc: Global, sample: Sample, row: &str, want: &str) -> Result<bool, Fail> {
-    match row_answer(alloc, sample, row)? {
-        Ok(keys) => are_keys(alloc, &keys, want),
-        Err(error) => Ok(word(error) == want),
-    }
-}
-
 #[test]
 fn rows_give_their_keys(rt: HostRuntime) -> Result<(), Fail> {
     for (sample, row, want) in &ROWS {
-        assert!(rt; gives(rt.alloc(), *sample, *row, *want)?, "{row}");
+        assert!(rt; row_gives(rt.alloc(), *sample, *row, *want)?, "{row}");
     }
     Ok(())
 }

@@ -1,15 +1,13 @@
-//! The indexers, rows and arguments of the tests, and keys in hexadecimal.
+//! The indexers of the tests.
 ghost use Rattle.std.specs.Prelude.{◌≡◌, ◌++◌, ◌∷◌, [], false, IfOk, OnOk};
-ghost use Rattle.mdb_datum.specs.Datum.{doc_of, members_of};
-ghost use Rattle.mdb_datum.specs.Row.{IsCanonicalRow};
+ghost use Rattle.mdb_datum.specs.Datum.{doc_of};
 ghost use Rattle.mdb_encode.specs.Indexer.{str, uint};
 ghost use Rattle.mdb_encode.specs.Kind.{indexer_of, indexers_of};
 ghost use Rattle.mdb_encode.specs.Lawful.{IsLawful, IsScalar, IsWidth};
 
-use crate::{ArgError, Key, KeyError, Keys, Kind, Kinds, arg_key, keys_of, prefix_key};
-use mdb_datum::{Datum, Items, Members, Row, Text, read_doc};
+use crate::{Kind, Kinds};
+use mdb_datum::{Datum, Text};
 use std::alloc::{AllocError, Global};
-use std::test::Fail;
 
 /// An indexer over the member `f`, or over `a` and `b`.
 #[derive(Clone, Copy)]
@@ -66,7 +64,7 @@ impl Width {
 }
 
 /// The kind of a sample.
-fn kind_of(alloc: Global, sample: Sample) -> Result<Kind, AllocError>
+pub(super) fn kind_of(alloc: Global, sample: Sample) -> Result<Kind, AllocError>
     ensures { IfOk result (λ kind. IsLawful (indexer_of kind)) }
 {
     match sample {
@@ -214,111 +212,4 @@ fn mixed(alloc: Global) -> Result<Kind, AllocError>
         parts,
         allow_missing: false,
     })
-}
-
-/// The members of an object.
-#[tactic(auto, using(mdb_datum::proofs::Variants::doc_of_members))]
-fn members_in(alloc: Global, text: &str) -> Result<Members, Fail>
-    ensures { IfOk result (λ members. IsCanonicalRow (members_of members)) }
-{
-    match read_doc(alloc, text.as_bytes())? {
-        Datum::Members(members) => Ok(members),
-        _ => Err(Fail::from("no object")),
-    }
-}
-
-/// The row of an object.
-fn row_in(alloc: Global, text: &str) -> Result<Row, Fail> {
-    let members = members_in(alloc, text)?;
-    Ok(Row::of(alloc, members)?)
-}
-
-/// The arguments of a list.
-pub(super) fn items_in(alloc: Global, text: &str) -> Result<Items, Fail> {
-    match read_doc(alloc, text.as_bytes())? {
-        Datum::Items(items) => Ok(items),
-        _ => Err(Fail::from("no list")),
-    }
-}
-
-/// What a row gives in the index of a sample. Want of memory fails the test.
-pub(super) fn row_answer(
-    alloc: Global,
-    sample: Sample,
-    row: &str,
-) -> Result<Result<Keys, KeyError>, Fail> {
-    match kind_of(alloc, sample) {
-        Ok(kind) => keys_in(alloc, &kind, row),
-        Err(_) => Err(Fail::from("memory")),
-    }
-}
-
-/// What a row gives in an index.
-fn keys_in(alloc: Global, kind: &Kind, row: &str) -> Result<Result<Keys, KeyError>, Fail>
-    requires { IsLawful (indexer_of kind.now) }
-{
-    let row = row_in(alloc, row)?;
-    match keys_of(alloc, kind, &row) {
-        Err(KeyError::Memory) => Err(Fail::from("memory")),
-        answer => Ok(answer),
-    }
-}
-
-/// What arguments give in the index of a sample, exact or in the prefix form. Want of memory fails
-/// the test.
-pub(super) fn arg_answer(
-    alloc: Global,
-    sample: Sample,
-    args: &Items,
-    is_prefix: bool,
-) -> Result<Result<Key, ArgError>, Fail> {
-    match kind_of(alloc, sample) {
-        Ok(kind) => key_in(alloc, &kind, args, is_prefix),
-        Err(_) => Err(Fail::from("memory")),
-    }
-}
-
-/// What arguments give in an index, exact or in the prefix form.
-fn key_in(
-    alloc: Global,
-    kind: &Kind,
-    args: &Items,
-    is_prefix: bool,
-) -> Result<Result<Key, ArgError>, Fail>
-    requires { IsLawful (indexer_of kind.now) }
-{
-    let answer = if is_prefix {
-        prefix_key(alloc, kind, args)
-    } else {
-        arg_key(alloc, kind, args)
-    };
-    match answer {
-        Err(ArgError::Memory) => Err(Fail::from("memory")),
-        answer => Ok(answer),
-    }
-}
-
-/// Adds the bytes of a key in hexadecimal.
-fn push_hex(text: &mut String, key: &Key) -> Result<(), AllocError> {
-    for byte in key.bytes() {
-        write!(text, "{byte:02x}")?;
-    }
-    Ok(())
-}
-
-/// Whether a key has these bytes, in hexadecimal.
-pub(super) fn is_key(alloc: Global, key: &Key, want: &str) -> Result<bool, Fail> {
-    let mut text = String::new(alloc);
-    push_hex(&mut text, key)?;
-    Ok(text.as_str() == want)
-}
-
-/// Whether these are the keys, in hexadecimal, each before a semicolon.
-pub(super) fn are_keys(alloc: Global, keys: &Keys, want: &str) -> Result<bool, Fail> {
-    let mut text = String::new(alloc);
-    for key in keys.iter() {
-        push_hex(&mut text, key)?;
-        text.push_str(";")?;
-    }
-    Ok(text.as_str() == want)
 }

@@ -17,43 +17,62 @@ fn is_renamed(rt: &HostRuntime, from: &str, to: &str) -> bool {
     fs::rename(rt, from, to).is_ok()
 }
 
+/// A file gives its own bytes also after another has come in its place.
+fn stays_one_version<F: Files>(rt: &HostRuntime, files: &mut F) -> bool {
+    is_written(rt, "old", "first")
+        && is_written(rt, "new", "2nd")
+        && gives(files, "old", 0, b"fi")
+        && is_renamed(rt, "new", "old")
+        && gives(files, "old", 2, b"rs")
+        && gives(files, "old", 0, b"fi")
+        && is_removed(rt, "old")
+}
+
 #[test]
 fn a_file_that_is_replaced_while_it_is_read_stays_one_version(rt: HostRuntime) {
-    let mut files = DirFiles::new(&rt);
-    let are_there = is_written(&rt, "old", "first") && is_written(&rt, "new", "2nd");
-    let begins = are_there && gives(&mut files, "old", 0, b"fi");
-    let goes_on = is_renamed(&rt, "new", "old") && gives(&mut files, "old", 2, b"rs");
-    let begins_again = gives(&mut files, "old", 0, b"fi");
-    let is_tidy = is_removed(&rt, "old");
-    assert!(rt; begins && goes_on && begins_again && is_tidy);
+    assert!(rt; stays_one_version(&rt, &mut DirFiles::new(&rt)));
+}
+
+/// A file that is gone is missed once another was read.
+fn misses_what_is_gone<F: Files>(rt: &HostRuntime, files: &mut F) -> bool {
+    is_written(rt, "one", "1st")
+        && is_written(rt, "two", "2nd")
+        && gives(files, "one", 1, b"st")
+        && gives(files, "two", 0, b"2n")
+        && is_removed(rt, "one")
+        && fetch_first(files, "one") == Err(Failed)
+        && is_removed(rt, "two")
 }
 
 #[test]
 fn a_file_is_opened_anew_after_another_one(rt: HostRuntime) {
-    let mut files = DirFiles::new(&rt);
-    let are_there = is_written(&rt, "one", "1st") && is_written(&rt, "two", "2nd");
-    let are_read = gives(&mut files, "one", 1, b"st") && gives(&mut files, "two", 0, b"2n");
-    let is_absent = is_removed(&rt, "one") && fetch_first(&mut files, "one") == Err(Failed);
-    let is_tidy = is_removed(&rt, "two");
-    assert!(rt; are_there && are_read && is_absent && is_tidy);
+    assert!(rt; misses_what_is_gone(&rt, &mut DirFiles::new(&rt)));
+}
+
+/// A file is read that came after it was missed.
+fn reads_what_came_late<F: Files>(rt: &HostRuntime, files: &mut F) -> bool {
+    fetch_first(files, "late") == Err(Failed)
+        && is_written(rt, "late", "3rd")
+        && gives(files, "late", 0, b"3r")
+        && is_removed(rt, "late")
 }
 
 #[test]
 fn a_file_is_opened_anew_after_a_failure(rt: HostRuntime) {
-    let mut files = DirFiles::new(&rt);
-    let is_absent = fetch_first(&mut files, "late") == Err(Failed);
-    let is_read = is_written(&rt, "late", "3rd") && gives(&mut files, "late", 0, b"3r");
-    let is_tidy = is_removed(&rt, "late");
-    assert!(rt; is_absent && is_read && is_tidy);
+    assert!(rt; reads_what_came_late(&rt, &mut DirFiles::new(&rt)));
+}
+
+/// A file is read to its end.
+fn ends<F: Files>(rt: &HostRuntime, files: &mut F) -> bool {
+    is_written(rt, "short", "xy")
+        && gives(files, "short", 0, b"xy")
+        && files.fetch("short", 2, &mut [0]) == Ok(0)
+        && is_removed(rt, "short")
 }
 
 #[test]
 fn nothing_comes_at_the_end_of_a_file(rt: HostRuntime) {
-    let mut files = DirFiles::new(&rt);
-    let is_read = is_written(&rt, "short", "xy") && gives(&mut files, "short", 0, b"xy");
-    let ends = files.fetch("short", 2, &mut [0]) == Ok(0);
-    let is_tidy = is_removed(&rt, "short");
-    assert!(rt; is_read && ends && is_tidy);
+    assert!(rt; ends(&rt, &mut DirFiles::new(&rt)));
 }
 
 #[test]
