@@ -12,7 +12,7 @@ use Rattle.mdb_datum.specs.declared.datum.Items.{Items}
 use Rattle.mdb_datum.specs.declared.datum.Members.{Members}
 use Rattle.mdb_datum.proofs.Variants.{doc_of_items, doc_of_members, docs_there_and_back, fields_there_and_back}
 use Rattle.client_script.specs.Parts.{object_in, is_scalar}
-use Rattle.client_script.specs.inner.LineDoc.{list_in}
+use Rattle.mdb_schema.specs.Shapes.{list_in}
 
 pub object_found : (d : datum.Datum) (m : Members) → d ≡ datum.Members m → Some (members_of m) ≡ object_in (read_as (doc_of d))
 object_found d m is =

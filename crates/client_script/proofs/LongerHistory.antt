@@ -21,6 +21,7 @@ use Rattle.client_script.specs.Turn.{Turn, insert_reply, turn, write_turn, wipe_
 use Rattle.client_script.specs.Legal.{number_printed}
 use Rattle.client_script.specs.Session.{IsCommit, IsEntry, IsAnswered, of_rows, of_watches, Answers, Runs, Session}
 use Rattle.client_script.specs.Spent.{IsSpent, IsTold, by_turn, without_ids}
+use Rattle.client_script.specs.Within.{AllWithin, IsWithin, StandsWithin}
 use Rattle.client_script.specs.Watching.{IsWatchTold, asked_watched, watch_turn, with_watch}
 use Rattle.client_script.proofs.SpentIds.{told_so}
 use Rattle.client_script.proofs.WatchLines.{IsAside, aside, watch_line_longer}
@@ -35,20 +36,6 @@ state_longer schema H more n there = ap (after_commits schema (empty_state schem
 -- what is seen
 seen_longer : (schema : DbSchema) (H more : History) (s : Sight) → s.number ≤ length H → state_seen schema (H ++ more) s ≡ state_seen schema H s
 seen_longer schema H more s there = ap (λ (x : State). after_writes schema x s.writes) (state_longer schema H more s.number there)
-
--- a transaction stands on one of the first n commits, and so does each snapshot
-abbrev pub StandsWithin : ℕ → Transaction → Type 0
-StandsWithin n closed = ⊤
-StandsWithin n (reading m) = m ≤ n
-StandsWithin n (writing t) = t.number ≤ n
-
-abbrev pub AllWithin : ℕ → List Snapshot → Type 0
-AllWithin n [] = ⊤
-AllWithin n (s ∷ ss) = (s.sight.number ≤ n) × AllWithin n ss
-
-pub record IsWithin (n : ℕ) (v : Client) : Type 0 where
-  pub transaction : StandsWithin n v.transaction
-  pub snapshots : AllWithin n v.snapshots
 
 client : ℕ → Transaction → List Snapshot → Watching → Client
 client last t ss g = record { last = last; transaction = t; snapshots = ss; watching = g }

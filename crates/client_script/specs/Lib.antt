@@ -14,4 +14,5 @@ pub mod Session
 pub mod Spent
 pub mod Turn
 pub mod Watching
+pub mod Within
 pub mod worked

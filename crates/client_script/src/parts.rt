@@ -7,9 +7,10 @@ ghost use Rattle.mdb_datum.specs.Datum.{doc_of, items_of, members_of};
 ghost use Rattle.mdb_datum.specs.Reading.{reading, read_as};
 ghost use Rattle.mdb_datum.specs.Row.{IsCanonicalRow};
 ghost use Rattle.mdb_schema.specs.Names.{is_name_byte};
+ghost use Rattle.mdb_schema.specs.Shapes.{list_in};
 ghost use Rattle.client_script.specs.Parts.{next_word, something, nothing, name_in, is_index_word, index_name_in, object_in, row_in, is_scalar, scalars_in, args_in, is_digit, is_limit, limit_in};
 ghost use Rattle.client_script.specs.inner.LineAnswer.{Answers, rule_of};
-ghost use Rattle.client_script.specs.inner.LineDoc.{doc_in, list_in};
+ghost use Rattle.client_script.specs.inner.LineDoc.{doc_in};
 ghost use Rattle.client_script.specs.inner.WordView.{word_of};
 
 use crate::line_error::LineError;

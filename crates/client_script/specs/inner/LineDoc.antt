@@ -1,6 +1,6 @@
 -- The document that the rest of a line reads as.
-use Rattle.std.specs.Prelude.{List, Option, Some, None, Ok, Err}
-use Rattle.mdb_datum.specs.Doc.{Doc, list, docs_in}
+use Rattle.std.specs.Prelude.{Ok, Err}
+use Rattle.mdb_datum.specs.Doc.{Doc}
 use Rattle.mdb_datum.specs.Reading.{Reading, read_as, no_json, too_deep, not_whole}
 use Rattle.client_script.specs.Refusal.{Ruled, bad_doc}
 
@@ -9,8 +9,3 @@ doc_in (read_as d) = Ok d
 doc_in no_json = Err bad_doc
 doc_in too_deep = Err bad_doc
 doc_in not_whole = Err bad_doc
-
--- the items of a list
-abbrev pub list_in : Doc → Option (List Doc)
-list_in (list ds) = Some (docs_in ds)
-list_in d = None
