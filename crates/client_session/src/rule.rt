@@ -14,7 +14,7 @@ pub(crate) enum Rule {
     TransactionOpen,
     /// There are as many commits as can be counted.
     CommitsSpent,
-    /// There are too few ids for the rows that a wipe takes out.
+    /// There are too few ids of watch cells for the rows that a line writes.
     IdsSpent,
     /// No transaction is open.
     NoTransaction,

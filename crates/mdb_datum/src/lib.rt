@@ -6,8 +6,8 @@
 //! form, and the text of a canonical document reads as that document.
 //!
 //! Reading and writing take time and memory in proportion to the text. A look-up by place takes
-//! constant time, and one by name time in the logarithm of the number of members. Sharing a row
-//! takes no memory.
+//! constant time. A member of a row is found in the logarithm of their number, and one of an object
+//! inside a row by a walk from the front. Sharing a row takes no memory.
 #![tactic(auto)]
 
 mod datum;

@@ -52,8 +52,8 @@ impl Row {
         &self.members
     }
 
-    /// A second owner of the same row. It takes no memory, and is refused only where the row has
-    /// as many owners as can be counted, 2^63 - 1.
+    /// A second owner of the same row. It takes no memory. `AllocError` comes where the kit's `Arc`
+    /// refuses one more owner.
     pub fn share(&self) -> Result<Row, AllocError>
         ensures { IfOk result (λ r. r ≡ self.now) }
     {

@@ -28,7 +28,7 @@ pub fn write_doc(alloc: Global, document: &Datum) -> Result<Vec<u8>, AllocError>
     Ok(out.into_inner())
 }
 
-/// The compact text of the object with these members, in memory from where they lie.
+/// The compact text of the object with these members, in memory of the members' allocator.
 pub(crate) fn write_members(members: &Members) -> Result<Vec<u8>, AllocError>
     ensures text { IfOk result (λ v. v.items ≡ row_text (members_of members.now)) }
     ensures reads_back { let row = object (field_list (members_of members.now)) in

@@ -3,7 +3,7 @@ use crate::gate::Gate;
 use std::hint::spin_loop;
 use std::sync::atomic::{AtomicBool, Ordering};
 
-/// As often a held line looks whether it may go on.
+/// How often a held line looks whether it may go on.
 const TURNS: u32 = 1 << 28;
 
 /// A line of a client that waits until another client's line is answered. Clients and lines count
@@ -43,7 +43,7 @@ impl Latch {
         }
     }
 
-    /// Waits, where this is the line that is held. It tells whether the wait came to its end.
+    /// Waits, where this is the line that is held. False where it gave up.
     fn pass(&self, client: u32, line: u32) -> bool {
         if self.hold.client != client || self.hold.line != line {
             return true;

@@ -29,7 +29,7 @@ abbrev pub AnswersAsk : asked.Asked Answer → Result Answer AskError → Type 0
 AnswersAsk (Ok a) result = MatchResult result (λ found. found ≡ a) (λ e. e ≡ ask_errors.Memory)
 AnswersAsk (Err r) result = result ≡ Err (ask_error r)
 
--- the error of a write
+-- the error of a write of a table; that has been found, so the first case doesn't come
 abbrev pub write_error : written.WriteRefusal → WriteError
 write_error written.unknown_table = write_errors.NotFound
 write_error written.no_id = write_errors.NoId

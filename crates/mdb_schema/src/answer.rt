@@ -6,6 +6,8 @@ use mdb_datum::Row;
 /// list.
 #[derive(Drop)]
 pub enum Answer {
+    /// One row, or none.
     One(Option<Row>),
+    /// The rows, in the order asked for.
     Many(Rows),
 }

@@ -99,8 +99,8 @@ impl Query {
         })
     }
 
-    /// A second owner of the same question. It takes no memory, and is refused only for want of
-    /// room to count one more owner.
+    /// A second owner of the same question. It takes no memory. `AllocError` comes where the kit's
+    /// `Arc` refuses one more owner.
     pub fn share(&self) -> Result<Query, AllocError>
         ensures { IfOk result (λ q. q ≡ self.now) }
     {

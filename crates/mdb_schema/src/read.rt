@@ -250,7 +250,7 @@ fn table_in(alloc: Global, name: &Text, document: &Datum) -> Result<TableDef, Sc
 fn is_version_one(number: i128) -> bool
     ensures { result ≡ is_version_one number }
 {
-    matches!(number, 1)
+    number == 1
 }
 
 /// The members for the tables of a schema.

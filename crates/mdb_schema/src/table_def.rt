@@ -55,8 +55,8 @@ impl TableDef {
         })
     }
 
-    /// A second owner of the same definition. It takes no memory, and is refused only where it has
-    /// as many owners as can be counted, 2^63 - 1.
+    /// A second owner of the same definition. It takes no memory. `AllocError` comes where the kit's
+    /// `Arc` refuses one more owner.
     pub fn share(&self) -> Result<TableDef, AllocError>
         ensures { IfOk result (λ t. t ≡ self.now) }
     {

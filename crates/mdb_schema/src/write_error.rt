@@ -28,7 +28,7 @@ pub enum WriteError {
     KeyTaken { index: u32 },
     /// No row has this `id` key.
     NotFound,
-    /// The ids of watch cells are spent.
+    /// Fewer than 2^26 ids of watch cells are left.
     IdsSpent,
 }
 

@@ -21,7 +21,7 @@ pub struct Output {
 
 const USAGE: &[u8] = b"usage: memdb run SCHEMA CLIENT...\n       memdb make NUMBER CLIENTS COUNT\n";
 
-/// The words are no command.
+/// What is written where the words are no command.
 pub fn usage(alloc: Global) -> Result<Output, AllocError>
     ensures { IfOk result (λ output. (output.status ≡ 1) × (output.text.items ≡ usage_text)) }
 {
