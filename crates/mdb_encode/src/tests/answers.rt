@@ -99,6 +99,14 @@ fn has_keys(alloc: Global, kind: &Kind, row: &Row, want: &str) -> Result<bool, F
 }
 
 /// Whether the row has these keys in the index of a sample, or is refused so.
+fn is_indexed(alloc: Global, sample: Sample, row: &Row, want: &str) -> Result<bool, Fail> {
+    match kind_of(alloc, sample) {
+        Ok(kind) => has_keys(alloc, &kind, row, want),
+        Err(_) => Err(Fail::from("memory")),
+    }
+}
+
+/// The same of a row that is read from its text.
 pub(super) fn row_gives(
     alloc: Global,
     sample: Sample,
@@ -106,10 +114,7 @@ pub(super) fn row_gives(
     want: &str,
 ) -> Result<bool, Fail> {
     let row = row_in(alloc, row)?;
-    match kind_of(alloc, sample) {
-        Ok(kind) => has_keys(alloc, &kind, &row, want),
-        Err(_) => Err(Fail::from("memory")),
-    }
+    is_indexed(alloc, sample, &row, want)
 }
 
 /// Whether the answer is this key, or this refusal.
