@@ -1,13 +1,14 @@
 -- A walk from a bound that is at a node on the path of its key: the rows so far and those that are
 -- left are the whole.
-use Rattle.std.proofs.Common.{◌≡◌, ◌++◌, ◌∷◌, ◌∙◌, ℕ, Bool, true, false, cond, List, [], Some, None, refl, sym, ap, append_assoc, subst, is_lt, is_gt}
+use Rattle.std.proofs.Common.{◌≡◌, ◌++◌, ◌∷◌, ◌∙◌, ℕ, Bool, true, false, cond, List, [], Bor, Option, Some, None, option_map, refl, sym, ap, append_assoc, subst, is_lt, is_gt}
 use Rattle.std.proofs.lemmas.List.{append-nil}
 use Rattle.mdb_datum.specs.Bytes.{byte_order}
 use Rattle.mdb_datum.specs.Pairs.{at_least, at_most, rows_of}
 use Rattle.mdb_datum.specs.Row.{Fields, Pair}
-use Rattle.radix_node.specs.Node.{PlainNode, below, edge_of, rest_past}
+use Rattle.radix_node.specs.Node.{PlainNode, below, edge_of, plain_node, rest_past}
 use Rattle.radix_node.specs.Nodes.{Nodes, Plain, pairs_of_leaf, pairs_of_nodes, pairs_of}
 use Rattle.radix_node.specs.Shape.{IsShaped, HasShape}
+use Rattle.radix_node.specs.declared.node.Node.{Node}
 use Rattle.radix_node.proofs.KeyOrder.{same_start}
 use Rattle.radix_node.proofs.LookupSteps.{child_shaped, led, rest_past_label}
 use Rattle.radix_node.proofs.PathFilter.{when, walked_plain, walked_node, walked_edge, walked_onward}
@@ -22,6 +23,17 @@ root_shaped t n s is = subst (λ (u : Plain). IsShaped [] u.nodes) (sym is) s.no
 when_cond : (b : Bool) (ps : List Pair) → when b ps ≡ cond b ps []
 when_cond true ps = refl
 when_cond false ps = refl
+
+-- ---- the node at an edge, once a search has told whether there is one
+
+abbrev pub child_at : ℕ → Option (Bor Node) → Option PlainNode
+child_at x o = option_map (λ (m : Bor Node). led x (plain_node m.now)) o
+
+pub no_child : (x : ℕ) (n : Option PlainNode) (o : Option (Bor Node)) → o ≡ None → child_at x o ≡ n → None ≡ n
+no_child x n o none is = ap (child_at x) (sym none) ∙ is
+
+pub one_child : (x : ℕ) (n : Option PlainNode) (o : Option (Bor Node)) (m : Bor Node) → o ≡ Some m → child_at x o ≡ n → Some (led x (plain_node m.now)) ≡ n
+one_child x n o m some is = ap (child_at x) (sym some) ∙ is
 
 -- ---- at least a key, the last first
 
@@ -85,11 +97,11 @@ down_root key t n rows s is = record {
 }
 
 module _ (whole rows : List Fields) (k : List ℕ) (n : PlainNode) (on : IsDown whole rows k n) where
-  module _ (x : ℕ) (after : List ℕ) (first : k ≡ x ∷ after) (now : List Fields) (added : now ≡ rows ++ rows_of (pairs_of_leaf n.leaf ++ pairs_of_nodes (lower x n.under))) where
+  module _ (x : ℕ) (after : List ℕ) (first : k ≡ x ∷ after) (now : List Fields) (beside : Nodes) (are_lower : beside ≡ lower x n.under) (added : now ≡ rows ++ rows_of (pairs_of_leaf n.leaf ++ pairs_of_nodes beside)) where
     down_by_edge : now ++ rows_of (walked_edge downward (x ∷ after) (edge_of x n.under)) ≡ whole
     down_by_edge =
         let at = walked_edge downward (x ∷ after) (edge_of x n.under) in
-        ap (λ (z : List Fields). z ++ rows_of at) added
+        ap (λ (z : List Fields). z ++ rows_of at) (added ∙ ap (λ (ns : Nodes). rows ++ rows_of (pairs_of_leaf n.leaf ++ pairs_of_nodes ns)) are_lower)
         ∙ more rows (pairs_of_leaf n.leaf ++ pairs_of_nodes (lower x n.under)) at
         ∙ ap (λ (ps : List Pair). rows ++ rows_of ps)
         (append_assoc (pairs_of_leaf n.leaf) (pairs_of_nodes (lower x n.under)) at

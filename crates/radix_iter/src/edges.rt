@@ -1,7 +1,7 @@
 //! Edges of a node as slices, whose nodes a walk goes down to.
-ghost use Rattle.std.specs.Prelude.{◌≡◌, map};
+ghost use Rattle.std.specs.Prelude.{◌≡◌, map, option_map};
 ghost use Rattle.radix_node.specs.Edges.{EdgesRise};
-ghost use Rattle.radix_node.specs.Node.{edge_node, nodes_in, plain_node};
+ghost use Rattle.radix_node.specs.Node.{edge_node, edge_of, labelled, nodes_in, plain_node};
 ghost use Rattle.radix_iter.specs.inner.Beside.{higher, lower};
 
 use radix_node::{Edge, Node};
@@ -13,29 +13,38 @@ pub fn edges_under(node: &Node) -> &[Edge]
     node.edges().iter().as_slice()
 }
 
-/// The edges of higher labels. It takes time in the logarithm of the number of edges.
-pub fn edges_above(node: &Node, label: u8) -> &[Edge]
+/// The node at the edge of a label, if there is one, and the edges of higher labels. They are found
+/// by one search, in the logarithm of the number of edges.
+pub fn child_and_higher(node: &Node, label: u8) -> (Option<&Node>, &[Edge])
     requires { let n = plain_node node.now in EdgesRise n.under }
-    ensures { let n = plain_node node.now in
-        nodes_in (map edge_node result.now) ≡ higher label n.under }
+    ensures child { let n = plain_node node.now in
+        option_map (λ m. labelled (record { label = label; node = plain_node m.now })) result.0
+        ≡ edge_of label n.under }
+    ensures higher { let n = plain_node node.now in
+        nodes_in (map edge_node result.1.now) ≡ higher label n.under }
 {
     let edges = node.edges();
     let all = edges.iter().as_slice();
-    match edges.find(label) {
-        Ok(at) => all.split_at(at + 1).1,
-        Err(at) => all.split_at(at).1,
+    match edges.find_edge(label) {
+        Ok((at, edge)) => (Some(edge.node()), all.split_at(at + 1).1),
+        Err(at) => (None, all.split_at(at).1),
     }
 }
 
-/// The edges of lower labels. It takes time in the logarithm of the number of edges.
-pub fn edges_below(node: &Node, label: u8) -> &[Edge]
+/// The edges of lower labels, and the node at the edge of a label, if there is one. They are found
+/// as by [`child_and_higher`].
+pub fn lower_and_child(node: &Node, label: u8) -> (&[Edge], Option<&Node>)
     requires { let n = plain_node node.now in EdgesRise n.under }
-    ensures { let n = plain_node node.now in
-        nodes_in (map edge_node result.now) ≡ lower label n.under }
+    ensures lower { let n = plain_node node.now in
+        nodes_in (map edge_node result.0.now) ≡ lower label n.under }
+    ensures child { let n = plain_node node.now in
+        option_map (λ m. labelled (record { label = label; node = plain_node m.now })) result.1
+        ≡ edge_of label n.under }
 {
     let edges = node.edges();
     let all = edges.iter().as_slice();
-    match edges.find(label) {
-        Ok(at) | Err(at) => all.split_at(at).0,
+    match edges.find_edge(label) {
+        Ok((at, edge)) => (all.split_at(at).0, Some(edge.node())),
+        Err(at) => (all.split_at(at).0, None),
     }
 }

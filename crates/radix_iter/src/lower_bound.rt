@@ -4,7 +4,7 @@ ghost use Rattle.mdb_datum.specs.Pairs.{at_least, rows_of};
 ghost use Rattle.radix_node.specs.Cells.{plain_of};
 ghost use Rattle.radix_node.specs.Nodes.{pairs_of};
 
-use crate::edges::edges_above;
+use crate::edges::child_and_higher;
 use crate::gather::{push_all_falling, push_falling, push_if_higher};
 use crate::walk::Walk;
 use mdb_datum::Row;
@@ -31,8 +31,9 @@ fn push_at_least(rows: &mut Vec<Row>, tree: &Tree, key: &[u8]) -> Result<(), All
     let mut node = tree.root();
     let mut rest = key;
     while let Some((first, after)) = rest.split_first() {
-        push_falling(rows, edges_above(node, *first))?;
-        let Some(child) = node.child(*first) else {
+        let (child, higher) = child_and_higher(node, *first);
+        push_falling(rows, higher)?;
+        let Some(child) = child else {
             return Ok(());
         };
         let Some(left) = child.strip_prefix(after) else {

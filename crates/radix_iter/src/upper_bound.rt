@@ -1,17 +1,15 @@
 //! The walk down from a key.
-ghost use Rattle.std.specs.Prelude.{◌≡◌, ◌++◌, IfOk, reverse};
+ghost use Rattle.std.specs.Prelude.{◌≡◌, ◌++◌, IfOk, map, reverse};
 ghost use Rattle.mdb_datum.specs.Pairs.{at_most, rows_of};
-ghost use Rattle.radix_node.specs.Edges.{EdgesRise};
 ghost use Rattle.radix_node.specs.Cells.{plain_of};
-ghost use Rattle.radix_node.specs.Node.{plain_node};
+ghost use Rattle.radix_node.specs.Node.{edge_node, nodes_in, plain_node};
 ghost use Rattle.radix_node.specs.Nodes.{pairs_of, pairs_of_leaf, pairs_of_nodes};
-ghost use Rattle.radix_iter.specs.inner.Beside.{lower};
 
-use crate::edges::edges_below;
+use crate::edges::lower_and_child;
 use crate::gather::{push_if_lower, push_own, push_rising};
 use crate::walk::Walk;
 use mdb_datum::Row;
-use radix_node::{Node, Tree};
+use radix_node::{Edge, Node, Tree};
 use std::alloc::{AllocError, Global};
 
 /// A walk over the rows of keys that are at most `key`, against the order of the keys. It takes
@@ -33,8 +31,9 @@ fn push_at_most(rows: &mut Vec<Row>, tree: &Tree, key: &[u8]) -> Result<(), Allo
     let mut node = tree.root();
     let mut rest = key;
     while let Some((first, after)) = rest.split_first() {
-        push_before(rows, node, *first)?;
-        let Some(child) = node.child(*first) else {
+        let (lower, child) = lower_and_child(node, *first);
+        push_before(rows, node, lower)?;
+        let Some(child) = child else {
             return Ok(());
         };
         let Some(left) = child.strip_prefix(after) else {
@@ -46,13 +45,12 @@ fn push_at_most(rows: &mut Vec<Row>, tree: &Tree, key: &[u8]) -> Result<(), Allo
     push_own(rows, node)
 }
 
-/// Adds the rows that come before those at the edge of a label: the node's own, and those under the
-/// lower edges.
-fn push_before(rows: &mut Vec<Row>, node: &Node, label: u8) -> Result<(), AllocError>
-    requires { let n = plain_node node.now in EdgesRise n.under }
-    ensures { let n = plain_node node.now in IfOk result (λ _. rows.new.items
-        ≡ rows.old.items ++ rows_of (pairs_of_leaf n.leaf ++ pairs_of_nodes (lower label n.under))) }
+/// Adds the rows that come before those at the edge of a label: the node's own, and those under
+/// `lower`, the edges of lower labels.
+fn push_before(rows: &mut Vec<Row>, node: &Node, lower: &[Edge]) -> Result<(), AllocError>
+    ensures { let n = plain_node node.now in IfOk result (λ _. rows.new.items ≡ rows.old.items
+        ++ rows_of (pairs_of_leaf n.leaf ++ pairs_of_nodes (nodes_in (map edge_node lower.now)))) }
 {
     push_own(rows, node)?;
-    push_rising(rows, edges_below(node, label))
+    push_rising(rows, lower)
 }
