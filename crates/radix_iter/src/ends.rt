@@ -14,7 +14,8 @@ use radix_node::{Leaf, Node, Tree};
 /// The row of the lowest key that begins with a prefix, if there is one. It takes no memory, and
 /// time in the length of the prefix and in the depth of the tree.
 pub fn first<'a>(tree: &'a Tree, prefix: &[u8]) -> Option<&'a Row>
-    ensures { option_copied result ≡ first_item (rows_of (with_prefix prefix.now (pairs_of (plain_of tree.now)))) }
+    ensures { option_copied result
+        ≡ first_item (rows_of (with_prefix prefix.now (pairs_of (plain_of tree.now)))) }
 {
     Some(first_leaf(tree.seek(prefix)?)?.row())
 }
@@ -22,7 +23,8 @@ pub fn first<'a>(tree: &'a Tree, prefix: &[u8]) -> Option<&'a Row>
 /// The row of the highest key that begins with a prefix, if there is one. It takes no memory, and
 /// time in the length of the prefix and in the depth of the tree.
 pub fn last<'a>(tree: &'a Tree, prefix: &[u8]) -> Option<&'a Row>
-    ensures { option_copied result ≡ last_item (rows_of (with_prefix prefix.now (pairs_of (plain_of tree.now)))) }
+    ensures { option_copied result
+        ≡ last_item (rows_of (with_prefix prefix.now (pairs_of (plain_of tree.now)))) }
 {
     Some(last_leaf(tree.seek(prefix)?)?.row())
 }

@@ -46,8 +46,8 @@ pub fn push_all_rising(rows: &mut Vec<Row>, node: &Node) -> Result<(), AllocErro
 
 /// Adds the rows of the nodes that edges lead to and of those under them, the last first.
 pub fn push_falling(rows: &mut Vec<Row>, edges: &[Edge]) -> Result<(), AllocError>
-    ensures { IfOk result (λ _. rows.new.items
-        ≡ rows.old.items ++ reverse (rows_of (pairs_of_nodes (nodes_in (map edge_node edges.now))))) }
+    ensures { IfOk result (λ _. rows.new.items ≡ rows.old.items
+        ++ reverse (rows_of (pairs_of_nodes (nodes_in (map edge_node edges.now))))) }
 {
     for edge in edges.iter().rev() {
         let node = edge.node();
@@ -68,7 +68,8 @@ pub fn push_all_falling(rows: &mut Vec<Row>, node: &Node) -> Result<(), AllocErr
 
 /// Adds the rows of a node and of those under it, in order, if its prefix is below `rest`.
 pub fn push_if_lower(rows: &mut Vec<Row>, node: &Node, rest: &[u8]) -> Result<(), AllocError>
-    ensures { let n = plain_node node.now in IfOk result (λ _. rows.new.items ≡ rows.old.items ++ rows_of
+    ensures { let n = plain_node node.now in
+        IfOk result (λ _. rows.new.items ≡ rows.old.items ++ rows_of
         (if is_gt (byte_order rest.now n.prefix) then pairs_of (below_prefix node.now) else [])) }
 {
     if node.prefix() < rest {
@@ -79,8 +80,9 @@ pub fn push_if_lower(rows: &mut Vec<Row>, node: &Node, rest: &[u8]) -> Result<()
 
 /// Adds the rows of a node and of those under it, the last first, if its prefix is above `rest`.
 pub fn push_if_higher(rows: &mut Vec<Row>, node: &Node, rest: &[u8]) -> Result<(), AllocError>
-    ensures { let n = plain_node node.now in IfOk result (λ _. rows.new.items ≡ rows.old.items ++ reverse
-        (rows_of (if is_lt (byte_order rest.now n.prefix) then pairs_of (below_prefix node.now) else []))) }
+    ensures { let n = plain_node node.now in
+        IfOk result (λ _. rows.new.items ≡ rows.old.items ++ reverse (rows_of
+        (if is_lt (byte_order rest.now n.prefix) then pairs_of (below_prefix node.now) else []))) }
 {
     if rest < node.prefix() {
         push_all_falling(rows, node)?;

@@ -13,7 +13,8 @@ use std::alloc::{AllocError, Global};
 /// for the list of the rows, and is refused only for want of it, or of room to count one more owner
 /// of a row. It takes time in the length of the prefix and in the nodes under it.
 pub fn ascend(alloc: Global, tree: &Tree, prefix: &[u8]) -> Result<Walk, AllocError>
-    ensures { IfOk result (λ w. w ≡ rows_of (with_prefix prefix.now (pairs_of (plain_of tree.now)))) }
+    ensures { IfOk result
+        (λ w. w ≡ rows_of (with_prefix prefix.now (pairs_of (plain_of tree.now)))) }
 {
     let mut rows = Vec::new(alloc);
     if let Some(node) = tree.seek(prefix) {
@@ -25,7 +26,8 @@ pub fn ascend(alloc: Global, tree: &Tree, prefix: &[u8]) -> Result<Walk, AllocEr
 /// A walk over the rows whose keys begin with a prefix, against the order of the keys. It takes
 /// memory and time as [`ascend`] does.
 pub fn descend(alloc: Global, tree: &Tree, prefix: &[u8]) -> Result<Walk, AllocError>
-    ensures { IfOk result (λ w. w ≡ reverse (rows_of (with_prefix prefix.now (pairs_of (plain_of tree.now))))) }
+    ensures { IfOk result
+        (λ w. w ≡ reverse (rows_of (with_prefix prefix.now (pairs_of (plain_of tree.now))))) }
 {
     let mut rows = Vec::new(alloc);
     if let Some(node) = tree.seek(prefix) {

@@ -15,7 +15,8 @@ use std::alloc::{AllocError, Global};
 /// A walk over the rows of keys that are at most `key`, against the order of the keys. It takes
 /// memory and time as [`crate::from_key`] does.
 pub fn down_from(alloc: Global, tree: &Tree, key: &[u8]) -> Result<Walk, AllocError>
-    ensures { IfOk result (λ w. w ≡ reverse (rows_of (at_most key.now (pairs_of (plain_of tree.now))))) }
+    ensures { IfOk result
+        (λ w. w ≡ reverse (rows_of (at_most key.now (pairs_of (plain_of tree.now))))) }
 {
     let mut rows = Vec::new(alloc);
     push_at_most(&mut rows, tree, key)?;
