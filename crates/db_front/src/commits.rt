@@ -1,5 +1,5 @@
 //! The commit event, and its end.
-ghost use Rattle.std.specs.Prelude.{◌≡◌, ℕ, ◌+◌, ◌-◌, ◌≤◌, ◌^◌, List, [], ◌∷◌, ◌++◌, length, None};
+ghost use Rattle.std.specs.Prelude.{◌≡◌, ◌+◌, ◌-◌, ◌≤◌, ◌^◌, [], ◌∷◌, ◌++◌, length, None};
 ghost use Rattle.watch_word.specs.Logs.{Log};
 ghost use Rattle.db_front.specs.Commits.{HasFirings};
 ghost use Rattle.db_front.specs.inner.Seats.{IsSized, IsFree, IsSame, committing};

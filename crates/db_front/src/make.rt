@@ -1,5 +1,5 @@
 //! The front at its start, with its passes.
-ghost use Rattle.std.specs.Prelude.{IfOk, Some, ◌≡◌, ℕ, ◌+◌, ◌-◌, ◌<◌, ◌≤◌, [], ◌∷◌, ◌++◌, length};
+ghost use Rattle.std.specs.Prelude.{IfOk, Some, ◌≡◌, ◌+◌, ◌-◌, ◌<◌, ◌≤◌, [], ◌∷◌, length};
 ghost use Rattle.std.specs.Arc.{arc_value};
 ghost use Rattle.watch_word.specs.Logs.{Log};
 ghost use Rattle.db_front.specs.Passes.{fresh, all_fresh, AreAll, AreIdle};

@@ -1,5 +1,5 @@
 //! Turns: taken, given back, and what is seen while one is held.
-ghost use Rattle.std.specs.Prelude.{IfOk, OnOk, OnErr, ◌≢◌, ◌≡◌, ℕ, ◌+◌, ◌<◌, ◌≤◌, [], ◌∷◌, ◌++◌, length, None};
+ghost use Rattle.std.specs.Prelude.{IfOk, OnOk, OnErr, ◌≢◌, ◌≡◌, ◌+◌, ◌<◌, ◌≤◌, [], ◌∷◌, ◌++◌, None};
 ghost use Rattle.db_front.specs.Commits.{HasFirings};
 ghost use Rattle.db_front.specs.inner.Seats.{IsSized, IsFree, IsSame, Entered, Began, Sees, SeesBegun};
 
@@ -34,6 +34,7 @@ fn rest<V: Version, R: Wait>(
         spin_loop();
     }
     sleepers.fetch_add(1, SeqCst);
+    // A park compares the low 32 bits of the word.
     board.park(rt, turn, (found % 4294967296) as u32);
     sleepers.fetch_sub(1, SeqCst);
 }

@@ -9,10 +9,10 @@ pub trait Version: Drop {
     ghost use Rattle.std.specs.Prelude.{ℕ, List};
     ghost use Rattle.watch_word.specs.Logs.{Log};
 
-    // The value stands for the list.
+    /// The value stands for the list.
     ghost stands: { List (ℕ × Self) → Self → Type 0 };
 
-    // The log has every cell that the last commit of the list fires. Of a list that is the opening
-    // value alone this says which logs serve, as those of one book.
+    /// The log has every cell that the last commit of the list fires. Of a list that is the opening
+    /// value alone this says which logs serve, as those of one book.
     ghost fired: { List (ℕ × Self) → Log → Type 0 };
 }
