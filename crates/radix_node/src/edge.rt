@@ -42,8 +42,8 @@ impl Edge {
         self.node.node()
     }
 
-    /// An edge of the same byte to the same node, which has one owner more. It takes no memory, and
-    /// is refused as [`NodeRef::share`] is.
+    /// A second owner of the same node, at an edge of the same byte. It takes no memory.
+    /// `AllocError` comes as from [`NodeRef::share`].
     pub fn share(&self) -> Result<Edge, AllocError>
         ensures edge { IfOk result (λ e. plain_edge e ≡ plain_edge self.now) }
         ensures cells { IfOk result (λ e. cell_edge e ≡ cell_edge self.now) }

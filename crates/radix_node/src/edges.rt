@@ -53,7 +53,8 @@ impl Edges {
     /// The edge at a place, counted from 0, if there is such a place.
     pub fn get(&self, at: usize) -> Option<&Edge>
         ensures edge { option_map (λ e. edge_node e.now) result ≡ slice_get (edges_of self.now) at }
-        ensures cells { option_map (λ e. led_node e.now) result ≡ slice_get (cell_edges self.now) at }
+        ensures cells { option_map (λ e. led_node e.now) result
+            ≡ slice_get (cell_edges self.now) at }
     {
         if at < self.edges.len() {
             Some(&self.edges[at])

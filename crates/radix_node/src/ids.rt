@@ -40,8 +40,8 @@ impl Ids {
         Ids { book, next }
     }
 
-    /// A second counter that stands where this one does. It takes no memory, and may be refused as
-    /// for want of it, which the kit does where the book has 2^63 - 1 owners.
+    /// A second counter that stands where this one does. It takes no memory. `AllocError` comes
+    /// where the kit's `Arc` refuses one more owner of the book.
     pub fn share(&self) -> Result<Ids, AllocError>
         ensures { IfOk result (λ i. i ≡ self.now) }
     {

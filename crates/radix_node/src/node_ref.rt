@@ -24,8 +24,8 @@ impl NodeRef {
         &self.node
     }
 
-    /// One more owner of the same node, which copies nothing. It takes no memory, and may be
-    /// refused as for want of it, which the kit does where the node has 2^63 - 1 owners.
+    /// A second owner of the same node. It takes no memory. `AllocError` comes where the kit's
+    /// `Arc` refuses one more owner.
     pub fn share(&self) -> Result<NodeRef, AllocError>
         ensures node { IfOk result (λ r. node_of r ≡ node_of self.now) }
         ensures cells { IfOk result (λ r. cell_ref r ≡ cell_ref self.now) }

@@ -113,7 +113,8 @@ impl Tree {
 
     /// The leaf of a key.
     fn leaf_of(&self, key: &[u8]) -> Option<&Leaf>
-        ensures leaf { option_map (λ l. l.now.pair) result ≡ seek_plain key.now (plain_of self.now) }
+        ensures leaf { option_map (λ l. l.now.pair) result
+            ≡ seek_plain key.now (plain_of self.now) }
         ensures shape { HasShape (plain_of self.now) }
     {
         let mut node = self.root();
@@ -125,8 +126,8 @@ impl Tree {
         node.leaf()
     }
 
-    /// A second owner of the same nodes. It takes no memory, and may be refused as for want of
-    /// it, which the kit does where the root has 2^63 - 1 owners.
+    /// A second owner of the same nodes. It takes no memory. `AllocError` comes where the kit's
+    /// `Arc` refuses one more owner of the root.
     pub fn share(&self) -> Result<Tree, AllocError>
         ensures { IfOk result (λ t. t ≡ self.now) }
     {

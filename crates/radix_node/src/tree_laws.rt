@@ -1,6 +1,6 @@
 //! What is known of every tree, as laws of the definitions. Each function does nothing: its
 //! contract is the law.
-ghost use Rattle.std.specs.Prelude.{◌≡◌, ◌↔◌, List};
+ghost use Rattle.std.specs.Prelude.{◌≡◌, ◌↔◌};
 ghost use Rattle.std.specs.List.Sorted.{IsStrictlySortedBy};
 ghost use Rattle.mdb_datum.specs.Bytes.{Bytes, byte_order};
 ghost use Rattle.radix_node.specs.Cells.{plain_of};
@@ -41,7 +41,8 @@ pub fn pairs_have_one_tree(first: &Tree, second: &Tree)
 
 /// Trees in which each key finds the same row, or none, have the same pairs and the same nodes.
 pub fn look_ups_tell_the_tree(first: &Tree, second: &Tree)
-    requires { (key : Bytes) → find key (pairs_of (plain_of first.now)) ≡ find key (pairs_of (plain_of second.now)) }
+    requires { (key : Bytes) → find key (pairs_of (plain_of first.now))
+        ≡ find key (pairs_of (plain_of second.now)) }
     ensures pairs { pairs_of (plain_of first.now) ≡ pairs_of (plain_of second.now) }
     ensures nodes { plain_of first.now ≡ plain_of second.now }
 {

@@ -1,5 +1,5 @@
 //! The cells of a node and of all under it.
-ghost use Rattle.std.specs.Prelude.{◌≡◌, IfOk, OnOk, map};
+ghost use Rattle.std.specs.Prelude.{◌≡◌, OnOk, map};
 ghost use Rattle.std.specs.Arc.{arc_value};
 ghost use Rattle.radix_node.specs.CellNode.{cell_node};
 ghost use Rattle.radix_node.specs.Left.{all_cells, leave, leave_all, leave_leaf};
@@ -47,8 +47,7 @@ impl Node {
             ≡ own_left first n (map arc_value into.old.items)) }
     {
         push_cell(first, self.cell(), into)?;
-        self.push_leaf(first, into)?;
-        Ok(())
+        self.push_leaf(first, into)
     }
 
     /// Adds the cell of the node's leaf, if it has one.
@@ -58,7 +57,7 @@ impl Node {
     {
         match self.leaf() {
             None => Ok(()),
-            Some(leaf) => Ok(push_cell(first, leaf.cell(), into)?),
+            Some(leaf) => push_cell(first, leaf.cell(), into),
         }
     }
 }

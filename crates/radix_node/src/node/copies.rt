@@ -32,7 +32,7 @@ impl Node {
         }) }
     {
         let edges = self.edges().share()?;
-        Ok(Node::of(edges.allocator(), self.prefix(), Some(leaf), edges, cell)?)
+        Node::of(edges.allocator(), self.prefix(), Some(leaf), edges, cell)
     }
 
     /// The node with other edges.
@@ -47,7 +47,7 @@ impl Node {
         }) }
     {
         let leaf = self.share_leaf()?;
-        Ok(Node::of(edges.allocator(), self.prefix(), leaf, edges, cell)?)
+        Node::of(edges.allocator(), self.prefix(), leaf, edges, cell)
     }
 
     /// The node with another prefix.
@@ -63,7 +63,7 @@ impl Node {
     {
         let leaf = self.share_leaf()?;
         let edges = self.edges().share()?;
-        Ok(Node::of(edges.allocator(), prefix, leaf, edges, cell)?)
+        Node::of(edges.allocator(), prefix, leaf, edges, cell)
     }
 
     /// One more owner of the leaf, if there is one. It takes no memory.

@@ -20,7 +20,8 @@ impl Tree {
 
     /// The leaf of the longest key that is a prefix of `key`: the last one on the way down.
     fn last_on_path(&self, key: &[u8]) -> Option<&Leaf>
-        ensures { option_map (λ l. l.now.pair) result ≡ longest_pair (prefixes_of key.now (pairs_of (plain_of self.now))) }
+        ensures { option_map (λ l. l.now.pair) result
+            ≡ longest_pair (prefixes_of key.now (pairs_of (plain_of self.now))) }
     {
         let mut node = self.root();
         let mut best = node.leaf();
