@@ -1,12 +1,10 @@
 //! Transactions on a tree.
 mod writes;
 
-ghost use Rattle.std.specs.Prelude.{◌≡◌, ◌≤◌, ℕ, List, false, IfOk, IsOkAnd, length, option_copied};
-ghost use Rattle.mdb_datum.specs.Bytes.{Bytes};
+ghost use Rattle.std.specs.Prelude.{◌≡◌, ℕ, false, IfOk, IsOkAnd, length, option_copied};
 ghost use Rattle.radix_node.specs.Cells.{AreBelow};
 ghost use Rattle.radix_node.specs.Pairs.{find};
 ghost use Rattle.radix_node.specs.Watches.{WatchesHold};
-ghost use Rattle.radix_txn.specs.Kept.{AreWritten, Kept};
 ghost use Rattle.radix_txn.specs.Notice.{IsNotice, IsOpened};
 ghost use Rattle.radix_txn.specs.Txn.{txn_pairs};
 
@@ -96,8 +94,8 @@ impl TreeTxn {
         self.state.tree.get(key)
     }
 
-    /// The present tree, which later writes don't change. It takes no memory, and may be refused as
-    /// for want of it, which the kit does where the root has 2^63 - 1 owners.
+    /// The present tree, which later writes don't change. It takes no memory. `AllocError` comes
+    /// where the kit's `Arc` refuses one more owner of the root.
     pub fn stand(&mut self) -> Result<Tree, AllocError>
         requires sound { self.old.spoiled ≡ false }
         ensures tree { IfOk result (λ t. t ≡ self.old.tree) }
@@ -107,8 +105,8 @@ impl TreeTxn {
     }
 
     /// The tree that the transaction ends with, and the notice of the cells that are gone. What is
-    /// watched in the tree that it began with is in the notice, or it is as it was; all that the
-    /// written keys don't touch is kept. It takes no memory, and isn't refused.
+    /// watched in the tree that it began with is in the notice, or it is as it was. It takes no
+    /// memory, and isn't refused.
     pub fn freeze(self) -> Result<(Tree, Notice), AllocError>
         requires sound { self.spoiled ≡ false }
         ensures tree { IsOkAnd result (λ r. r.0 ≡ self.tree) }
@@ -116,9 +114,8 @@ impl TreeTxn {
         ensures held { IfOk result (λ r. WatchesHold self.start self.tree) }
         ensures opened { IfOk result (λ r. (first : ℕ) × AreBelow first self.start
             × IsOpened first self.start self.tree) }
-        ensures kept { IfOk result (λ r. (keys : List Bytes)
-            → AreWritten self.start self.tree keys → Kept self.start r.0 keys) }
     {
+        // Brings the shapes of both trees, and that the first has no id twice, into the proof.
         let _ = self.start.root();
         let _ = self.state.tree.root();
         let State { tree, left, .. } = self.state;

@@ -4,7 +4,6 @@ use Rattle.std.specs.Arc.{arc_value}
 use Rattle.radix_node.specs.Cells.{AreBelow}
 use Rattle.radix_node.specs.Watches.{WatchesHold}
 use Rattle.radix_txn.specs.Notice.{IsNotice, IsOpened}
-use Rattle.radix_txn.specs.Kept.{AreWritten, Kept}
 use Rattle.radix_txn.specs.Txn.{Txn}
 use Rattle.radix_txn.proofs.CellTxn.{frozen}
 use Rattle.radix_txn.proofs.txn.TreeTxn.freeze.Goals as goal
@@ -32,7 +31,3 @@ returns-clause-opened c =
     let kept = c.self.invariant (ap (λ (t : Txn). t.spoiled) c.self.view_is ∙ c.requires.sound) in
     let end = frozen s.changed s.first c.self.inside.start s.tree gone kept c.root.ensures.apart c.root.ensures.shape c.root-2.ensures.shape in
     subst (λ (t : Txn). (first : ℕ) × AreBelow first t.start × IsOpened first t.start t.tree) c.self.view_is end.opened
-
-pub returns-clause-kept : goal.returns-clause-kept
-returns-clause-kept c keys =
-    subst (λ (t : Txn). AreWritten t.start t.tree keys → Kept t.start c.self.inside.state.tree keys) c.self.view_is (λ w. w.kept)
