@@ -9,12 +9,12 @@ use std::alloc::AllocError;
 
 /// What a transaction can begin with.
 pub trait Edit {
-    // its nodes with their cells
+    /// Its nodes with their cells.
     ghost nodes: { Self → CellTree };
 
     /// A transaction that begins with the nodes, so with their pairs, and isn't spoiled; no key is
-    /// written yet. What it began with stays as it is. It takes no memory, and may be refused as
-    /// for want of it, which the kit does where the root has 2^63 - 1 owners.
+    /// written yet. What it began with stays as it is. It takes no memory. `AllocError` comes where
+    /// the kit's `Arc` refuses one more owner of the root.
     fn txn(&self) -> Result<TreeTxn, AllocError>
         ensures begun { IfOk result (λ t. t
             ≡ record { start = nodes self.now; tree = nodes self.now; spoiled = false }) }

@@ -1,5 +1,5 @@
 //! The insert of a key.
-ghost use Rattle.std.specs.Prelude.{◌≡◌, ◌∷◌, [], ◌++◌, ◌<◌, ◌≤◌, ◌+◌, ◌^◌, None, Some, IfOk, OnOk, if◌then◌else◌, is_some, length, take, drop, option_map};
+ghost use Rattle.std.specs.Prelude.{◌≡◌, ◌∷◌, [], ◌++◌, ◌<◌, ◌≤◌, ◌+◌, ◌^◌, None, Some, IfOk, OnOk, if◌then◌else◌, is_some, length, take, drop};
 ghost use Rattle.std.specs.Arc.{arc_value};
 ghost use Rattle.mdb_datum.specs.Bytes.{Bytes};
 ghost use Rattle.watch_word.specs.Logs.{Cell};
@@ -7,7 +7,7 @@ ghost use Rattle.radix_node.specs.CellNode.{cell_edges, cell_node, cell_put, cel
 ghost use Rattle.radix_node.specs.Edges.{edge_put};
 ghost use Rattle.radix_node.specs.Cells.{AreBelow, CellNode, a_leaf, cells_in, no_cells, pieces_of, plain_of, root_of};
 ghost use Rattle.radix_node.specs.Node.{PlainNode, below_prefix, edge_node, edges_of, leaf_pair, node_of, nodes_in, plain_node};
-ghost use Rattle.radix_node.specs.Nodes.{common, no_nodes, pairs_of};
+ghost use Rattle.radix_node.specs.Nodes.{common, pairs_of};
 ghost use Rattle.radix_node.specs.Pairs.{find, put};
 ghost use Rattle.radix_node.specs.Shape.{HasShape};
 ghost use Rattle.radix_node.specs.inner.Seek.{seek_plain};

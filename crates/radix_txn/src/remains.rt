@@ -5,14 +5,14 @@ ghost use Rattle.mdb_datum.specs.Bytes.{Bytes};
 ghost use Rattle.watch_word.specs.Logs.{Cell};
 ghost use Rattle.radix_node.specs.CellNode.{cell_edges, cell_node, cell_ref, led_node};
 ghost use Rattle.radix_node.specs.Cells.{CellNode, cells_in, no_cells, node_pieces};
-ghost use Rattle.radix_node.specs.Node.{edge_node, edges_of, leaf_pair, nodes_in, node_of, plain_edge, plain_node};
+ghost use Rattle.radix_node.specs.Node.{edge_node, edges_of, leaf_pair, nodes_in, node_of, plain_node};
 ghost use Rattle.radix_node.specs.Nodes.{no_nodes};
 ghost use Rattle.radix_node.specs.inner.Siblings.{cells_list, nodes_list};
 ghost use Rattle.radix_txn.specs.inner.Below.{settled_node};
 ghost use Rattle.radix_txn.specs.inner.Outside.{AllIn, below_pieces, inner_pieces};
 ghost use Rattle.radix_txn.specs.inner.Pieces.{inside, inside_of, led, ref_list, whole};
 ghost use Rattle.radix_txn.specs.inner.Remains.{remains_of, own_leaf, own_nodes, pieces_left, stays_left};
-ghost use Rattle.radix_txn.specs.inner.Steps.{IsNextOf, IsOnward, Steps, one_drawn, one_left};
+ghost use Rattle.radix_txn.specs.inner.Steps.{IsNextOf, IsOnward, Steps, one_drawn};
 
 use crate::cells::Cells;
 use crate::made;
@@ -180,6 +180,7 @@ fn lone(prefix: &[u8], edges: &Edges, cells: &mut Cells) -> Result<Option<NodeRe
 {
     match edges.get(0) {
         None => {
+            // Brings what holds of the cells into the proof: `first` is at most the next id.
             let _ = &cells.first;
             Ok(None)
         }

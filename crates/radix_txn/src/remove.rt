@@ -1,5 +1,5 @@
 //! Both deletes are one walk down: to the end of a key, or to the node that a prefix leads to.
-ghost use Rattle.std.specs.Prelude.{◌≡◌, ◌<◌, ◌≤◌, ◌+◌, ◌++◌, ◌^◌, [], List, None, Some, IfOk, IfSome, IfNone, IsSome, OnErr, OnOk, length, take, drop, option_to_list};
+ghost use Rattle.std.specs.Prelude.{◌≡◌, ◌<◌, ◌≤◌, ◌+◌, ◌++◌, ◌^◌, [], List, None, Some, IfOk, IfSome, IfNone, OnErr, OnOk, length, take, drop, option_to_list};
 ghost use Rattle.std.specs.List.{slice_get};
 ghost use Rattle.mdb_datum.specs.Bytes.{Bytes};
 ghost use Rattle.radix_node.specs.CellNode.{cell_node, led_node};

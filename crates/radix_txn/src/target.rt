@@ -2,12 +2,12 @@
 ghost use Rattle.std.specs.Prelude.{◌≡◌};
 ghost use Rattle.radix_txn.specs.inner.Removal.{covers};
 
-/// By what the keys are told that go.
+/// Which keys a delete takes.
 #[derive(Clone, Copy, Drop)]
 pub enum Target {
-    // One whole key.
+    /// One whole key.
     Key,
-    // What they begin with.
+    /// Those that begin with a prefix.
     Prefix,
 }
 

@@ -1,5 +1,5 @@
 //! The writes of a transaction.
-ghost use Rattle.std.specs.Prelude.{◌≡◌, ◌∷◌, List, ◌+◌, ◌*◌, ◌≤◌, ◌<◌, ◌↔◌, ◌^◌, ℕ, IfOk, IfNone, IsSome, OnErr, OnOk, true, false, if◌then◌else◌, is_err, length, map, take};
+ghost use Rattle.std.specs.Prelude.{◌≡◌, ◌∷◌, List, ◌+◌, ◌*◌, ◌≤◌, ◌<◌, ◌↔◌, ◌^◌, ℕ, IfOk, IfNone, OnErr, OnOk, true, false, if◌then◌else◌, is_err, length, map, take};
 ghost use Rattle.std.specs.Arc.{arc_value};
 ghost use Rattle.std.specs.List.{All};
 ghost use Rattle.mdb_datum.specs.Bytes.{Bytes};
