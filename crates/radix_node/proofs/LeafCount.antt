@@ -1,5 +1,6 @@
 -- The leaves at and under a node, counted edge by edge.
-use Rattle.std.proofs.Common.{◌≡◌, ◌<◌, ◌+◌, ◌++◌, ◌∷◌, ◌∙◌, ℕ, Bool, suc, List, length, map, drop, get_or, Option, Some, None, is_some, option_map, refl, sym, ap, arith, length-append}
+use Rattle.std.proofs.Common.{◌≡◌, ◌<◌, ◌+◌, ◌-◌, ◌^◌, ◌++◌, ◌∷◌, ◌∙◌, ℕ, Bool, suc, List, length, map, drop, get_or, min, Option, Some, None, is_some, option_map, refl, sym, ap, arith, length-append}
+use Rattle.std.proofs.Math.Nat.{min-eq_left}
 use Rattle.std.proofs.Math.Seq.{drop-cons}
 use mir.Val.{bool_byte}
 use Rattle.std.specs.Global.{Global}
@@ -42,3 +43,13 @@ module _ (es : List Edge) (i : ℕ) (e : Edge) (child : Node) (k : ℕ) (lt : i 
   -- one edge more
   pub count_more : (count all : ℕ) → count + count_under (drop i es) ≡ all → count + k + count_under (drop (i + 1) es) ≡ all
   count_more count all so_far = let e : suc i ≡ i + 1 = omega arith in omega (arith, so_far, one_edge, ap (λ j. count_under (drop j es)) e)
+
+-- the same where each count is known if fewer than 2 ^ 64 leaves are counted
+module _ (es : List Edge) (i : ℕ) (e : Edge) (child : Node) (k : ℕ) (lt : i < length es) (read : e ≡ get_or es i e) (same : plain_node child ≡ (plain_edge e).node) (counted : length (pairs_of (below_prefix child)) < 2 ^ 64 → k ≡ length (pairs_of (below_prefix child))) where
+  pub count_more_few : (count new all : ℕ) → new ≡ min (count + k) (2 ^ 64 - 1) → (all < 2 ^ 64 → count + count_under (drop i es) ≡ all) → all < 2 ^ 64 → new + count_under (drop (i + 1) es) ≡ all
+  count_more_few count new all is so_far few =
+      let n = length (pairs_of (below_prefix child)) in
+      let whole : count + n + count_under (drop (i + 1) es) ≡ all = count_more es i e child n lt read same refl count all (so_far few) in
+      let exact : k ≡ n = counted (omega (arith, whole, few)) in
+      let sum : new ≡ count + k = is ∙ min-eq_left (omega (arith, whole, few, exact)) in
+      omega (arith, whole, exact, sum)

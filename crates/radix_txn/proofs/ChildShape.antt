@@ -23,6 +23,15 @@ occupied_node path p None (node (b ∷ q) leaf under later) s h =
     let inner : 0 < length (pairs_of_leaf leaf ++ pairs_of_nodes under) = occupied_node (path ++ b ∷ q) (b ∷ q) leaf under s.under s.branching in
     omega (arith, inner, length-append (pairs_of_leaf leaf) (pairs_of_nodes under), length-append (pairs_of_leaf leaf) (pairs_of_nodes under ++ pairs_of_nodes later), length-append (pairs_of_nodes under) (pairs_of_nodes later))
 
+-- there are edges
+pub edges_occupied : (leaf : Option Pair) (under : Nodes) (es : List PlainNode) → IsShapedBelow under → nodes_in es ≡ under → 0 < length es → 0 < length (pairs_of_leaf leaf ++ pairs_of_nodes under)
+edges_occupied leaf no_nodes [] s is h = absurd (omega arith)
+edges_occupied leaf no_nodes (m ∷ es) s is h = cc
+edges_occupied leaf (node [] l under later) es s is h = absurd s.shaped
+edges_occupied leaf (node (b ∷ q) l under later) es s is h =
+    let inner : 0 < length (pairs_of_leaf l ++ pairs_of_nodes under) = occupied_node (s.path ++ b ∷ q) (b ∷ q) l under s.shaped.under s.shaped.branching in
+    omega (arith, inner, length-append (pairs_of_leaf leaf) (pairs_of_nodes (node (b ∷ q) l under later)), length-append (pairs_of_leaf l) (pairs_of_nodes under), length-append (pairs_of_leaf l) (pairs_of_nodes under ++ pairs_of_nodes later), length-append (pairs_of_nodes under) (pairs_of_nodes later))
+
 child_here : (path : List ℕ) (m n : PlainNode) (b : ℕ) (p : List ℕ) → m.prefix ≡ b ∷ p → IsShaped (path ++ b ∷ p) m.under → IsBranching m.leaf m.under → Some m ≡ Some n → IsChild n
 child_here path m n b p is s h e = let same : m ≡ n = cc in subst IsChild same (record { under = record { path = path ++ b ∷ p; shaped = s }; occupied = occupied_node (path ++ b ∷ p) (b ∷ p) m.leaf m.under s h })
 

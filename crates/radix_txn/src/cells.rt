@@ -1,8 +1,10 @@
 //! The cells that a write draws, and those that leave.
-ghost use Rattle.std.specs.Prelude.{◌≡◌, ◌≤◌, ◌<◌, ◌^◌, IfOk, OnOk};
+ghost use Rattle.std.specs.Prelude.{◌≡◌, ◌≤◌, ◌<◌, ◌^◌, IfOk, OnOk, length};
 ghost use Rattle.std.specs.Arc.{arc_value};
 ghost use Rattle.radix_node.specs.CellNode.{cell_node};
 ghost use Rattle.radix_node.specs.Left.{all_cells};
+ghost use Rattle.radix_node.specs.Node.{below_prefix};
+ghost use Rattle.radix_node.specs.Nodes.{pairs_of};
 ghost use Rattle.radix_txn.specs.inner.Steps.{IsNextOf, leaf_left, many_left, one_drawn, one_left};
 
 use radix_node::{Ids, Node, push_cell};
@@ -61,10 +63,14 @@ impl Cells {
         node.push_leaf(self.first, &mut self.left)
     }
 
-    /// The cells of a node and of all under it are in the tree no longer.
-    pub fn leave_all(&mut self, node: &Node) -> Result<(), AllocError>
-        ensures left { OnOk result (self.new ≡ many_left (all_cells (cell_node node.now)) self.old) }
+    /// The cells of a node and of all under it are in the tree no longer. It tells how many leaves
+    /// these are.
+    pub fn leave_all(&mut self, node: &Node) -> Result<u64, AllocError>
+        requires few { length (pairs_of (below_prefix node.now)) < 2 ^ 64 }
+        ensures left { OnOk result
+            (self.new ≡ many_left (all_cells (cell_node node.now)) self.old) }
         ensures begun { self.old.first ≤ self.old.next }
+        ensures count { IfOk result (λ n. n ≡ length (pairs_of (below_prefix node.now))) }
     {
         node.push_cells(self.first, &mut self.left)
     }

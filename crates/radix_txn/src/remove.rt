@@ -1,5 +1,5 @@
 //! Both deletes are one walk down: to the end of a key, or to the node that a prefix leads to.
-ghost use Rattle.std.specs.Prelude.{◌≡◌, ◌<◌, ◌≤◌, ◌+◌, ◌++◌, ◌^◌, [], List, None, Some, IfOk, IfSome, IfNone, OnErr, OnOk, length, take, drop, option_to_list};
+ghost use Rattle.std.specs.Prelude.{◌≡◌, ◌<◌, ◌≤◌, ◌+◌, ◌++◌, ◌^◌, [], List, None, Some, true, false, IfOk, IfSome, IfNone, OnErr, OnOk, length, take, drop, option_to_list};
 ghost use Rattle.std.specs.List.{slice_get};
 ghost use Rattle.mdb_datum.specs.Bytes.{Bytes};
 ghost use Rattle.radix_node.specs.CellNode.{cell_node, led_node};
@@ -155,12 +155,12 @@ fn without_child(
     ensures drawn { OnOk result (cells.new.next ≡ cells.old.next) }
     ensures onward { OnOk result (IsOnward cells.old cells.new) }
 {
-    cells.leave_all(edge.node())?;
+    let count = cells.leave_all(edge.node())?;
     cells.leave(node.cell())?;
     Ok(Removed {
         remains: Remains::without_edge(node, at)?,
         row: None,
-        count: edge.node().count(),
+        count,
     })
 }
 
@@ -217,7 +217,8 @@ fn remove_here(
     target: Target,
     cells: &mut Cells,
 ) -> Result<Option<Removed>, AllocError>
-    requires { length (pairs_of (below_prefix node.now)) < 2 ^ 64 }
+    requires shape { let n = plain_node node.now in IsShapedBelow n.under }
+    requires few { length (pairs_of (below_prefix node.now)) < 2 ^ 64 }
 
     ensures removed { IfOk result (λ o. IfSome o
         (λ r. IsRemoval target [] (below_prefix node.now) (remains_of r.remains) r.row r.count)) }
@@ -285,7 +286,8 @@ fn leafless(node: &Node, leaf: &Leaf, cells: &mut Cells) -> Result<Remains, Allo
 
 /// Nothing of the node, if there are leaves at it or under it.
 fn remove_all(node: &Node, cells: &mut Cells) -> Result<Option<Removed>, AllocError>
-    requires { length (pairs_of (below_prefix node.now)) < 2 ^ 64 }
+    requires shape { let n = plain_node node.now in IsShapedBelow n.under }
+    requires few { length (pairs_of (below_prefix node.now)) < 2 ^ 64 }
 
     ensures removed { IfOk result (λ o. IfSome o
         (λ r. IsRemoval Prefix [] (below_prefix node.now) (remains_of r.remains) r.row r.count)) }
@@ -301,14 +303,25 @@ fn remove_all(node: &Node, cells: &mut Cells) -> Result<Option<Removed>, AllocEr
 
     ensures there { OnErr result (LosesPairs Prefix [] (below_prefix node.now)) }
 {
-    let count = node.count();
-    if count == 0 {
+    if !has_leaves(node) {
         return Ok(None);
     }
-    cells.leave_all(node)?;
+    let count = cells.leave_all(node)?;
     Ok(Some(Removed {
         remains: Remains::nothing(node.edges().allocator()),
         row: None,
         count,
     }))
+}
+
+/// Whether there are leaves at a node or under it: each node under another one has some.
+fn has_leaves(node: &Node) -> bool
+    requires { let n = plain_node node.now in IsShapedBelow n.under }
+    ensures some { result ≡ true → 0 < length (pairs_of (below_prefix node.now)) }
+    ensures none { result ≡ false → length (pairs_of (below_prefix node.now)) ≡ 0 }
+{
+    match node.leaf() {
+        Some(_) => true,
+        None => node.edges().len() > 0,
+    }
 }

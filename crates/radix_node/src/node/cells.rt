@@ -1,7 +1,9 @@
 //! The cells of a node and of all under it.
-ghost use Rattle.std.specs.Prelude.{◌≡◌, OnOk, map};
+ghost use Rattle.std.specs.Prelude.{◌≡◌, ◌<◌, ◌^◌, IfOk, OnOk, length, map};
 ghost use Rattle.std.specs.Arc.{arc_value};
 ghost use Rattle.radix_node.specs.CellNode.{cell_node};
+ghost use Rattle.radix_node.specs.Node.{below_prefix};
+ghost use Rattle.radix_node.specs.Nodes.{pairs_of};
 ghost use Rattle.radix_node.specs.Left.{all_cells, leave, leave_all, leave_leaf};
 ghost use Rattle.radix_node.specs.inner.OwnLeft.{own_left};
 
@@ -29,16 +31,20 @@ pub fn push_cell(
 #[tactic(auto, using(crate::proofs::CellLevels::out_cell, crate::proofs::CellLevels::out_cell_leaf, crate::proofs::CellLevels::out_cell_under))]
 impl Node {
     /// Adds to a list the cells of the node and its leaf, and of all under it, whose ids are below
-    /// `first`. It takes time in the number of nodes, and is refused as [`push_cell`] is.
-    pub fn push_cells(&self, first: u64, into: &mut Vec<Arc<WatchCell>>) -> Result<(), AllocError>
-        ensures { OnOk result (map arc_value into.new.items
+    /// `first`, and tells how many leaves these are in all, if fewer than 2^64. It takes time in the
+    /// number of nodes, and is refused as [`push_cell`] is.
+    pub fn push_cells(&self, first: u64, into: &mut Vec<Arc<WatchCell>>) -> Result<u64, AllocError>
+        ensures cells { OnOk result (map arc_value into.new.items
             ≡ leave_all first (all_cells (cell_node self.now)) (map arc_value into.old.items)) }
+        ensures count { IfOk result (λ n. length (pairs_of (below_prefix self.now)) < 2 ^ 64
+            → n ≡ length (pairs_of (below_prefix self.now))) }
     {
         self.push_own(first, into)?;
+        let mut count = u64::from(self.leaf.is_some());
         for edge in &self.edges.edges {
-            edge.node.node.push_cells(first, into)?;
+            count = count.saturating_add(edge.node.node.push_cells(first, into)?);
         }
-        Ok(())
+        Ok(count)
     }
 
     /// Adds the cells of the node and of its leaf alone.

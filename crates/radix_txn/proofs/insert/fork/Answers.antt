@@ -5,7 +5,7 @@ use Rattle.std.proofs.lemmas.List.{take_rest}
 use Rattle.std.proofs.lemmas.Result.{IfOk-weaker}
 use Rattle.radix_node.specs.CellNode.{cell_put, led_node}
 use Rattle.radix_node.specs.Cells.{CellNode, cells_in, no_cells}
-use Rattle.radix_txn.specs.inner.Steps.{IsNextOf, Ledger, one_drawn}
+use Rattle.radix_txn.specs.inner.Steps.{IsNextOf, Ledger}
 use Rattle.radix_txn.proofs.Split.{rest_led}
 use Rattle.radix_txn.proofs.insert.fork.Goals as goal
 
