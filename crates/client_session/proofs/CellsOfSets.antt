@@ -33,13 +33,13 @@ both_hold : (b c : Bool) → (b && c) ≡ true → (b ≡ true) × (c ≡ true)
 both_hold true c e = (refl, e)
 both_hold false c e = cc
 
-parts_equal : (a b : CellName) → names_eq a b ≡ true → (a.table ≡ b.table) × (a.index ≡ b.index)
+pub parts_equal : (a b : CellName) → names_eq a b ≡ true → (a.table ≡ b.table) × (a.index ≡ b.index) × (a.id ≡ b.id)
 parts_equal a b e =
     let first = both_hold (nat_eq a.id b.id) (nat_eq a.index b.index && bytes_eq a.table b.table) e in
     let rest = both_hold (nat_eq a.index b.index) (bytes_eq a.table b.table) first.1 in
-    (same_bytes a.table b.table rest.1, same_numbers a.index b.index rest.0)
+    (same_bytes a.table b.table rest.1, same_numbers a.index b.index rest.0, same_numbers a.id b.id first.0)
 
-name_itself : (a : CellName) → names_eq a a ≡ true
+pub name_itself : (a : CellName) → names_eq a a ≡ true
 name_itself a =
     ap (λ (x : Bool). x && (nat_eq a.index a.index && bytes_eq a.table a.table)) (number_itself a.id)
     ∙ ap (λ (x : Bool). x && bytes_eq a.table a.table) (number_itself a.index) ∙ bytes_eq-itself a.table
@@ -47,7 +47,7 @@ name_itself a =
 -- ---- where one question is looked up
 
 module _ (schema : DbSchema) where
-  one_table : (q r : Query) (s t : SpotOf) (a : IsAsked schema q s) (b : IsAsked schema r t) → q.table ≡ r.table → a.table ≡ b.table
+  pub one_table : (q r : Query) (s t : SpotOf) (a : IsAsked schema q s) (b : IsAsked schema r t) → q.table ≡ r.table → a.table ≡ b.table
   one_table q r s t a b same =
       let place : a.place ≡ b.place = some_once (table_place r.table schema) a.place b.place (ap (λ (n : Bytes). table_place n schema) (sym same) ∙ a.found) b.found in
       some_once (slice_get schema b.place) a.table b.table (ap (λ n. slice_get schema n) (sym place) ∙ a.there) b.there

@@ -14,7 +14,7 @@ use Rattle.mdb_schema.specs.History.{Commit, History}
 use Rattle.mdb_schema.specs.Schema.{DbSchema}
 use Rattle.mem_txn.specs.CellHistory.{Forest}
 use Rattle.mem_txn.specs.Checked.{IsBeginning}
-use Rattle.mem_txn.specs.Database.{Caller, Reading, View}
+use Rattle.mem_txn.specs.Database.{Caller, Reading, View, cells_seen}
 use Rattle.client_script.proofs.LongerHistory.{no_entry, told_longer, answered_within}
 use Rattle.client_script.specs.Client.{Transaction, closed, reading, writing, Writing, Client, Sight, Snapshot, snapshot_named, state_seen, some_open}
 use Rattle.client_script.specs.Reply as said
@@ -31,6 +31,7 @@ use Rattle.mdb_schema.specs.Refusals.{AnswersAsk, ask_error}
 use Rattle.mdb_schema.specs.declared.answer.Answer.{Answer}
 use Rattle.mdb_schema.specs.declared.ask_error.AskError.{AskError}
 use Rattle.client_session.specs.Steps.{HasNotLost}
+use Rattle.client_session.proofs.CellsTold.{tells_rows}
 use Rattle.client_session.proofs.ToldCounts.{TellsNone, answered_none}
 use Rattle.client_session.proofs.FollowsOn.{follows_then, holds_on, knows_on, seen_more, within_more}
 use Rattle.client_session.proofs.KeptSteps.{seen_step}
@@ -149,6 +150,7 @@ module _ (c : Command) (d d' : Desk) (r : said.Reply) (known : is_of_watches c �
       record {
         next = t.next;
         answers = answers;
+        cells = tells_rows (cells_seen (caller_of d'.«open»)) v c r t.next known;
         follows = follows_then d d' v t.next begins t.transaction t.last (answered_within p.schema (caller_of d'.«open»).seen p.number v c r t.next (within_more (length p.seen) (length (caller_of d'.«open»).seen) v longer follows.within) answers) t.snapshots same (knows_on d d' v t.next begins watching t.watching follows.knows) (holds_on d d' begins watching follows.holds) to.stands follows;
         grows = to.grows;
         numbered = to.numbered;
@@ -221,6 +223,7 @@ kept_desk c d r known stands none makes says v follows = record {
     says = of_rows known (by_turn (says v follows));
     entry = no_entry (caller_of d.«open»).seen (caller_of d.«open»).number v.transaction r none;
   };
+  cells = tells_rows (cells_seen (caller_of d.«open»)) v c r v known;
   follows = follows;
   grows = none_grown (caller_of d.«open») (transaction_of d.«open») r (makes (caller_of d.«open»).number (transaction_of d.«open»));
   numbered = none_numbered (caller_of d.«open») (transaction_of d.«open») r none (makes (caller_of d.«open»).number (transaction_of d.«open»));
@@ -387,6 +390,7 @@ module _ (d : Desk) (o : Open) (snaps : Named Kept) (name : Bytes) (s : Sight) (
   keep_replies v follows = record {
     next = with_snapshot name s v;
     answers = answers v follows;
+    cells = tt;
     follows = kept_follows v follows;
     grows = subst (λ (x : Caller). Grows holder x (transaction_of d.«open») r) (sym caller) (none_grown holder (transaction_of d.«open») r makes);
     numbered = none_numbered holder (transaction_of d.«open») r none makes;

@@ -17,7 +17,7 @@ held_all_longer p q [] more all = tt
 held_all_longer p q (h ∷ hs) more all = (held_longer q p h more all.0, held_all_longer p q hs more all.1)
 
 pub set_longer : (p q : Caller) (ms : List Member) → IsBeginning p q → HoldsSet p ms → HoldsSet q ms
-set_longer p q ms more set = record { some = set.some; held = held_all_longer p q (watches_of ms) more set.held }
+set_longer p q ms more set = record { some = set.some; distinct = set.distinct; held = held_all_longer p q (watches_of ms) more set.held }
 
 pub holds_longer : (p q : Caller) (g : Watching) → IsBeginning p q → Holds p g → Holds q g
 holds_longer p q g more holds = record {
@@ -30,6 +30,7 @@ holds_longer p q g more holds = record {
 known_set_longer : (p q : Caller) (ms : List Member) (s : WatchSet) → IsBeginning p q → IsSet p ms s → IsSet q ms s
 known_set_longer p q ms s more set = record {
   members = set.members;
+  some = set.some;
   added = λ w there.
       let own = set.added w there in
       let of = own.of in

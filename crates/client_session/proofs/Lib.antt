@@ -1,5 +1,7 @@
 mod CellsOfSets
+mod CellsTold
 mod DeskTurns
+mod EachCellOnce
 mod FollowsOn
 mod HeldOn
 mod IndexPlaces

@@ -7,7 +7,7 @@ use Rattle.mdb_datum.specs.Bytes.{Bytes}
 use Rattle.mdb_schema.specs.Guarded.{IsUnchanged}
 use Rattle.mdb_schema.specs.Tests.{◌>>=◌, needed}
 use Rattle.mdb_schema.specs.Watchable.{IsTouched}
-use Rattle.mem_txn.specs.CellHistory.{MovesAreTouches, cell_at}
+use Rattle.mem_txn.specs.CellHistory.{AreComplete, MovesAreTouches, cell_at}
 use Rattle.mem_txn.specs.Checked.{AnswersCheck, HasLooked, IsBeginning, IsFired, IsHeldBy, number_of}
 use Rattle.mem_txn.specs.Database.{Caller, HasSeen, cells_seen}
 use Rattle.mem_txn.specs.Held.{HeldWatch}
@@ -15,15 +15,17 @@ use Rattle.mem_txn.specs.declared.look.Look.{Look}
 use Rattle.mem_txn.specs.declared.look.Look.TheVariants as look
 use Rattle.watch_set.specs.Checks.{HasChecked, OnlyLooks}
 use Rattle.watch_set.specs.Members.{Member}
-use Rattle.client_script.specs.Client.{Client, Judged, Watch, WatchSet, no_write_open, set_named}
+use Rattle.client_script.specs.Client.{Client, Judged, Watch, WatchSet, no_write_open, set_named, watch_named}
 use Rattle.client_script.specs.Reply.{Reply, fired_at, quiet_at, refused}
 use Rattle.client_script.specs.Watching.{IsChecked, IsJudged, check_judged, set_called, told_number, until_judged, wait_judged, watch_called}
 use Rattle.client_script.specs.declared.command.Command.TheVariants as command
+use Rattle.client_session.specs.Cells.{TellsCells}
 use Rattle.client_session.specs.Counts.{AreAmong, count_told}
 use Rattle.client_session.specs.declared.watching.Watching.{Watching}
 use Rattle.client_session.specs.inner.ReplyOf.{reply_of}
 use Rattle.client_session.specs.inner.SetsKept.{look_reply}
 use Rattle.client_session.specs.inner.WatchingView.{HasLookedOn, Holds, IsSet, IsSetOf, Knows, PrintsRead, TellsLook, watch_of}
+use Rattle.client_session.proofs.CellsTold.{fired_moved}
 use Rattle.client_session.proofs.HeldOn.{holds_longer, knows_longer}
 use Rattle.client_session.proofs.OpenTurns.{later_seen, later_self}
 use Rattle.client_session.proofs.ToldCounts.{among_append}
@@ -88,9 +90,12 @@ abbrev pub unknown : Bytes
 unknown = codes "unknown-name"
 
 -- a watch, and a set, as the client knows it
+pub named_watch : (p : Caller) (g : Watching) (v : Client) (name : Bytes) (h : HeldWatch) → Knows p g v.watching → get_by_text g.watches.kept name ≡ Some h → watch_named name v.watching.watches ≡ Some (watch_of name h)
+named_watch p g v name h knows there = knows.watches name ∙ ap (λ (o : Option HeldWatch). option_map (watch_of name) o) there
+
 pub called_watch : (p : Caller) (g : Watching) (v : Client) (name : Bytes) (h : HeldWatch) → Knows p g v.watching → get_by_text g.watches.kept name ≡ Some h → watch_called name v ≡ Ok (watch_of name h)
 called_watch p g v name h knows there =
-    ap (λ (o : Option Watch). needed unknown o) (knows.watches name ∙ ap (λ (o : Option HeldWatch). option_map (watch_of name) o) there)
+    ap (λ (o : Option Watch). needed unknown o) (named_watch p g v name h knows there)
 
 pub called_none : (p : Caller) (g : Watching) (v : Client) (name : Bytes) → Knows p g v.watching → get_by_text g.watches.kept name ≡ None → watch_called name v ≡ Err unknown
 called_none p g v name knows none =
@@ -132,6 +137,7 @@ check_unknown g name p holds none = record {
   told = λ v may. record {
     next = v;
     says = judged_not v (check_judged v name) unknown _ (check_free v may.free name ∙ called_none p g v name may.knows none);
+    cells = tt;
     knows = may.knows;
     holds = holds;
   };
@@ -151,13 +157,22 @@ checked old new name h (look.Fired at) held law answers =
     let looked = answers.0 in
     inr (ap fired_at looked.number, fired_touched new h at law held looked.number answers.1)
 
-pub check_told : (g : Watching) (name : Bytes) (old new : Caller) (h : HeldWatch) (l : Look) → get_by_text g.watches.kept name ≡ Some h → Holds old g → HasSeen old new → IsHeldBy new h → MovesAreTouches (cells_seen new)
+-- a watch that has fired has another cell
+moved : (g : Watching) (v : Client) (name : Bytes) (old new : Caller) (h : HeldWatch) (l : Look) (next : Client) → Knows old g v.watching → get_by_text g.watches.kept name ≡ Some h → IsHeldBy new h → AreComplete (cells_seen new) → AnswersCheck old new h l
+    → TellsCells (cells_seen new) v (command.Check name) (reply_of old.schema (look_reply l)) next
+moved g v name old new h (look.Quiet at) next knows there held complete answers = tt
+moved g v name old new h (look.Fired at) next knows there held complete answers =
+    let looked = answers.0 in
+    (watch_of name h, named_watch old g v name h knows there, fired_moved new h name at complete held looked.number answers.1)
+
+pub check_told : (g : Watching) (name : Bytes) (old new : Caller) (h : HeldWatch) (l : Look) → get_by_text g.watches.kept name ≡ Some h → Holds old g → HasSeen old new → IsHeldBy new h → MovesAreTouches (cells_seen new) → AreComplete (cells_seen new)
     → AnswersCheck old new h l → TellsLook g (command.Check name) old new (reply_of old.schema (look_reply l))
-check_told g name old new h l there holds seen held law answers = record {
+check_told g name old new h l there holds seen held law complete answers = record {
   prints = prints_count old old new (number_of l) (reply_of old.schema (look_reply l)) ([], append-nil old.counts) answers.0 (prints_number old l);
   told = λ v may. record {
     next = told_number (length new.seen) v;
     says = judged_so v (check_judged v name) (watch_of name h) (reply_of old.schema (look_reply l)) (told_number (length new.seen) v) _ (check_free v may.free name ∙ called_watch old g v name h may.knows there) (checked old new name h l held law answers, refl);
+    cells = moved g v name old new h l (told_number (length new.seen) v) may.knows there held complete answers;
     knows = knows_longer old new g v.watching (begins old new seen) may.knows;
     holds = holds_longer old new g (begins old new seen) holds;
   };

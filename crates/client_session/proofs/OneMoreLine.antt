@@ -10,19 +10,22 @@ use Rattle.mdb_datum.specs.Bytes.{Bytes}
 use Rattle.mdb_schema.specs.History.{Commit, History}
 use Rattle.mdb_schema.specs.Schema.{DbSchema}
 use Rattle.mem_txn.proofs.HeldAlong.{prefix_twice}
-use Rattle.mem_txn.specs.CellHistory.{Forest}
-use Rattle.mem_txn.specs.Database.{Caller, Database, IsOf}
-use Rattle.client_script.proofs.LongerHistory.{runs_longer, runs_more, start_within}
+use Rattle.mem_txn.specs.CellHistory.{CellHistory, Forest}
+use Rattle.mem_txn.specs.Checked.{IsBeginning}
+use Rattle.mem_txn.specs.Database.{Caller, Database, IsOf, cells_seen}
+use Rattle.client_script.proofs.LongerHistory.{start_within}
 use Rattle.client_session.specs.Counts.{AreAmong, counts_told, count_told}
 use Rattle.client_script.specs.Client.{Client, at_start, nothing_watched}
 use Rattle.client_script.specs.Legal.{callers, printed, number_printed}
 use Rattle.client_script.specs.Reply.{Reply, line_text, lines_text}
-use Rattle.client_script.specs.Session.{Answers, Runs}
+use Rattle.client_script.specs.Session.{Answers}
 use Rattle.client_script.specs.declared.line.Line.{Line}
 use Rattle.std.specs.declared.alloc.AllocError.{AllocError}
+use Rattle.client_session.proofs.CellsTold.{runs_by_more, runs_on}
 use Rattle.client_session.proofs.ToldCounts.{among_append, among_more, counts_more}
 use Rattle.client_session.proofs.FollowsOn.{follows_longer}
-use Rattle.client_session.proofs.OpenTurns.{later_self}
+use Rattle.client_session.proofs.OpenTurns.{beginning_later, later_self}
+use Rattle.client_session.specs.Cells.{RunsByCells}
 use Rattle.client_session.specs.Answered.{AreRising, IsLater, IsUntold, commit_at}
 use Rattle.client_session.specs.declared.desk.Desk.{Desk}
 use Rattle.client_session.specs.declared.open.Open.TheVariants as opens
@@ -36,11 +39,11 @@ use Rattle.client_session.specs.inner.OpenView.{Looks, caller_of, transaction_of
 use Rattle.client_session.specs.inner.WatchingView.{Holds, Knows}
 
 -- the texts of lines, one more
-lines_more : (schema : DbSchema) (H : History) (n : ℕ) (v : Client) (ls : List Line) (rs : List Reply) (end : Client) (l : Line) (r : Reply) → Runs schema H n v ls rs end → lines_text (ls ++ l ∷ []) (rs ++ r ∷ []) ≡ lines_text ls rs ++ line_text l.number r
-lines_more schema H n v [] [] end l r runs = append-nil (line_text l.number r)
-lines_more schema H n v [] (x ∷ rs) end l r runs = absurd runs
-lines_more schema H n v (x ∷ ls) [] end l r runs = absurd runs
-lines_more schema H n v (x ∷ ls) (y ∷ rs) end l r (next, a, runs) = ap (λ (b : Bytes). line_text x.number y ++ b) (lines_more schema H n next ls rs end l r runs) ∙ sym (append_assoc (line_text x.number y) (lines_text ls rs) (line_text l.number r))
+lines_more : (J : CellHistory) (n : ℕ) (v : Client) (ls : List Line) (rs : List Reply) (end : Client) (l : Line) (r : Reply) → RunsByCells J n v ls rs end → lines_text (ls ++ l ∷ []) (rs ++ r ∷ []) ≡ lines_text ls rs ++ line_text l.number r
+lines_more J n v [] [] end l r runs = append-nil (line_text l.number r)
+lines_more J n v [] (x ∷ rs) end l r runs = absurd runs
+lines_more J n v (x ∷ ls) [] end l r runs = absurd runs
+lines_more J n v (x ∷ ls) (y ∷ rs) end l r (next, a, told, runs) = ap (λ (b : Bytes). line_text x.number y ++ b) (lines_more J n next ls rs end l r runs) ∙ sym (append_assoc (line_text x.number y) (lines_text ls rs) (line_text l.number r))
 
 printed_more : (rs : List Reply) (r : Reply) → printed (rs ++ r ∷ []) ≡ printed rs ++ number_printed r
 printed_more [] r = append-nil (number_printed r)
@@ -149,7 +152,7 @@ module _ (pass : Caller) (before : List Reply) (done : List Line) (d at : Desk) 
   seen_more = record {
     replies = carried.replies;
     client = carried.client;
-    runs = subst (λ (H : History). Runs pass.schema H pass.number at_start done (before ++ carried.replies) carried.client) seen_is (runs_longer pass.schema old.seen more pass.number at_start done (before ++ carried.replies) carried.client (start_within (length old.seen)) carried.runs);
+    runs = runs_on old (caller_of at.«open») (beginning_later old (caller_of at.«open») looks.later) pass.number done (before ++ carried.replies) carried.client carried.runs;
     follows = follows_longer d at carried.client looks same watching carried.follows;
     written = carried.written;
     later = later_again pass old (caller_of at.«open») carried.later looks.later;
@@ -180,12 +183,28 @@ module _ (pass : Caller) (before : List Reply) (done : List Line) (d d' : Desk) 
   all_replies : (before ++ carried.replies) ++ r ∷ [] ≡ before ++ (carried.replies ++ r ∷ [])
   all_replies = append_assoc before carried.replies (r ∷ [])
 
-  runs_more_line : Runs pass.schema (caller_of d'.«open»).seen pass.number at_start (done ++ l ∷ []) (before ++ (carried.replies ++ r ∷ [])) step.next
-  unfolding p new
-  runs_more_line = subst (λ (rs : List Reply). Runs pass.schema (caller_of d'.«open»).seen pass.number at_start (done ++ l ∷ []) rs step.next) all_replies (runs_more pass.schema (caller_of d'.«open»).seen pass.number at_start done (before ++ carried.replies) carried.client step.next l r
-      (subst (λ (H : History). Runs pass.schema H pass.number at_start done (before ++ carried.replies) carried.client) (sym (ap (λ (q : Caller). q.seen) grown)) (runs_longer pass.schema p.seen new pass.number at_start done (before ++ carried.replies) carried.client (start_within (length p.seen)) carried.runs))
-      (subst (λ (s : DbSchema). Answers s (caller_of d'.«open»).seen pass.number carried.client l.command r step.next) carried.later.schema
-      (subst (λ (n : ℕ). Answers p.schema (caller_of d'.«open»).seen n carried.client l.command r step.next) carried.later.number step.answers)))
+  begins : IsBeginning p (caller_of d'.«open»)
+  unfolding p new trees
+  begins = record {
+    schema = ap (λ (q : Caller). q.schema) grown;
+    book = ap (λ (q : Caller). q.book) grown;
+    seen = (new, sym (ap (λ (q : Caller). q.seen) grown));
+    trees = (trees, sym (ap (λ (q : Caller). q.trees) grown));
+  }
+
+  answers : Answers (caller_of d'.«open»).schema (caller_of d'.«open»).seen pass.number carried.client l.command r step.next
+  unfolding p
+  answers =
+      subst (λ (s : DbSchema). Answers s (caller_of d'.«open»).seen pass.number carried.client l.command r step.next) (sym begins.schema)
+      (subst (λ (n : ℕ). Answers p.schema (caller_of d'.«open»).seen n carried.client l.command r step.next) carried.later.number step.answers)
+
+  runs_more_line : RunsByCells (cells_seen (caller_of d'.«open»)) pass.number at_start (done ++ l ∷ []) (before ++ (carried.replies ++ r ∷ [])) step.next
+  unfolding p
+  runs_more_line =
+      subst (λ (rs : List Reply). RunsByCells (cells_seen (caller_of d'.«open»)) pass.number at_start (done ++ l ∷ []) rs step.next) all_replies
+      (runs_by_more (cells_seen (caller_of d'.«open»)) pass.number at_start done (before ++ carried.replies) carried.client step.next l r
+      (runs_on p (caller_of d'.«open») begins pass.number done (before ++ carried.replies) carried.client carried.runs)
+      answers step.cells)
 
   later_more : IsLater pass (caller_of d'.«open»)
   unfolding p new
@@ -210,7 +229,7 @@ module _ (pass : Caller) (before : List Reply) (done : List Line) (d d' : Desk) 
     written =
         written
         ∙ ap (λ (b : Bytes). b ++ line_text l.number r) carried.written
-        ∙ sym (lines_more pass.schema p.seen pass.number at_start done (before ++ carried.replies) carried.client l r carried.runs)
+        ∙ sym (lines_more (cells_seen p) pass.number at_start done (before ++ carried.replies) carried.client l r carried.runs)
         ∙ ap (lines_text (done ++ l ∷ [])) all_replies;
     later = later_more;
     made = carried.made ++ new;
@@ -253,7 +272,7 @@ from_here script at d text so_far =
       carried = record {
         replies = [];
         client = so_far.client;
-        runs = subst (λ (rs : List Reply). Runs pass.schema pass.seen pass.number at_start (take at script) rs so_far.client) none so_far.runs;
+        runs = subst (λ (rs : List Reply). RunsByCells (cells_seen pass) pass.number at_start (take at script) rs so_far.client) none so_far.runs;
         follows = so_far.follows;
         written = so_far.written ∙ ap (lines_text (take at script)) none;
         later = later_self pass;
@@ -294,7 +313,7 @@ kept_lines pass new before lines d now after later same c =
     record {
       replies = c.replies;
       client = c.client;
-      runs = subst (λ (H : History). Runs pass.schema H pass.number at_start lines (before ++ c.replies) c.client) later.seen.1 (runs_longer pass.schema p.seen later.seen.0 pass.number at_start lines (before ++ c.replies) c.client (start_within (length p.seen)) c.runs);
+      runs = runs_on p new (beginning_later p new later) pass.number lines (before ++ c.replies) c.client c.runs;
       written = same ∙ c.written;
       later = later_again pass p new c.later later;
       read = c.read ++ more.0;

@@ -3,17 +3,17 @@ use Rattle.std.proofs.Common.{arith, ◌≡◌, refl, ap, subst, sym, ◌∙◌,
 use Rattle.std.proofs.lemmas.List.{append-nil}
 use Rattle.std.specs.declared.alloc.AllocError.{AllocError}
 use Rattle.mdb_datum.specs.Bytes.{Bytes}
-use Rattle.mdb_schema.specs.Schema.{DbSchema}
-use Rattle.mem_txn.specs.Database.{Caller}
-use Rattle.client_script.specs.Client.{at_start}
+use Rattle.mem_txn.specs.Database.{Caller, cells_seen}
+use Rattle.client_script.specs.Client.{Client, at_start}
 use Rattle.client_script.specs.Reply.{Reply, lines_text}
-use Rattle.client_script.specs.Session.{Runs, Session}
 use Rattle.client_script.specs.declared.command.Command.{Command}
 use Rattle.client_script.specs.declared.command.Command.TheVariants as command
 use Rattle.client_script.specs.declared.line.Line.{Line}
+use Rattle.client_session.proofs.CellsTold.{runs_of}
 use Rattle.client_session.proofs.OneMoreLine.{all_carried, from_here, kept_some, next, seen_more, stops_here}
 use Rattle.client_session.proofs.OpenTurns.{later_self}
 use Rattle.client_session.specs.Answered.{AreTold, HasAnswered, HasStopped, IsLater, IsUntold, Tells}
+use Rattle.client_session.specs.Cells.{RunsByCells}
 use Rattle.client_session.specs.Progress.{Progress}
 use Rattle.client_session.specs.Steps.{AnswersStep, HasNotLost, IsBlocked, Waits}
 use Rattle.client_session.specs.declared.desk.Desk.{Desk}
@@ -33,6 +33,14 @@ progress_of client script desk n text failed = record {
   text = text;
   failed = failed;
 }
+
+-- ---- the replies so far
+
+-- they are a session, and what they tell of cells is so
+are_told : (s : Progress) (replies : List Reply) (client : Client) → (let p = s.caller in RunsByCells (cells_seen p) p.number at_start (take s.answered s.script) replies client) → s.text ≡ lines_text (take s.answered s.script) replies → AreTold s replies
+are_told s replies client runs written =
+    let p = s.caller in
+    record { session = (client, runs_of (cells_seen p) p.number at_start (take s.answered s.script) replies client runs); cells = (client, runs); written = written }
 
 -- ---- a call that answers no line
 
@@ -72,24 +80,21 @@ stops_nothing s replies told = record {
 
 -- ---- a call that answers some lines
 
--- the same replies, of a pass with this schema and number
-session_of : (p q : Caller) (lines : List Line) (replies : List Reply) → q.schema ≡ p.schema → q.number ≡ p.number → Session p.schema q.seen p.number lines replies → Session q.schema q.seen q.number lines replies
-session_of p q lines replies schema number told = subst (λ (s : DbSchema). Session s q.seen q.number lines replies) (sym schema) (subst (λ (n : ℕ). Session p.schema q.seen n lines replies) (sym number) told)
-
 pub tells_some : (s t : Progress) → t.script ≡ s.script → AddsSome s.caller t.caller s.script s.answered t.answered s.text t.text → Tells s t
 tells_some s t same some =
     let adds = some.adds in
     let before = some.before in
     let all = before.replies ++ adds.replies in
-    let told : Session t.caller.schema t.caller.seen t.caller.number (take t.answered s.script) all = session_of s.caller t.caller (take t.answered s.script) all adds.later.schema adds.later.number (adds.client, adds.runs) in
+    let p = s.caller in
+    let q = t.caller in
+    let runs : RunsByCells (cells_seen q) q.number at_start (take t.answered t.script) all adds.client =
+    subst (λ (ls : List Line). RunsByCells (cells_seen q) q.number at_start (take t.answered ls) all adds.client) (sym same)
+    (subst (λ (n : ℕ). RunsByCells (cells_seen q) n at_start (take t.answered s.script) all adds.client) (sym adds.later.number) adds.runs) in
     record {
       before = before.replies;
-      told_before = record { session = (before.client, before.runs); written = before.written };
+      told_before = are_told s before.replies before.client before.runs before.written;
       replies = adds.replies;
-      told = record {
-        session = subst (λ (ls : List Line). Session t.caller.schema t.caller.seen t.caller.number (take t.answered ls) all) (sym same) told;
-        written = adds.written ∙ ap (λ (ls : List Line). lines_text (take t.answered ls) all) (sym same);
-      };
+      told = are_told t all adds.client runs (adds.written ∙ ap (λ (ls : List Line). lines_text (take t.answered ls) all) (sym same));
       later = adds.later;
       read = adds.read;
       counts = adds.counts;
@@ -125,7 +130,7 @@ pub goes_on : (script : List Line) (desk : Option Desk) (n : ℕ) (text : Bytes)
 goes_on script desk n text failed d h is ok more = record {
   replies = h.replies;
   client = h.client;
-  runs = subst (λ (o : Option Desk). let p = caller_in o in Runs p.schema p.seen p.number at_start (take n script) h.replies h.client) is h.runs;
+  runs = subst (λ (o : Option Desk). let p = caller_in o in RunsByCells (cells_seen p) p.number at_start (take n script) h.replies h.client) is h.runs;
   follows = h.follows ok more d is;
   written = h.written;
 }
@@ -140,7 +145,7 @@ has_added pass script from to old text d failed some within all =
       within = within;
       replies = some.before.replies ++ adds.replies;
       client = adds.client;
-      runs = subst (λ (s : DbSchema). Runs s p.seen p.number at_start (take to script) (some.before.replies ++ adds.replies) adds.client) (sym adds.later.schema) (subst (λ (n : ℕ). Runs pass.schema p.seen n at_start (take to script) (some.before.replies ++ adds.replies) adds.client) (sym adds.later.number) adds.runs);
+      runs = subst (λ (n : ℕ). RunsByCells (cells_seen p) n at_start (take to script) (some.before.replies ++ adds.replies) adds.client) (sym adds.later.number) adds.runs;
       written = adds.written;
       follows = λ ok more d' is. let end = all ok in absurd (omega (arith, end, more));
     }
@@ -155,7 +160,7 @@ has_carried pass script from to old text d failed on within =
       within = within;
       replies = on.before.replies ++ c.replies;
       client = c.client;
-      runs = subst (λ (s : DbSchema). Runs s p.seen p.number at_start (take to script) (on.before.replies ++ c.replies) c.client) (sym c.later.schema) (subst (λ (n : ℕ). Runs pass.schema p.seen n at_start (take to script) (on.before.replies ++ c.replies) c.client) (sym c.later.number) c.runs);
+      runs = subst (λ (n : ℕ). RunsByCells (cells_seen p) n at_start (take to script) (on.before.replies ++ c.replies) c.client) (sym c.later.number) c.runs;
       written = c.written;
       follows = λ ok more d' is. let same : d ≡ d' = cc in subst (λ (x : Desk). Follows x c.client) same c.follows;
     }
@@ -164,7 +169,7 @@ has_carried pass script from to old text d failed on within =
 
 module _ (s : Progress) (client : ℕ) (script : List Line) (desk desk' : Option Desk) (n : ℕ) (text : Bytes) (failed : Bool) (view_is : progress_of client script desk n text failed ≡ s) where
   pub kept_told : HasDone script desk n text failed → (replies : List Reply) × AreTold s replies
-  kept_told h = (h.replies, subst (λ (x : Progress). AreTold x h.replies) view_is (record { session = (h.client, h.runs); written = h.written }))
+  kept_told h = (h.replies, subst (λ (x : Progress). AreTold x h.replies) view_is (are_told (progress_of client script desk n text failed) h.replies h.client h.runs h.written))
 
   pub same_told : (t : Progress) → t ≡ s → HasDone script desk n text failed → Tells s t
   unfolding kept_told
@@ -231,7 +236,7 @@ module _ (client : ℕ) (script : List Line) (d d' : Desk) (n : ℕ) (text text'
   waits c held = record {
     replies = so_far.replies;
     client = so_far.client;
-    runs = so_far.runs;
+    runs = let p = caller_of d.«open» in runs_of (cells_seen p) p.number at_start (take n script) so_far.replies so_far.client so_far.runs;
     written = so_far.written;
     stayed = held.quiet so_far.client so_far.follows;
     later = held.looks.later;

@@ -1,21 +1,22 @@
 -- A set that a watch was added to, as a client knows it.
-use Rattle.std.proofs.Common.{◌≡◌, ◌∙◌, ◌+◌, ◌++◌, Bool, true, false, cond, List, [], ◌∷◌, length, Contains, Option, Some, None, refl, sym, ap, subst, inl, inr, arith}
+use Rattle.std.proofs.Common.{◌≡◌, ◌∙◌, ◌+◌, ◌++◌, Bool, true, false, cond, List, [], ◌∷◌, length, Contains, Option, Some, None, refl, sym, ap, subst, ◌⊎◌, inl, inr, arith}
 use Rattle.std.specs.Prelude.{if◌then◌else◌, option_map}
 use Rattle.std.specs.BTreeMap.{get_by_text}
 use Rattle.std.specs.Str.{bytes_eq}
 use Rattle.std.proofs.lemmas.Bool.{both_ways}
 use Rattle.std.proofs.lemmas.List.{length-append, length-map, map-append}
-use Rattle.std.proofs.lemmas.List.Elements.{Contains-append_cases}
+use Rattle.std.proofs.lemmas.List.Elements.{Contains-append_cases, Contains-append_left, Contains-append_right}
 use Rattle.mdb_datum.specs.Bytes.{Bytes}
-use Rattle.mdb_schema.proofs.Membership.{Contains-cons_cases, Contains-map, Contains-nil}
-use Rattle.mem_txn.specs.Checked.{IsHeldBy}
-use Rattle.mem_txn.specs.Database.{Caller}
+use Rattle.mdb_schema.proofs.Membership.{Contains-cons_cases, Contains-map, Contains-nil, bytes_eq-itself}
+use Rattle.mem_txn.specs.Checked.{IdsTellCells, IsHeldBy}
+use Rattle.mem_txn.specs.Database.{Caller, cells_seen}
 use Rattle.mem_txn.specs.Held.{HeldWatch}
-use Rattle.watch_set.specs.Members.{AreHeldBy, CellName, Member, cell_name, has_cell, watches_of, with_watch}
-use Rattle.watch_set.proofs.CellsDiffer.{held_after}
+use Rattle.watch_set.specs.Members.{AreDistinct, AreHeldBy, CellName, Member, cell_name, has_cell, watches_of, with_watch}
+use Rattle.watch_set.proofs.CellsDiffer.{distinct_after, held_after}
 use Rattle.client_script.specs.Client.{Client, Watch, WatchSet, set_named}
 use Rattle.client_script.specs.Reply.{Reply, sized}
 use Rattle.client_script.specs.Watching.{IsAdded, put_set, set_for, set_or_new, with_set}
+use Rattle.client_session.specs.Cells.{HasEachCellOnce}
 use Rattle.client_session.specs.declared.named.Named.{Named}
 use Rattle.client_session.specs.declared.watching.Watching.{Watching}
 use Rattle.client_session.specs.inner.ReplyOf.{reply_of}
@@ -24,6 +25,7 @@ use Rattle.client_session.specs.declared.reply.Reply.TheVariants as replies
 use Rattle.client_session.specs.inner.SetsKept.{PutsBack, Sets, members_in, members_or_empty}
 use Rattle.client_session.specs.inner.WatchingView.{HasCellOf, Holds, HoldsSet, IsSet, IsSetOf, Knows, member_of, watch_of}
 use Rattle.client_session.proofs.CellsOfSets.{cell_joins, cell_stays, member_held, member_of_cell, one_cell, one_index_held}
+use Rattle.client_session.proofs.EachCellOnce.{each_once}
 use Rattle.client_session.proofs.IndexPlaces.{some_once}
 use Rattle.client_session.proofs.WatchesNamed.{set_put}
 
@@ -70,6 +72,11 @@ module _ (p : Caller) (ms : List Member) (set name : Bytes) (h : HeldWatch) (v :
     ]
   ]
 
+  -- its members were added
+  some_added : (x : Watch) → Contains was.members x ⊎ Contains (w ∷ []) x → Contains (was.added ++ w ∷ []) x
+  some_added x (inl before) = Contains-append_left was.added (w ∷ []) x (known.some x before)
+  some_added x (inr last) = Contains-append_right was.added (w ∷ []) x last
+
   joins : (b : Bool) → has_cell (cell_name h) ms ≡ b → Joins p (if b then ms else ms ++ member ∷ []) set w v
   joins true e =
       let found = member_of_cell (cell_name h) ms e in
@@ -83,7 +90,11 @@ module _ (p : Caller) (ms : List Member) (set name : Bytes) (h : HeldWatch) (v :
           reply = ap sized (sym count);
           kept = refl;
         });
-        same = record { members = known.members; added = have_cells ms (λ c is. is) e };
+        same = record {
+          members = known.members;
+          some = λ x within. Contains-append_left was.added (w ∷ []) x (known.some x within);
+          added = have_cells ms (λ c is. is) e;
+        };
       }
   joins false e = record {
     known = joined (was.members ++ w ∷ []);
@@ -98,23 +109,24 @@ module _ (p : Caller) (ms : List Member) (set name : Bytes) (h : HeldWatch) (v :
     });
     same = record {
       members = ap (λ (ws : List Watch). ws ++ w ∷ []) known.members ∙ sym (map-append member_of ms (member ∷ []));
+      some = λ x within. some_added x (Contains-append_cases was.members (w ∷ []) x within);
       added = have_cells (ms ++ member ∷ []) (λ c is. cell_stays c ms member is) (cell_joins ms member);
     };
   }
 
-  holds_joined : (b : Bool) → has_cell (cell_name h) ms ≡ b → HoldsSet p (if b then ms else ms ++ member ∷ [])
-  holds_joined true e =
+  holds_joined : AreDistinct ms → (b : Bool) → has_cell (cell_name h) ms ≡ b → HoldsSet p (if b then ms else ms ++ member ∷ [])
+  holds_joined distinct true e =
       let found = member_of_cell (cell_name h) ms e in
       let within = found.1.1 in
-      record { some = omega (arith, within); held = all }
-  holds_joined false e =
+      record { some = omega (arith, within); distinct = distinct; held = all }
+  holds_joined distinct false e =
       let more : length (ms ++ member ∷ []) ≡ length ms + 1 = length-append ms (member ∷ []) in
-      record { some = omega (arith, more); held = held_after p ms member all own }
+      record { some = omega (arith, more); distinct = distinct_after ms member distinct e; held = held_after p ms member all own }
 
 -- ---- all sets
 
 set_known : (p : Caller) (set : Bytes) (kept : Option (List Member)) (found : Option WatchSet) → IsSetOf p kept found → IsSet p (members_or_empty kept) (set_or_new set found)
-set_known p set None None is = record { members = refl; added = λ w within. absurd (Contains-nil w within) }
+set_known p set None None is = record { members = refl; some = λ w within. within; added = λ w within. absurd (Contains-nil w within) }
 set_known p set None (Some s) is = absurd is
 set_known p set (Some ms) None is = absurd is
 set_known p set (Some ms) (Some s) is = is
@@ -122,6 +134,21 @@ set_known p set (Some ms) (Some s) is = is
 all_held : (p : Caller) (kept : Option (List Member)) → ((ms : List Member) → kept ≡ Some ms → HoldsSet p ms) → AreHeldBy p (watches_of (members_or_empty kept))
 all_held p None holds = tt
 all_held p (Some ms) holds = let set = holds ms refl in set.held
+
+all_distinct : (p : Caller) (kept : Option (List Member)) → ((ms : List Member) → kept ≡ Some ms → HoldsSet p ms) → AreDistinct (members_or_empty kept)
+all_distinct p None holds = tt
+all_distinct p (Some ms) holds = let set = holds ms refl in set.distinct
+
+-- the set of a name that is there is the one that the client knows by it
+pub set_there : (p : Caller) (g : Watching) (v : Client) (set : Bytes) (ms : List Member) → Knows p g v.watching → get_by_text g.sets.kept set ≡ Some ms → IsSet p ms (set_for set v)
+set_there p g v set ms knows there =
+    subst (λ (o : Option (List Member)). IsSet p (members_or_empty o) (set_for set v)) there
+    (set_known p set (get_by_text g.sets.kept set) (set_named set v.watching.sets) (knows.sets set))
+
+-- and so is one that was put there
+set_put_there : (s : WatchSet) (v : Client) → set_for s.name (with_set s v) ≡ s
+set_put_there s v =
+    ap (λ (o : Option WatchSet). set_or_new s.name o) (set_put s.name s v.watching.sets ∙ ap (λ (b : Bool). cond b (Some s) (set_named s.name v.watching.sets)) (bytes_eq-itself s.name))
 
 -- how many members the client knows of
 pub count_known : (p : Caller) (g : Watching) (v : Client) (set : Bytes) → Knows p g v.watching → length (set_for set v).members ≡ length (members_in g.sets set)
@@ -149,12 +176,13 @@ pub record AddsTo (old new : Sets) (set name : Bytes) (h : HeldWatch) (r : own.R
 pub record Added (p : Caller) (new : Watching) (set : Bytes) (w : Watch) (v : Client) (r : Reply) : Type 0 where
   pub next : Client
   pub added : IsAdded set w v r next
+  pub each : HasEachCellOnce (cells_seen p) (set_for set next)
   pub knows : Knows p new next.watching
   pub holds : Holds p new
 
-pub set_added : (p : Caller) (old new : Watching) (v : Client) (set name : Bytes) (h : HeldWatch) (r : own.Reply) → Knows p old v.watching → Holds p old → IsHeldBy p h → new.watches ≡ old.watches → AddsTo old.sets new.sets set name h r
+pub set_added : (p : Caller) (old new : Watching) (v : Client) (set name : Bytes) (h : HeldWatch) (r : own.Reply) → IdsTellCells p → Knows p old v.watching → Holds p old → IsHeldBy p h → new.watches ≡ old.watches → AddsTo old.sets new.sets set name h r
     → Added p new set (watch_of name h) v (reply_of p.schema r)
-set_added p old new v set name h r knows holds own watches adds =
+set_added p old new v set name h r ids knows holds own watches adds =
     let ms = members_in old.sets set in
     let kept = get_by_text old.sets.kept set in
     let known : IsSet p ms (set_for set v) = set_known p set kept (set_named set v.watching.sets) (knows.sets set) in
@@ -162,9 +190,13 @@ set_added p old new v set name h r knows holds own watches adds =
     let j = joins p ms set name h v known all own (has_cell (cell_name h) ms) refl in
     let joined = with_watch name h ms in
     let s = j.known in
+    let after = holds_joined p ms set name h v known all own (all_distinct p kept (holds.sets set)) (has_cell (cell_name h) ms) refl in
     record {
       next = with_set s v;
       added = subst (λ (x : Reply). IsAdded set (watch_of name h) v x (with_set s v)) (sym (ap (reply_of p.schema) adds.reply)) j.added;
+      each =
+          subst (λ (x : WatchSet). HasEachCellOnce (cells_seen p) x) (sym (ap (λ (n : Bytes). set_for n (with_set s v)) (sym j.name) ∙ set_put_there s v))
+          (each_once p ids joined after.held s j.same after.distinct);
       knows = record {
         watches = λ q. knows.watches q ∙ ap (λ (ws : Named HeldWatch). option_map (watch_of q) (get_by_text ws.kept q)) (sym watches);
         sets = λ q.
@@ -178,7 +210,7 @@ set_added p old new v set name h r knows holds own watches adds =
       holds = record {
         watches = λ q x there. holds.watches q x (ap (λ (ws : Named HeldWatch). get_by_text ws.kept q) (sym watches) ∙ there);
         sets = λ q xs there.
-            one_held p (bytes_eq set q) joined xs (get_by_text old.sets.kept q) (holds_joined p ms set name h v known all own (has_cell (cell_name h) ms) refl) (holds.sets q) (sym (adds.kept q) ∙ there);
+            one_held p (bytes_eq set q) joined xs (get_by_text old.sets.kept q) after (holds.sets q) (sym (adds.kept q) ∙ there);
       };
     }
 

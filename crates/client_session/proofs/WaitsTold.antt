@@ -1,10 +1,10 @@
 -- What a wait is told, and what is told of a look at all that it waits for.
-use Rattle.std.proofs.Common.{◌≡◌, ◌∙◌, ◌≤◌, ◌++◌, ◌⊎◌, ℕ, List, [], ◌∷◌, length, map, take, Option, Some, None, Ok, Err, refl, sym, ap, subst, inl, inr, arith, slice_get}
+use Rattle.std.proofs.Common.{◌≡◌, ◌∙◌, ◌≤◌, ◌++◌, ◌⊎◌, ℕ, List, [], ◌∷◌, length, map, take, Contains, Option, Some, None, Ok, Err, refl, sym, ap, subst, inl, inr, arith, slice_get}
 use Rattle.std.specs.Prelude.{option_map}
 use Rattle.std.specs.BTreeMap.{get_by_text}
 use Rattle.std.proofs.lemmas.Option.{slice_get-map}
 use Rattle.mdb_datum.specs.Bytes.{Bytes}
-use Rattle.mdb_schema.proofs.Membership.{Contains-slice_get}
+use Rattle.mdb_schema.proofs.Membership.{Contains-map, Contains-slice_get}
 use Rattle.mdb_schema.specs.Tests.{◌>>=◌}
 use Rattle.mem_txn.specs.Checked.{IsBeginning, IsHeldBy}
 use Rattle.mem_txn.specs.Database.{Caller, cells_seen}
@@ -19,18 +19,21 @@ use Rattle.client_script.specs.Reply.{Reply, refused, stopped_at, woken_by}
 use Rattle.client_script.specs.Watching as told
 use Rattle.client_script.specs.Watching.{IsStopped, IsWoken, told_number, until_judged, wait_judged, watch_called}
 use Rattle.client_script.specs.declared.command.Command.TheVariants as command
+use Rattle.client_session.specs.Cells.{MemberHasMoved}
 use Rattle.client_session.specs.Steps.{HasStayedQuiet}
 use Rattle.client_session.specs.declared.reply.Reply as own
 use Rattle.client_session.specs.declared.watching.Watching.{Watching}
 use Rattle.client_session.specs.inner.ReplyOf.{reply_of}
 use Rattle.client_session.specs.inner.SetsKept.{RepliesWoken, awaited_in, beside}
-use Rattle.client_session.specs.inner.WatchingView.{Holds, IsSet, MayLook, TellsLook, member_of, wait_for, watch_of}
+use Rattle.client_session.specs.inner.WatchingView.{Holds, IsSet, Knows, MayLook, TellsLook, member_of, wait_for, watch_of}
 use Rattle.client_session.proofs.CellsOfSets.{member_held}
+use Rattle.client_session.proofs.CellsTold.{fired_moved}
 use Rattle.client_session.proofs.HeldOn.{holds_longer, knows_longer}
 use Rattle.client_session.proofs.IndexPlaces.{some_once}
-use Rattle.mem_txn.specs.CellHistory.{MovesAreTouches}
-use Rattle.client_session.proofs.LooksTold.{called_no_set, called_none, called_set, called_watch, checked_begins, fired_touched, judged_not, judged_so, prints_count, prints_none, unknown, until_free, wait_free}
+use Rattle.mem_txn.specs.CellHistory.{AreComplete, MovesAreTouches}
+use Rattle.client_session.proofs.LooksTold.{called_no_set, called_none, called_set, called_watch, checked_begins, fired_touched, judged_not, judged_so, named_watch, prints_count, prints_none, unknown, until_free, wait_free}
 use Rattle.client_session.proofs.QuietBefore.{as_long}
+use Rattle.client_session.proofs.SetsJoined.{set_there}
 use Rattle.client_session.proofs.QuietMembers.{Follows, first_quiet, follows_itself, follows_on, follows_seen, look_quiet, look_quiet_until, looks_follow, members_quiet, quiet_follows}
 
 -- ---- what is waited for
@@ -104,6 +107,7 @@ wait_unknown g set None p holds none = record {
   told = λ v may. record {
     next = v;
     says = judged_not v (wait_judged v set) unknown _ (wait_missed p g set v may (missed_alone (get_by_text g.sets.kept set) none));
+    cells = tt;
     knows = may.knows;
     holds = holds;
   };
@@ -113,6 +117,7 @@ wait_unknown g set (Some until) p holds none = record {
   told = λ v may. record {
     next = v;
     says = judged_not v (until_judged v set until) unknown _ (until_missed p g set v may until (missed_until (get_by_text g.sets.kept set) (get_by_text g.watches.kept until) none));
+    cells = tt;
     knows = may.knows;
     holds = holds;
   };
@@ -171,7 +176,7 @@ module _ (old last new : Caller) (first : Follows old last) (law : MovesAreTouch
         reply = ap stopped_at looked.number;
       }
 
-module _ (g : Watching) (set : Bytes) (old last new : Caller) (holds : Holds old g) (first : Follows old last) (begins : IsBeginning old new) (law : MovesAreTouches (cells_seen new)) (ms : List Member) where
+module _ (g : Watching) (set : Bytes) (old last new : Caller) (holds : Holds old g) (first : Follows old last) (begins : IsBeginning old new) (law : MovesAreTouches (cells_seen new)) (complete : AreComplete (cells_seen new)) (ms : List Member) where
   still : Holds new g
   still = holds_longer old new g begins holds
 
@@ -180,6 +185,18 @@ module _ (g : Watching) (set : Bytes) (old last new : Caller) (holds : Holds old
 
   read_before : (mid : Caller) (hs : List HeldWatch) → checks.AreQuiet last hs mid → Follows old mid
   read_before mid hs quiet = follows_on old last mid first (quiet_follows last mid hs quiet)
+
+  -- the member that has fired has another cell
+  member_moved : (v : Client) (place at : ℕ) (m : Member) (mid : Caller) → Knows old g v.watching → get_by_text g.sets.kept set ≡ Some ms → slice_get ms place ≡ Some m → checks.HasFired mid new m.held at → MemberHasMoved (cells_seen new) v set m.name at
+  member_moved v place at m mid knows there within fired =
+      let looked = fired.1.0 in
+      let known = set_there old g v set ms knows there in
+      let among = Contains-slice_get ms place m within in (
+        member_of m,
+        subst (λ (ws : List Watch). Contains ws (member_of m)) (sym known.members) (Contains-map member_of ms m among),
+        refl,
+        fired_moved new m.held m.name at complete (member_held new ms m (all there) among) looked.number fired.1.1,
+      )
 
   alone : (place at : ℕ) (m : Member) (mid : Caller) → get_by_text g.sets.kept set ≡ Some ms → slice_get ms place ≡ Some m → checks.AreQuiet last (take place (watches_of ms)) mid → checks.HasFired mid new m.held at
       → TellsLook g (command.Wait set) old new (woken_by m.name at)
@@ -192,6 +209,7 @@ module _ (g : Watching) (set : Bytes) (old last new : Caller) (holds : Holds old
             record {
               next = told_number (length new.seen) v;
               says = judged_so v (wait_judged v set) s.0 (woken_by m.name at) (told_number (length new.seen) v) _ s.1 (woken_is old last new first law ms s.0 s.2 v may.last place at m mid (all there) within quiet fired, refl);
+              cells = member_moved v place at m mid may.knows there within fired;
               knows = knows_longer old new g v.watching begins may.knows;
               holds = still;
             };
@@ -208,6 +226,7 @@ module _ (g : Watching) (set : Bytes) (old last new : Caller) (holds : Holds old
             record {
               next = told_number (length new.seen) v;
               says = judged_so v (until_judged v set until) (s.0, watch_of until h) (woken_by m.name at) (told_number (length new.seen) v) _ s.1 (inl (woken_is old last new first law ms s.0 s.2 v may.last place at m mid (all there) within quiet fired), refl);
+              cells = member_moved v place at m mid may.knows there within fired;
               knows = knows_longer old new g v.watching begins may.knows;
               holds = still;
             };
@@ -225,6 +244,7 @@ module _ (g : Watching) (set : Bytes) (old last new : Caller) (holds : Holds old
               next = told_number (length new.seen) v;
               says = judged_so v (until_judged v set until) (s.0, watch_of until h) (stopped_at at) (told_number (length new.seen) v) _ s.1
                   (inr (stopped_is old last new first law ms s.0 s.2 v may.last until h at mid (still.watches until h named) quiet fired), refl);
+              cells = let looked = fired.1.0 in (watch_of until h, named_watch old g v until h may.knows named, fired_moved new h until at complete (still.watches until h named) looked.number fired.1.1);
               knows = knows_longer old new g v.watching begins may.knows;
               holds = still;
             };
@@ -253,11 +273,11 @@ module _ (g : Watching) (set : Bytes) (old last new : Caller) (holds : Holds old
       subst (λ (x : Reply). TellsLook g (command.WaitUntil set until) old new x) (sym (ap (reply_of old.schema) is)) (by_until until found.0 at some.0 found.1 found.2 some.1 some.2)
 
 pub wait_told : (g : Watching) (set : Bytes) (old new : Caller) (ms : List Member) (until : Option Bytes) (u : Option HeldWatch) (w : Woken) (r : own.Reply) → awaited_in g set until ≡ Some (ms, u) → Holds old g → IsBeginning old new
-    → MovesAreTouches (cells_seen new) → AnswersWait old new ms u w → RepliesWoken ms w r → TellsLook g (wait_for set until) old new (reply_of old.schema r)
-wait_told g set old new ms until u w r there holds begins law (looks, last, quiet, told) is =
-    woken_told g set old last new holds (looks_follow looks old last (with_until (watches_of ms) u) quiet) begins law ms until u w r there told is
+    → MovesAreTouches (cells_seen new) → AreComplete (cells_seen new) → AnswersWait old new ms u w → RepliesWoken ms w r → TellsLook g (wait_for set until) old new (reply_of old.schema r)
+wait_told g set old new ms until u w r there holds begins law complete (looks, last, quiet, told) is =
+    woken_told g set old last new holds (looks_follow looks old last (with_until (watches_of ms) u) quiet) begins law complete ms until u w r there told is
 
 pub look_told : (g : Watching) (set : Bytes) (old new : Caller) (ms : List Member) (until : Option Bytes) (u : Option HeldWatch) (w : Woken) (r : own.Reply) → awaited_in g set until ≡ Some (ms, u) → Holds old g
-    → HasChecked old new (with_until (watches_of ms) u) → MovesAreTouches (cells_seen new) → AnswersWoken old new ms u w → RepliesWoken ms w r → TellsLook g (wait_for set until) old new (reply_of old.schema r)
-look_told g set old new ms until u w r there holds checked law told is =
-    woken_told g set old old new holds (follows_itself old) (checked_begins old new (with_until (watches_of ms) u) checked) law ms until u w r there told is
+    → HasChecked old new (with_until (watches_of ms) u) → MovesAreTouches (cells_seen new) → AreComplete (cells_seen new) → AnswersWoken old new ms u w → RepliesWoken ms w r → TellsLook g (wait_for set until) old new (reply_of old.schema r)
+look_told g set old new ms until u w r there holds checked law complete told is =
+    woken_told g set old old new holds (follows_itself old) (checked_begins old new (with_until (watches_of ms) u) checked) law complete ms until u w r there told is

@@ -9,7 +9,8 @@ use Rattle.mdb_schema.specs.Query.{Query}
 use Rattle.mdb_schema.specs.Schema.{DbSchema}
 use Rattle.mdb_schema.specs.Tests.{needed}
 use Rattle.mem_txn.proofs.SeenBegins.{begins_itself}
-use Rattle.mem_txn.specs.Database.{Caller, Reading}
+use Rattle.mem_txn.specs.Checked.{IdsTellCells}
+use Rattle.mem_txn.specs.Database.{Caller, Reading, cells_seen}
 use Rattle.mem_txn.specs.Transactions.{changes_of}
 use Rattle.mem_txn.specs.declared.write_txn.WriteTxn.{WriteTxn}
 use Rattle.client_script.proofs.LongerHistory.{answered_within, no_entry}
@@ -22,6 +23,7 @@ use Rattle.client_script.specs.Turn.{outcome}
 use Rattle.client_script.specs.Watching.{IsWatchTold, watch_turn}
 use Rattle.client_script.specs.declared.command.Command.{Command}
 use Rattle.client_script.specs.declared.command.Command.TheVariants as command
+use Rattle.client_session.proofs.CellsTold.{tells_refused}
 use Rattle.client_session.proofs.DeskTurns.{desk_with, none_grown}
 use Rattle.client_session.proofs.FollowsOn.{follows_then, reading_longer}
 use Rattle.client_session.proofs.OpenTurns.{beginning_later, looks_self}
@@ -90,6 +92,7 @@ watch_replied c d g r v follows told =
     record {
       next = told.next;
       answers = answers;
+      cells = told.cells;
       follows = follows_then d (desk_watching d g) v told.next (begins_itself p) (beside.transaction ∙ follows.transaction) (last_seen p v told.next follows.last beside.last) (answered_within p.schema p.seen p.number v c r told.next follows.within answers) beside.snapshots refl told.knows told.holds follows.stands follows;
       grows = none_grown p (transaction_of d.«open») r makes;
       numbered = none_numbered p (transaction_of d.«open») r none makes;
@@ -99,6 +102,11 @@ watch_replied c d g r v follows told =
 pub watch_told : (c c' : Command) (d : Desk) (g : Watching) (told : Result Reply AllocError) → c' ≡ c → IfOk told (λ r. (p : Caller) (now : ℕ) (v : Client) → Knows p d.watching v.watching → Holds p d.watching → WatchTold p now g v c (reply_of p.schema r)) → IfOk told (λ r. RepliesTo c' d (desk_watching d g) (reply_of (caller_of d.«open»).schema r))
 watch_told c c' d g (Err e) is told = tt
 watch_told c c' d g (Ok r) is told = subst (λ (x : Command). RepliesTo x d (desk_watching d g) (reply_of (caller_of d.«open»).schema r)) (sym is) (λ v follows. watch_replied c d g (reply_of (caller_of d.«open»).schema r) v follows (told (caller_of d.«open») (length (caller_of d.«open»).seen) v follows.knows follows.holds))
+
+-- the same where ids tell cells
+pub set_told : (c : Command) (d : Desk) (g : Watching) (told : Result Reply AllocError) → IdsTellCells (caller_of d.«open») → IfOk told (λ r. (p : Caller) (now : ℕ) (v : Client) → IdsTellCells p → Knows p d.watching v.watching → Holds p d.watching → WatchTold p now g v c (reply_of p.schema r)) → IfOk told (λ r. RepliesTo c d (desk_watching d g) (reply_of (caller_of d.«open»).schema r))
+set_told c d g (Err e) ids told = tt
+set_told c d g (Ok r) ids told = λ v follows. watch_replied c d g (reply_of (caller_of d.«open»).schema r) v follows (told (caller_of d.«open») (length (caller_of d.«open»).seen) v ids follows.knows follows.holds)
 
 -- ---- a question whose watch is kept
 
@@ -112,6 +120,7 @@ asks_open d g name q r s (Ok x) opened seen asks = λ v follows.
     watch_replied (command.Watch name q) d g (reply_of p.schema x) v follows (record {
       next = asked.next;
       says = rw sight asked.says;
+      cells = tt;
       knows = asked.knows;
       holds = asked.holds;
     })
@@ -154,6 +163,7 @@ asks_kept d g name snapshot q k r (Ok x) there read asks = λ v follows.
     watch_replied (command.WatchIn name snapshot q) d g (reply_of p.schema x) v follows (record {
       next = asked.next;
       says = ap (λ (o : Option Sight). outcome v (watch_turn p.schema p.seen v (needed (codes "unknown-name") o) name q)) named ∙ asked.says;
+      cells = tt;
       knows = asked.knows;
       holds = asked.holds;
     })
@@ -279,6 +289,7 @@ look_refused c d txn is opened stands = record {
       watch_replied c d d.watching (said.refused (codes "write-open")) v follows (record {
         next = v;
         says = write_told c is p.schema p.seen p.number (length p.seen) v (ap no_write_open follows.transaction ∙ ap (λ (x : Open). no_write_open (transaction_of x)) opened);
+        cells = tells_refused (cells_seen p) v c (codes "write-open") v;
         knows = follows.knows;
         holds = follows.holds;
       });

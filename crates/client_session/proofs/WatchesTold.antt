@@ -19,18 +19,19 @@ use Rattle.mdb_schema.specs.Write.{Write}
 use Rattle.mdb_schema.specs.declared.answer.Answer.{Answer}
 use Rattle.mdb_schema.specs.declared.ask_error.AskError.{AskError}
 use Rattle.mdb_schema.specs.declared.ask_error.AskError.TheVariants as ask_errors
-use Rattle.mem_txn.specs.Checked.{IsHeldBy}
-use Rattle.mem_txn.specs.Database.{Caller, Reading, reading_of}
+use Rattle.mem_txn.specs.Checked.{IdsTellCells, IsHeldBy}
+use Rattle.mem_txn.specs.Database.{Caller, Reading, cells_seen, reading_of}
 use Rattle.mem_txn.specs.Held.{AnswersHeld, HeldWatch, IsHeldOf, tells_own}
 use Rattle.mem_txn.proofs.HeldAlong.{asked_is_held, held_longer}
 use Rattle.watch_set.specs.Members as set_specs
 use Rattle.watch_set.specs.Members.{Member, chosen}
 use Rattle.client_script.specs.Client.{Client, Judged, Sight, Watch, set_named, state_seen, watch_named}
 use Rattle.client_script.specs.RefusedWord.{question_word}
-use Rattle.client_script.specs.Reply.{answered, refused}
+use Rattle.client_script.specs.Reply.{Reply, answered, refused}
 use Rattle.client_script.specs.Turn.{Turn, outcome}
 use Rattle.client_script.specs.Watching.{asked_watched, limit_judged, limited, watch_called, watch_turn, with_watch}
 use Rattle.client_script.specs.declared.command.Command.TheVariants as command
+use Rattle.client_session.specs.Cells.{TellsCells}
 use Rattle.client_session.specs.declared.reply.Reply as own
 use Rattle.client_session.specs.declared.reply.Reply.TheVariants as replies
 use Rattle.client_session.specs.declared.rule.Rule.{Rule}
@@ -242,21 +243,23 @@ module _ (p : Caller) (v : Client) (s : Sight) (name : Bytes) (q : Query) where
 
 -- ---- a watch added to a set
 
-module _ (p : Caller) (now : ℕ) (old new : Watching) (v : Client) (knows : Knows p old v.watching) (holds : Holds p old) (set : Bytes) where
+module _ (p : Caller) (now : ℕ) (old new : Watching) (v : Client) (ids : IdsTellCells p) (knows : Knows p old v.watching) (holds : Holds p old) (set : Bytes) where
   pub add_unknown : (name : Bytes) → get_by_text old.watches.kept name ≡ None → WatchTold p now old v (command.Add set name) (refused unknown)
   add_unknown name none = record {
     next = v;
     says = judged_not v (watch_called name v) unknown _ (called_none p old v name knows none);
+    cells = tt;
     knows = knows;
     holds = holds;
   }
 
   pub add_told : (name : Bytes) (h : HeldWatch) (r : own.Reply) → get_by_text old.watches.kept name ≡ Some h → new.watches ≡ old.watches → AddsTo old.sets new.sets set name h r → WatchTold p now new v (command.Add set name) (reply_of p.schema r)
   add_told name h r there watches adds =
-      let a = set_added p old new v set name h r knows holds (holds.watches name h there) watches adds in
+      let a = set_added p old new v set name h r ids knows holds (holds.watches name h there) watches adds in
       record {
         next = a.next;
         says = judged_so v (watch_called name v) (watch_of name h) (reply_of p.schema r) a.next _ (called_watch p old v name h knows there) a.added;
+        cells = subst (λ (x : Reply). TellsCells (cells_seen p) v (command.Add set name) x a.next) (sym (ap (reply_of p.schema) adds.reply)) a.each;
         knows = a.knows;
         holds = a.holds;
       }
@@ -277,6 +280,7 @@ module _ (p : Caller) (now : ℕ) (old new : Watching) (v : Client) (knows : Kno
     limit_unknown none = record {
       next = v;
       says = judged_not v (limit_judged v set limit name other) unknown _ (limit_missed (get_by_text old.watches.kept name) refl none);
+      cells = tt;
       knows = knows;
       holds = holds;
     }
@@ -290,10 +294,11 @@ module _ (p : Caller) (now : ℕ) (old new : Watching) (v : Client) (knows : Kno
       pub limit_first : (r : own.Reply) → nat_lt (length (members_in old.sets set)) limit ≡ true → new.watches ≡ old.watches → AddsTo old.sets new.sets set name h r
           → WatchTold p now new v (command.AddLimit set limit name other) (reply_of p.schema r)
       limit_first r is watches adds =
-          let a = set_added p old new v set name h r knows holds (holds.watches name h there) watches adds in
+          let a = set_added p old new v set name h r ids knows holds (holds.watches name h there) watches adds in
           record {
             next = a.next;
             says = judged_so v (limit_judged v set limit name other) (watch_of name h) (reply_of p.schema r) a.next _ (limit_found true is) a.added;
+            cells = subst (λ (x : Reply). TellsCells (cells_seen p) v (command.AddLimit set limit name other) x a.next) (sym (ap (reply_of p.schema) adds.reply)) a.each;
             knows = a.knows;
             holds = a.holds;
           }
@@ -301,10 +306,11 @@ module _ (p : Caller) (now : ℕ) (old new : Watching) (v : Client) (knows : Kno
       pub limit_other : (r : own.Reply) → nat_lt (length (members_in old.sets set)) limit ≡ false → new.watches ≡ old.watches → AddsTo old.sets new.sets set other o r
           → WatchTold p now new v (command.AddLimit set limit name other) (reply_of p.schema r)
       limit_other r is watches adds =
-          let a = set_added p old new v set other o r knows holds (holds.watches other o beside) watches adds in
+          let a = set_added p old new v set other o r ids knows holds (holds.watches other o beside) watches adds in
           record {
             next = a.next;
             says = judged_so v (limit_judged v set limit name other) (watch_of other o) (reply_of p.schema r) a.next _ (limit_found false is) a.added;
+            cells = subst (λ (x : Reply). TellsCells (cells_seen p) v (command.AddLimit set limit name other) x a.next) (sym (ap (reply_of p.schema) adds.reply)) a.each;
             knows = a.knows;
             holds = a.holds;
           }

@@ -5,7 +5,8 @@
 use Rattle.std.specs.Prelude.{◌≡◌, ◌-◌, ◌<◌, ◌≤◌, ◌++◌, ℕ, List, [], ◌∷◌, Option, Some, length, map, take, slice_get, ⊤}
 use mathlib.Core.List.{IsPrefix}
 use Rattle.mdb_schema.specs.History.{Commit, History}
-use Rattle.mem_txn.specs.Database.{Caller}
+use Rattle.mem_txn.specs.Database.{Caller, cells_seen}
+use Rattle.client_session.specs.Cells.{SessionByCells}
 use Rattle.client_session.specs.Counts.{AreAmong, counts_told}
 use Rattle.client_script.specs.Legal.{printed}
 use Rattle.client_script.specs.Reply.{Reply, lines_text}
@@ -35,10 +36,13 @@ abbrev pub AreRising : ℕ → List ℕ → ℕ → Type 0
 AreRising low [] high = low ≤ high
 AreRising low (m ∷ ms) high = (low < m) × AreRising m ms high
 
--- the replies to the lines that are answered: they are a session, and the text is theirs
+-- the replies to the lines that are answered: they are a session, also by what they tell of cells,
+-- and the text is theirs
 pub record AreTold (s : Progress) (replies : List Reply) : Type 0 where
   pub session : let p = s.caller in
       Session p.schema p.seen p.number (take s.answered s.script) replies
+  pub cells : let p = s.caller in
+      SessionByCells (cells_seen p) p.number (take s.answered s.script) replies
   pub written : s.text ≡ lines_text (take s.answered s.script) replies
 
 -- A call has told these replies behind those that were told before. The numbers that they print for

@@ -1,4 +1,5 @@
 pub mod Answered
+pub mod Cells
 pub mod Counts
 pub mod Progress
 pub mod Steps

@@ -171,13 +171,13 @@ impl Desk {
                 snapshot,
                 query,
             } => self.watch_in(alloc, name, snapshot, query),
-            Command::Add { set, name } => self.watching.add(alloc, set, name),
+            Command::Add { set, name } => self.add(alloc, set, name),
             Command::AddLimit {
                 set,
                 limit,
                 name,
                 other,
-            } => self.watching.add_limit(alloc, set, *limit, name, other),
+            } => self.add_limit(alloc, set, *limit, name, other),
             Command::Size { set } => Ok(self.watching.size(set)),
             _ => unreachable!(),
         }
@@ -215,6 +215,36 @@ impl Desk {
             Some(Kept::Committed(txn)) => self.watching.ask(alloc, name, Some(txn), query),
             Some(Kept::Uncommitted(_)) => self.watching.ask(alloc, name, None, query),
         }
+    }
+
+    /// Adds a watch to a set.
+    fn add(&mut self, alloc: Global, set: &Text, name: &Text) -> Result<Reply, AllocError>
+        requires stands { Stands self.old.open }
+        ensures turn { IfOk result (λ r. RepliesTo (command.Add set.now name.now) self.old self.new
+            (reply_of (caller_of self.old.open).schema r)) }
+        ensures caller { caller_of self.new.open ≡ caller_of self.old.open }
+    {
+        self.open.ids_tell_cells();
+        self.watching.add(alloc, set, name)
+    }
+
+    /// Adds a watch to a set that has fewer members than the limit, and else the other one.
+    fn add_limit(
+        &mut self,
+        alloc: Global,
+        set: &Text,
+        limit: u32,
+        name: &Text,
+        other: &Text,
+    ) -> Result<Reply, AllocError>
+        requires stands { Stands self.old.open }
+        ensures turn { IfOk result (λ r. RepliesTo
+            (command.AddLimit set.now limit name.now other.now) self.old self.new
+            (reply_of (caller_of self.old.open).schema r)) }
+        ensures caller { caller_of self.new.open ≡ caller_of self.old.open }
+    {
+        self.open.ids_tell_cells();
+        self.watching.add_limit(alloc, set, limit, name, other)
     }
 
     /// Carries out a check or a wait.

@@ -2,6 +2,7 @@
 ghost use Rattle.std.specs.Prelude.{◌≡◌, IfOk, MatchResult, OnErr, Ok, Err, option_map};
 ghost use Rattle.mdb_schema.specs.Answer.{Asked};
 ghost use Rattle.mdb_schema.specs.Refusals.{AnswersAsk};
+ghost use Rattle.mem_txn.specs.Checked.{IdsTellCells};
 ghost use Rattle.mem_txn.specs.Database.{IsOf};
 ghost use Rattle.client_session.specs.Answered.{IsLater};
 ghost use Rattle.client_script.specs.declared.command.Command.TheVariants as command;
@@ -15,6 +16,7 @@ use crate::rule::Rule;
 use client_script::Command;
 use mdb_datum::{Row, Text};
 use mdb_schema::{Answer, AskError, Query, Schema, WriteError};
+use mem_txn::pass_laws::{ids_tell_cells, ids_tell_cells_within};
 use mem_txn::{
     BeginError, BeginRefused, CommitRefused, Committed, Db, Pass, ReadTxn, Tried, TxnAskError,
     TxnWipeError, TxnWriteError, WriteTxn,
@@ -31,6 +33,17 @@ pub(crate) enum Open {
 }
 
 impl Open {
+    /// What is known of the client's pass: of the watches that it holds, ids tell cells.
+    pub(crate) fn ids_tell_cells(&self)
+        ensures { IdsTellCells (caller_of self.now) }
+    {
+        match self {
+            Open::Nothing(pass) => ids_tell_cells(pass),
+            Open::Reading(pass, _) => ids_tell_cells(pass),
+            Open::Writing(txn) => ids_tell_cells_within(txn),
+        }
+    }
+
     /// Carries out a command that begins or ends a transaction.
     pub(crate) fn turn<R: Wait>(
         self,

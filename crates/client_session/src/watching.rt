@@ -10,6 +10,7 @@ ghost use Rattle.client_session.specs.inner.SetsKept.{IsThere, PutsBack, Replies
 ghost use Rattle.client_session.specs.inner.SetsKept.{awaited_in, look_reply, members_in};
 ghost use Rattle.client_session.specs.inner.WatchingView.{AsksWatch, HasLookedOn, Holds, IsSeenIn, Knows};
 ghost use Rattle.client_session.specs.inner.WatchingView.{TellsLook, TellsOnce, WatchTold, wait_for};
+ghost use Rattle.mem_txn.specs.Checked.{IdsTellCells};
 ghost use Rattle.mem_txn.specs.Database.{Caller, IsOf};
 
 use crate::named::Named;
@@ -18,7 +19,7 @@ use crate::reply::Reply;
 use crate::rule::Rule;
 use mdb_datum::Text;
 use mdb_schema::Query;
-use mem_txn::pass_laws::moves_are_touches;
+use mem_txn::pass_laws::{moves_are_touches, trees_are_complete};
 use mem_txn::{Db, Held, Look, Pass, ReadTxn};
 use std::alloc::{AllocError, Global};
 use std::sync::Wait;
@@ -79,7 +80,7 @@ impl Watching {
         set: &Text,
         name: &Text,
     ) -> Result<Reply, AllocError>
-        ensures { IfOk result (λ r. (p : Caller) (now : ℕ) (v : Client)
+        ensures { IfOk result (λ r. (p : Caller) (now : ℕ) (v : Client) → IdsTellCells p
             → Knows p self.old v.watching → Holds p self.old
             → WatchTold p now self.new v (command.Add set.now name.now) (reply_of p.schema r)) }
     {
@@ -101,7 +102,7 @@ impl Watching {
         name: &Text,
         other: &Text,
     ) -> Result<Reply, AllocError>
-        ensures { IfOk result (λ r. (p : Caller) (now : ℕ) (v : Client)
+        ensures { IfOk result (λ r. (p : Caller) (now : ℕ) (v : Client) → IdsTellCells p
             → Knows p self.old v.watching → Holds p self.old
             → WatchTold p now self.new v (command.AddLimit set.now limit name.now other.now)
             (reply_of p.schema r)) }
@@ -146,6 +147,7 @@ impl Watching {
         };
         let look = db.check(rt, pass, held)?;
         moves_are_touches(pass);
+        trees_are_complete(pass);
         Ok(look_reply(look))
     }
 
@@ -171,6 +173,7 @@ impl Watching {
         };
         let woken = members.wait(rt, db, pass, until)?;
         moves_are_touches(pass);
+        trees_are_complete(pass);
         woken_reply(alloc, members, woken)
     }
 
@@ -198,6 +201,7 @@ impl Watching {
             return Ok(None);
         };
         moves_are_touches(pass);
+        trees_are_complete(pass);
         Ok(Some(woken_reply(alloc, members, woken)?))
     }
 

@@ -5,6 +5,7 @@ ghost use Rattle.mdb_schema.specs.LawfulSchema.{IsLawfulTable};
 ghost use Rattle.mdb_schema.specs.Wipe.{wipe, wipe_by_prefix};
 ghost use Rattle.mdb_schema.specs.Write.{put, remove, put_row, remove_row};
 ghost use Rattle.mem_txn.specs.Changes.{AnswersTxnAsk, AnswersTxnWipe, AnswersTxnWrite, begun, gives_replaced, gives_row, present, view_at};
+ghost use Rattle.mem_txn.specs.Checked.{IdsTellCells};
 ghost use Rattle.mem_txn.specs.Database.{IsOf, state_seen};
 ghost use Rattle.mem_txn.specs.inner.ChangesView.{AreCounted, AreSince, IsBase};
 ghost use Rattle.mem_txn.specs.inner.Commits.{IsNextOf};
@@ -81,6 +82,13 @@ impl Changes {
         ensures few { result < 2 ^ 63 }
     {
         self.number
+    }
+
+    /// What is known of its caller: of the watches that it holds, ids tell cells.
+    pub(crate) fn ids_tell_cells(&self)
+        ensures { IdsTellCells self.now.caller }
+    {
+        self.pass.ids_tell_cells();
     }
 
     /// Whether an earlier write found no memory.

@@ -3,8 +3,10 @@
 ghost use Rattle.mem_txn.specs.CellHistory.{AreComplete, KeepUntouched, MovesAreTouches, StayAway, WatchesHold};
 ghost use Rattle.mem_txn.specs.Checked.{AskedIsHeld, HeldLonger, HeldStays, IdsTellCells};
 ghost use Rattle.mem_txn.specs.Database.{cells_seen};
+ghost use Rattle.mem_txn.specs.Transactions.{changes_of};
 
 use crate::pass::Pass;
+use crate::write_txn::WriteTxn;
 
 /// Of the commits that a pass has seen: a question's cell that none of them fires since guards its
 /// answer.
@@ -69,4 +71,11 @@ pub fn ids_tell_cells(pass: &Pass)
     ensures { IdsTellCells pass.now }
 {
     let _ = pass.token.number();
+}
+
+/// The same of the pass that a write transaction owns.
+pub fn ids_tell_cells_within<D: Drop>(txn: &WriteTxn<D>)
+    ensures { IdsTellCells (changes_of txn.now).caller }
+{
+    txn.changes.ids_tell_cells();
 }

@@ -4,6 +4,7 @@ ghost use Rattle.std.specs.Arc.{arc_value};
 ghost use Rattle.mem_txn.specs.Database.{IsOf, cells_seen, state_seen};
 ghost use Rattle.db_front.specs.Commits.{HasFirings};
 ghost use Rattle.mem_txn.specs.CellHistory as firings;
+ghost use Rattle.mem_txn.specs.Checked.{IdsTellCells};
 ghost use Rattle.mem_txn.specs.Transactions.{TellsChanges};
 ghost use Rattle.mem_txn.specs.inner.ChangesView.{AreCounted, AreSince, IsBase};
 ghost use Rattle.mem_txn.specs.inner.Commits.{IsNext};
@@ -83,6 +84,13 @@ impl Turn {
         ensures { IsBase self.now }
     {
         let _ = self.base.view();
+    }
+
+    /// What is known of its caller: of the watches that it holds, ids tell cells.
+    pub(crate) fn ids_tell_cells(&self)
+        ensures { IdsTellCells self.now.caller }
+    {
+        let _ = self.token.number();
     }
 
     /// The schema of its database.

@@ -4,12 +4,12 @@ use Rattle.std.specs.Prelude.{Some, Result, Ok, Err, length, map, take, ⊤}
 use Rattle.std.specs.declared.alloc.AllocError.{AllocError}
 use Rattle.mdb_datum.specs.Bytes.{Bytes}
 use Rattle.mdb_schema.specs.History.{Commit}
-use Rattle.mem_txn.specs.Database.{Caller}
+use Rattle.mem_txn.specs.Database.{Caller, cells_seen}
+use Rattle.client_session.specs.Cells.{RunsByCells}
 use Rattle.client_session.specs.Counts.{AreAmong, counts_told}
 use Rattle.client_script.specs.Client.{Client, at_start}
 use Rattle.client_script.specs.Legal.{printed}
 use Rattle.client_script.specs.Reply.{Reply, line_text, lines_text}
-use Rattle.client_script.specs.Session.{Runs}
 use Rattle.client_script.specs.declared.command.Command.{Command}
 use Rattle.client_script.specs.declared.command.Command.TheVariants as command
 use Rattle.client_script.specs.declared.line.Line.{Line}
@@ -54,7 +54,7 @@ pub record SoFar (script : List Line) (at : ℕ) (d : Desk) (text : Bytes) : Typ
   pub replies : List Reply
   pub client : Client
   pub runs : let p = caller_of d.«open» in
-      Runs p.schema p.seen p.number at_start (take at script) replies client
+      RunsByCells (cells_seen p) p.number at_start (take at script) replies client
   pub follows : Follows d client
   pub written : text ≡ lines_text (take at script) replies
 
@@ -63,7 +63,7 @@ pub record Carried (pass : Caller) (before : List Reply) (done : List Line) (d :
     (text : Bytes) : Type 0 where
   pub replies : List Reply
   pub client : Client
-  pub runs : Runs pass.schema (caller_of d.«open»).seen pass.number at_start done
+  pub runs : RunsByCells (cells_seen (caller_of d.«open»)) pass.number at_start done
       (before ++ replies) client
   pub follows : Follows d client
   pub written : text ≡ lines_text done (before ++ replies)
@@ -80,7 +80,7 @@ pub record Carried (pass : Caller) (before : List Reply) (done : List Line) (d :
 pub record Before (pass : Caller) (script : List Line) (from : ℕ) (text : Bytes) : Type 0 where
   pub replies : List Reply
   pub client : Client
-  pub runs : Runs pass.schema pass.seen pass.number at_start (take from script) replies client
+  pub runs : RunsByCells (cells_seen pass) pass.number at_start (take from script) replies client
   pub written : text ≡ lines_text (take from script) replies
 
 -- from a place of a script on to another
@@ -94,7 +94,7 @@ pub record Adds (pass new : Caller) (before : List Reply) (done : List Line) (te
   where
     pub replies : List Reply
     pub client : Client
-    pub runs : Runs pass.schema new.seen pass.number at_start done (before ++ replies) client
+    pub runs : RunsByCells (cells_seen new) pass.number at_start done (before ++ replies) client
     pub written : text ≡ lines_text done (before ++ replies)
     pub later : IsLater pass new
     pub read : List ℕ

@@ -2,9 +2,10 @@
 use Rattle.std.specs.Prelude.{◌≡◌, ◌≤◌, ℕ, Option, Some, None, length, option_map, Ok, ⊤}
 use Rattle.std.specs.BTreeMap.{get_by_text}
 use Rattle.mdb_datum.specs.Bytes.{Bytes}
-use Rattle.mem_txn.specs.Database.{Caller, View}
+use Rattle.mem_txn.specs.Database.{Caller, View, cells_seen}
 use Rattle.mem_txn.specs.Transactions.{HasLost}
 use Rattle.client_script.specs.Within.{IsWithin}
+use Rattle.client_session.specs.Cells.{TellsCells}
 use Rattle.client_session.specs.Counts.{AreAmong, count_told}
 use Rattle.client_script.specs.Client.{Client, Sight, snapshot_named, some_open, state_seen}
 use Rattle.client_script.specs.Reply.{Reply}
@@ -61,6 +62,7 @@ pub record Replied (c : Command) (old new : Desk) (r : Reply) (v : Client) : Typ
   pub next : Client
   pub answers : Answers (caller_of old.open).schema (caller_of new.open).seen
       (caller_of old.open).number v c r next
+  pub cells : TellsCells (cells_seen (caller_of new.open)) v c r next
   pub follows : Follows new next
   pub grows : Grows (caller_of old.open) (caller_of new.open) (transaction_of old.open) r
   pub numbered : IsNumbered (caller_of old.open) (transaction_of old.open) r

@@ -2,13 +2,13 @@
 use Rattle.std.specs.Prelude.{◌≡◌, ◌≤◌, ◌<◌, ℕ, Bool, false, List, Option, Some, None, IsSome, length, take, refl}
 use Rattle.std.specs.Coded.{Coded, code_by, coded×, coded_ℕ, coded_bool, coded_list}
 use Rattle.mdb_datum.specs.Bytes.{Bytes}
-use Rattle.mem_txn.specs.Database.{Caller}
+use Rattle.mem_txn.specs.Database.{Caller, cells_seen}
 use Rattle.mem_txn.specs.inner.Stored.{caller_code, no_caller}
 use Rattle.client_script.specs.declared.line.Line.{Line}
 use Rattle.client_script.specs.inner.StoredScript.{script_code}
 use Rattle.client_script.specs.Client.{Client, at_start}
 use Rattle.client_script.specs.Reply.{Reply, lines_text}
-use Rattle.client_script.specs.Session.{Runs}
+use Rattle.client_session.specs.Cells.{RunsByCells}
 use Rattle.client_session.specs.Progress.{Progress}
 use Rattle.client_session.specs.declared.desk.Desk.{Desk}
 use Rattle.client_session.specs.inner.DeskView.{Follows}
@@ -46,7 +46,7 @@ pub record HasDone (script : List Line) (desk : Option Desk) (answered : ℕ) (t
   pub replies : List Reply
   pub client : Client
   pub runs : let p = caller_in desk in
-      Runs p.schema p.seen p.number at_start (take answered script) replies client
+      RunsByCells (cells_seen p) p.number at_start (take answered script) replies client
   pub written : text ≡ lines_text (take answered script) replies
   pub follows : failed ≡ false → answered < length script → (d : Desk) → desk ≡ Some d
       → Follows d client

@@ -5,9 +5,9 @@ use Rattle.std.specs.BTreeMap.{get_by_text}
 use Rattle.mdb_datum.specs.Bytes.{Bytes}
 use Rattle.mdb_schema.specs.Query.{Query}
 use Rattle.mem_txn.specs.Checked.{IsHeldBy}
-use Rattle.mem_txn.specs.Database.{Caller, Reading}
+use Rattle.mem_txn.specs.Database.{Caller, Reading, cells_seen}
 use Rattle.mem_txn.specs.Held.{HeldWatch}
-use Rattle.watch_set.specs.Members.{AreHeldBy, Member, cell_name, has_cell, watches_of}
+use Rattle.watch_set.specs.Members.{AreDistinct, AreHeldBy, Member, cell_name, has_cell, watches_of}
 use Rattle.client_script.specs.Client as client
 use Rattle.client_script.specs.Client.{Client, Sight, Watch, WatchSet, no_write_open, set_named, watch_named}
 use Rattle.client_script.specs.Reply.{Reply}
@@ -16,6 +16,7 @@ use Rattle.client_script.specs.Watching.{IsWatchTold, watch_turn}
 use Rattle.client_script.specs.declared.command.Command.{Command}
 use Rattle.client_script.specs.declared.command.Command.TheVariants as command
 use Rattle.client_session.specs.Answered.{IsLater}
+use Rattle.client_session.specs.Cells.{TellsCells}
 use Rattle.client_session.specs.Counts.{AreAmong, count_told}
 use Rattle.client_session.specs.Steps.{HasStayedQuiet}
 use Rattle.client_session.specs.declared.watching.Watching.{Watching}
@@ -23,9 +24,10 @@ use Rattle.client_session.specs.inner.OpenView.{WasRead}
 
 -- ---- what is held
 
--- the caller holds each watch of a set, and there is one
+-- the caller holds each watch of a set, and there is one; each is of another cell
 pub record HoldsSet (p : Caller) (ms : List Member) : Type 0 where
   pub some : 0 < length ms
+  pub distinct : AreDistinct ms
   pub held : AreHeldBy p (watches_of ms)
 
 -- the caller holds each watch, and each of each set
@@ -50,9 +52,11 @@ pub record HasCellOf (p : Caller) (ms : List Member) (w : Watch) : Type 0 where
   pub number : held.number ≡ w.number
   pub cell : has_cell (cell_name held) ms ≡ true
 
--- a set has the members that the client knows of, and the cell of each watch that was ever added
+-- a set has the members that the client knows of, which were added to it, and the cell of each
+-- watch that ever was
 pub record IsSet (p : Caller) (ms : List Member) (s : WatchSet) : Type 0 where
   pub members : s.members ≡ map member_of ms
+  pub some : (w : Watch) → Contains s.members w → Contains s.added w
   pub added : (w : Watch) → Contains s.added w → HasCellOf p ms w
 
 abbrev pub IsSetOf : Caller → Option (List Member) → Option WatchSet → Type 0
@@ -96,6 +100,7 @@ pub record WatchTold (p : Caller) (now : ℕ) (new : Watching) (v : Client) (c :
     : Type 0 where
   pub next : Client
   pub says : IsWatchTold p.schema p.seen p.number now v c r next
+  pub cells : TellsCells (cells_seen p) v c r next
   pub knows : Knows p new next.watching
   pub holds : Holds p new
 

@@ -22,11 +22,5 @@ returns-in-Defer-clause-turn c = replies_told (command.Defer c.in-Defer.text) c.
 pub returns-in-Question-clause-turn : goal.returns-in-Question-clause-turn
 returns-in-Question-clause-turn c = replies_told (command.Question c.in-Question.query) c.args.command.now c.args.self.now c.ask.new.self _ _ c.ask.result c.in-Question.is refl refl c.ask.ensures.turn
 
-pub returns-in-Add-clause-turn : goal.returns-in-Add-clause-turn
-returns-in-Add-clause-turn c = watch_told (command.Add c.in-Add.set c.in-Add.name) c.args.command.now c.args.self.now c.add.new.self c.add.result c.in-Add.is c.add.ensures
-
-pub returns-in-AddLimit-clause-turn : goal.returns-in-AddLimit-clause-turn
-returns-in-AddLimit-clause-turn c = watch_told (command.AddLimit c.in-AddLimit.set c.in-AddLimit.limit c.in-AddLimit.name c.in-AddLimit.other) c.args.command.now c.args.self.now c.add_limit.new.self c.add_limit.result c.in-AddLimit.is c.add_limit.ensures
-
 pub returns-in-Size-clause-turn : goal.returns-in-Size-clause-turn
 returns-in-Size-clause-turn c = watch_told (command.Size c.in-Size.set) c.args.command.now c.args.self.now c.args.self.now.watching (Ok c.size.result) c.in-Size.is c.size.ensures

@@ -13,4 +13,4 @@ pub returns-clause-told : goal.returns-clause-told
 returns-clause-told g c =
     let p = c.args.pass.now in
     subst (λ (r : Reply). TellsLook c.args.self.now (command.Check c.args.name.now) p c.check.new.pass (reply_of p.schema r)) (sym c.look_reply.ensures)
-    (check_told c.args.self.now c.args.name.now p c.check.new.pass c.in-Some.held.now c.in_ok-look.look (sym c.in-Some.ensures) c.requires.holds c.check.ensures.seen c.check.ensures.held c.moves_are_touches.ensures c.in_ok-look.ensures.look)
+    (check_told c.args.self.now c.args.name.now p c.check.new.pass c.in-Some.held.now c.in_ok-look.look (sym c.in-Some.ensures) c.requires.holds c.check.ensures.seen c.check.ensures.held c.moves_are_touches.ensures c.trees_are_complete.ensures c.in_ok-look.ensures.look)

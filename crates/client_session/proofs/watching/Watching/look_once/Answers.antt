@@ -25,7 +25,7 @@ returns-clause-told g c =
     let u = option_copied c.in-Some.until in
     let old = c.args.pass.now in
     let new = c.look_once.new.pass in
-    look_told c.args.self.now c.args.set.now old new ms (option_copied c.args.until) u c.in-Some-2.woken c.in_ok-woken_reply.field-0 (sym c.in-Some.ensures) c.requires.holds c.look_once.ensures.seen c.moves_are_touches.ensures
+    look_told c.args.self.now c.args.set.now old new ms (option_copied c.args.until) u c.in-Some-2.woken c.in_ok-woken_reply.field-0 (sym c.in-Some.ensures) c.requires.holds c.look_once.ensures.seen c.moves_are_touches.ensures c.trees_are_complete.ensures
     (subst (λ w. AnswersLook old new ms u w) c.in-Some-2.is c.in_ok-woken.ensures.look) c.in_ok-woken_reply.ensures
 
 pub returns-clause-looked : goal.returns-clause-looked
