@@ -5,6 +5,7 @@ mod parts;
 use crate::{Edges, Node, Tree};
 use built::{draws_two, empty_tree};
 use mdb_datum::{Datum, Row};
+use std::alloc::{AllocError, Global};
 use std::test::Fail;
 
 /// Whether there is a row whose only member is this number.
@@ -59,12 +60,17 @@ fn an_empty_tree_is_watched_at_its_root(rt: HostRuntime) -> Result<(), Fail> {
     Ok(())
 }
 
-#[test]
-fn a_shared_tree_outlives_the_first(rt: HostRuntime) -> Result<(), Fail> {
-    let tree = empty_tree(rt.alloc())?;
+/// Whether a second owner has no key, once the first is gone.
+fn outlives(alloc: Global) -> Result<bool, AllocError> {
+    let tree = empty_tree(alloc)?;
     let again = tree.share()?;
     drop(tree);
-    assert!(rt; again.len() == 0 && again.root().count() == 0);
+    Ok(again.len() == 0 && again.root().count() == 0)
+}
+
+#[test]
+fn a_shared_tree_outlives_the_first(rt: HostRuntime) -> Result<(), Fail> {
+    assert!(rt; outlives(rt.alloc())?);
     Ok(())
 }
 

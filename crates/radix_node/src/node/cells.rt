@@ -31,8 +31,8 @@ pub fn push_cell(
 #[tactic(auto, using(crate::proofs::CellLevels::out_cell, crate::proofs::CellLevels::out_cell_leaf, crate::proofs::CellLevels::out_cell_under))]
 impl Node {
     /// Adds to a list the cells of the node and its leaf, and of all under it, whose ids are below
-    /// `first`, and tells how many leaves these are in all, if fewer than 2^64. It takes time in the
-    /// number of nodes, and is refused as [`push_cell`] is.
+    /// `first`. It gives the number of leaves at the node and under it, if that is below 2^64. It
+    /// takes time in the number of nodes, and is refused as [`push_cell`] is.
     pub fn push_cells(&self, first: u64, into: &mut Vec<Arc<WatchCell>>) -> Result<u64, AllocError>
         ensures cells { OnOk result (map arc_value into.new.items
             ≡ leave_all first (all_cells (cell_node self.now)) (map arc_value into.old.items)) }

@@ -1,5 +1,5 @@
 //! Rows, edges, cells and the empty tree.
-ghost use Rattle.std.specs.Prelude.{IfOk};
+ghost use Rattle.std.specs.Prelude.{◌≡◌, ◌+◌, ◌<◌, ◌^◌, IfOk, OnOk};
 ghost use Rattle.mdb_datum.specs.Datum as of;
 ghost use Rattle.mdb_datum.specs.Row.{IsCanonicalRow};
 ghost use Rattle.radix_node.specs.Edges.{EdgesRise};
@@ -10,7 +10,7 @@ use mdb_datum::{Datum, Members, Row, read_doc};
 use std::alloc::{AllocError, Global};
 use std::sync::Arc;
 use std::test::Fail;
-use watch_word::{WatchCell, open_book, open_cell};
+use watch_word::{Front, WatchCell, open_book, open_cell};
 
 #[tactic(auto, using(mdb_datum::proofs::Variants::doc_of_members))]
 fn members(alloc: Global, text: &str) -> Result<Members, Fail>
@@ -93,12 +93,39 @@ pub fn empty_tree(alloc: Global) -> Result<Tree, AllocError> {
     Ok(Tree::empty(alloc, &front, &mut Ids::starting(book, 7))?)
 }
 
-/// Whether two cells get ids one after the other, and a second counter goes on from there.
+/// The id that a new cell gets.
+fn drawn(alloc: Global, ids: &mut Ids, front: &Front) -> Result<u64, AllocError>
+    requires book { front.now.book ≡ ids.old.book }
+    requires left { ids.old.next < 2 ^ 63 }
+    ensures next { OnOk result (ids.new.next ≡ ids.old.next + 1) }
+    ensures same_book { ids.new.book ≡ ids.old.book }
+{
+    Ok(ids.draw(alloc, front)?.id())
+}
+
+/// Whether a second counter gives the id 6, and has those after it left.
+fn shares(alloc: Global, ids: &Ids, front: &Front) -> Result<bool, AllocError>
+    requires book { front.now.book ≡ ids.now.book }
+    requires left { ids.now.next < 2 ^ 63 }
+{
+    let mut more = ids.share()?;
+    let id = drawn(alloc, &mut more, front)?;
+    Ok(id == 6 && more.left() == (1 << 63) - 7)
+}
+
+/// Whether two cells get the ids 5 and 6, the second from a counter that goes on from the first.
+fn are_in_turn(alloc: Global, ids: &mut Ids, front: &Front) -> Result<bool, AllocError>
+    requires book { front.now.book ≡ ids.old.book }
+    requires left { ids.old.next ≡ 5 }
+{
+    let first = drawn(alloc, ids, front)?;
+    let second = shares(alloc, ids, front)?;
+    Ok(first == 5 && second && ids.next() == 6)
+}
+
+/// The same of a counter that begins at 5.
 pub fn draws_two(alloc: Global) -> Result<bool, AllocError> {
     let (book, front) = open_book(alloc)?;
     let mut ids = Ids::starting(book, 5);
-    let first = ids.draw(alloc, &front)?.id();
-    let mut more = ids.share()?;
-    let second = more.draw(alloc, &front)?.id();
-    Ok(first == 5 && second == 6 && ids.next() == 6 && more.left() == (1 << 63) - 7)
+    are_in_turn(alloc, &mut ids, &front)
 }

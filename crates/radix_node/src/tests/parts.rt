@@ -33,10 +33,15 @@ fn has_all_bytes(edges: &Edges) -> bool
     edges.len() == 256 && edges.get(256).is_none()
 }
 
+/// The same of edges that are put in a scattered order.
+fn takes_all_bytes(alloc: Global) -> Result<bool, AllocError> {
+    let edges = edges_by(alloc, &all_bytes(alloc)?)?;
+    Ok(has_all_bytes(&edges))
+}
+
 #[test]
 fn all_256_labels_are_found_and_in_order(rt: HostRuntime) -> Result<(), Fail> {
-    let edges = edges_by(rt.alloc(), &all_bytes(rt.alloc())?)?;
-    assert!(rt; has_all_bytes(&edges));
+    assert!(rt; takes_all_bytes(rt.alloc())?);
     Ok(())
 }
 
@@ -68,11 +73,16 @@ fn is_second(edges: &Edges, prefix: &[u8]) -> bool {
     edges.len() == 2 && edges.get(1).is_some_and(|e| e.node().prefix() == prefix)
 }
 
+/// Whether that edge is then in the old one's place.
+fn is_replaced(alloc: Global) -> Result<bool, AllocError> {
+    let mut edges = edges_by(alloc, b"ab")?;
+    let put = is_put(alloc, &mut edges)?;
+    Ok(put && is_second(&edges, b"new"))
+}
+
 #[test]
 fn put_gives_the_old_edge(rt: HostRuntime) -> Result<(), Fail> {
-    let mut edges = edges_by(rt.alloc(), b"ab")?;
-    let put = is_put(rt.alloc(), &mut edges)?;
-    assert!(rt; put && is_second(&edges, b"new"));
+    assert!(rt; is_replaced(rt.alloc())?);
     Ok(())
 }
 
@@ -91,14 +101,18 @@ fn cut(edges: &Edges) -> Result<bool, AllocError>
     Ok(labels_are(&without, b"abd") && labels_are(&shared, b"abcd"))
 }
 
+/// Whether four edges are copied in both ways.
+fn are_copied(alloc: Global) -> Result<bool, AllocError> {
+    let edges = edges_by(alloc, b"bdac")?;
+    if edges.len() != 4 {
+        return Ok(false);
+    }
+    Ok(spliced(&edges, alloc)? && cut(&edges)?)
+}
+
 #[test]
 fn edges_are_copied_with_another_in_place_of_some(rt: HostRuntime) -> Result<(), Fail> {
-    let edges = edges_by(rt.alloc(), b"bdac")?;
-    if edges.len() != 4 {
-        return Err(Fail::from("not four edges"));
-    }
-    let both = spliced(&edges, rt.alloc())? && cut(&edges)?;
-    assert!(rt; both);
+    assert!(rt; are_copied(rt.alloc())?);
     Ok(())
 }
 
@@ -142,11 +156,15 @@ fn has_no_edges(node: &Node, alloc: Global) -> Result<bool, AllocError> {
     Ok(copy.cell().id() == 4 && is_node(copy, b"p", true, b""))
 }
 
+/// Whether both hold of the copies.
+fn changes_one_part(node: &Node, alloc: Global) -> Result<bool, AllocError> {
+    Ok(has_prefix(node, alloc)? && has_no_edges(node, alloc)?)
+}
+
 #[test]
 fn a_copy_changes_one_part(rt: HostRuntime) -> Result<(), Fail> {
     let node = leafed(rt.alloc(), "{\"n\":1}", 2, 1)?;
-    let both = has_prefix(node.node(), rt.alloc())? && has_no_edges(node.node(), rt.alloc())?;
-    assert!(rt; both);
+    assert!(rt; changes_one_part(node.node(), rt.alloc())?);
     Ok(())
 }
 
@@ -162,11 +180,16 @@ fn has_leaf(node: &Node, alloc: Global, row: &Row) -> Result<bool, AllocError> {
     Ok(is_node(keyed.node(), b"p", true, b"ab") && is_row(again.as_ref(), 2))
 }
 
+/// The same of a node without a leaf.
+fn gets_leaf(alloc: Global, row: &Row) -> Result<bool, AllocError> {
+    let node = forked(alloc, 1)?;
+    has_leaf(node.node(), alloc, row)
+}
+
 #[test]
 fn a_copy_has_another_leaf(rt: HostRuntime) -> Result<(), Fail> {
-    let node = forked(rt.alloc(), 1)?;
     let row = row(rt.alloc(), "{\"n\":2}")?;
-    assert!(rt; has_leaf(node.node(), rt.alloc(), &row)?);
+    assert!(rt; gets_leaf(rt.alloc(), &row)?);
     Ok(())
 }
 
