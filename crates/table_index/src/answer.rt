@@ -1,5 +1,5 @@
 //! The answer of one tree to a question.
-ghost use Rattle.std.specs.Prelude.{◌≡◌, IfOk, IsOkAnd, option_copied};
+ghost use Rattle.std.specs.Prelude.{◌≡◌, IfOk, option_copied};
 ghost use Rattle.mdb_datum.specs.Pairs.{first_item, last_item};
 ghost use Rattle.mdb_schema.specs.Answer.{answer, picked};
 ghost use Rattle.radix_node.specs.Cells.{plain_of};
@@ -25,17 +25,18 @@ pub(crate) fn answer(
     match ask {
         Ask::First => one(first_row(tree, exact, key)),
         Ask::Last => one(last_row(tree, exact, key)),
-        Ask::Get => listed(alloc, ascend(alloc, tree, key)),
-        Ask::GetReverse => listed(alloc, descend(alloc, tree, key)),
-        Ask::Lower => listed(alloc, from_key(alloc, tree, key)),
-        Ask::ReverseLower => listed(alloc, down_from(alloc, tree, key)),
+        Ask::Get => many(alloc, ascend(alloc, tree, key)?),
+        Ask::GetReverse => many(alloc, descend(alloc, tree, key)?),
+        Ask::Lower => many(alloc, from_key(alloc, tree, key)?),
+        Ask::ReverseLower => many(alloc, down_from(alloc, tree, key)?),
         Ask::Longest => one(tree.longest(key)),
     }
 }
 
 /// The first row of a key, or of the keys that begin with it.
 fn first_row<'a>(tree: &'a Tree, exact: bool, key: &[u8]) -> Option<&'a Row>
-    ensures { option_copied result ≡ first_item (picked exact key.now (pairs_of (plain_of tree.now))) }
+    ensures { option_copied result
+        ≡ first_item (picked exact key.now (pairs_of (plain_of tree.now))) }
 {
     if exact {
         tree.get(key)
@@ -46,7 +47,8 @@ fn first_row<'a>(tree: &'a Tree, exact: bool, key: &[u8]) -> Option<&'a Row>
 
 /// The last row of a key, or of the keys that begin with it.
 fn last_row<'a>(tree: &'a Tree, exact: bool, key: &[u8]) -> Option<&'a Row>
-    ensures { option_copied result ≡ last_item (picked exact key.now (pairs_of (plain_of tree.now))) }
+    ensures { option_copied result
+        ≡ last_item (picked exact key.now (pairs_of (plain_of tree.now))) }
 {
     if exact {
         tree.get(key)
@@ -62,16 +64,6 @@ fn one(row: Option<&Row>) -> Result<Answer, AllocError>
     match row {
         Some(row) => Ok(Answer::One(Some(row.share()?))),
         None => Ok(Answer::One(None)),
-    }
-}
-
-/// An answer of the rows of a walk, if there was memory to begin it.
-fn listed(alloc: Global, walk: Result<Walk, AllocError>) -> Result<Answer, AllocError>
-    ensures { IfOk result (λ a. IsOkAnd walk (λ rows. a ≡ Answer.Many rows)) }
-{
-    match walk {
-        Ok(walk) => many(alloc, walk),
-        Err(error) => Err(error),
     }
 }
 
