@@ -25,6 +25,12 @@ place_within name (i ∷ is) place e = of (bytes_eq i.name name) (index_place na
     of false None e later = cc
     of false (Some p) e later = let h : p + 1 ≡ place = cc in omega (arith, later p refl)
 
+-- there is an index at each place within
+pub index_there : (is : List IndexSchema) (at : ℕ) → at < length is → slice_get is at ≡ None → ⊥
+index_there [] at within e = omega (arith, within)
+index_there (i ∷ is) zero within e = cc
+index_there (i ∷ is) (suc at) within e = index_there is at (omega (arith, within)) e
+
 abbrev last : List Bytes → Tested Bytes
 last ks = needed no_id (first_item ks)
 
@@ -41,9 +47,6 @@ module _ (t : TableSchema) (row : Fields) (place : ℕ) (placed : index_place (c
       needed_on no_id (index_place (codes "id") t.indexes) (λ (p : ℕ). keys_at p (id_keys t row) >>= last) place placed
       ∙ ap (λ (k : Keyed). keys_at place k >>= last) (ap (keys_by row) (named o there))
 
-  pub no_index : slice_get t.indexes place ≡ None → id_of t row ≡ Err no_id
-  no_index there = read_by None there
-
   module _ (i : IndexSchema) (there : slice_get t.indexes place ≡ Some i) where
     pub id_refused : (e : WriteError) → Tells (keys_at place (keys i.indexer row)) e → Tells (id_of t row) e
     id_refused e told = elim told [
@@ -57,14 +60,6 @@ module _ (t : TableSchema) (row : Fields) (place : ℕ) (placed : index_place (c
     -- by the first of its keys
     pub id_by_first : (found : List Bytes) (result : Result Bytes WriteError) → keys_at place (keys i.indexer row) ≡ Ok found → Answers (needed no_id (first_item found)) result → Answers (id_of t row) result
     id_by_first found result e told = subst (λ (r : Tested Bytes). Answers r result) (sym (id_read found e)) told
-
-pub first_missing : (found : List Bytes) → None ≡ slice_get found 0 → needed no_id (first_item found) ≡ Err no_id
-first_missing [] none = refl
-first_missing (k ∷ ks) none = cc
-
-pub first_there : (found : List Bytes) (id : Bytes) → Some id ≡ slice_get found 0 → needed no_id (first_item found) ≡ Ok id
-first_there [] id first = cc
-first_there (k ∷ ks) id first = let same : k ≡ id = cc in ap Ok same
 
 no_key : (found : List Bytes) → length found ≡ 0 → has_key found ≡ false
 no_key [] e = refl

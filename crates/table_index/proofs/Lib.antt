@@ -17,6 +17,7 @@ pub mod ListedKeys
 pub mod Lookups
 pub mod NewTrees
 pub mod OneByOne
+mod OnlyIdKey
 pub mod OwnNames
 pub mod PutSteps
 pub mod Removals

@@ -11,10 +11,10 @@ use Rattle.mdb_schema.specs.LawfulSchema.{IsLawfulTable}
 use Rattle.mdb_schema.specs.Schema.{IndexSchema, TableSchema, index_place}
 use Rattle.mdb_schema.specs.State.{id_key, row_at}
 use Rattle.mdb_schema.specs.Tests.{each}
-use Rattle.mdb_schema.specs.Write.{indexes_of}
+use Rattle.mdb_schema.specs.Write.{id_of, indexes_of}
 use Rattle.mdb_schema.proofs.EntryEdits.{entry_at}
 use Rattle.mdb_schema.proofs.IdEntries.{row_at-entries}
-use Rattle.mdb_schema.proofs.IdKeys.{IdIndex, id_index}
+use Rattle.mdb_schema.proofs.IdKeys.{IdIndex, id_index, id_of-taken}
 use Rattle.mdb_schema.proofs.RowsById.{row_at-some}
 use Rattle.mdb_schema.specs.declared.write_error.WriteError.{WriteError}
 use Rattle.mdb_schema.specs.declared.write_error.WriteError.TheVariants.{Memory}
@@ -78,6 +78,9 @@ module _ (t : TableSchema) (txns : List Txn) (table : IsLawfulTable t) (trees : 
   module _ (id : Bytes) (old : Fields) (found : row_at t id rows ≡ Some old) where
     own : Contains rows old × (id_key t old ≡ id)
     own = row_at-some t id rows old found
+
+    pub id_known : id_of t old ≡ Ok id
+    id_known = let at = id_index t table in id_of-taken t at old (trees.lawful.taken at.index old at.within own.0) ∙ ap Ok own.1
 
     -- they aren't refused
     pub only_memory : (e : WriteError) → Tells (each (full_keys_at id old) (indexes_of t)) e → e ≡ Memory

@@ -1,7 +1,6 @@
 //! The full keys of a row in one index.
-ghost use Rattle.std.specs.Prelude.{◌≡◌, ◌≤◌, ◌<◌, ◌++◌, ◌∷◌, [], IfOk, OnOk, All, length, map, option_map};
-ghost use Rattle.std.specs.Prelude.{replicate, slice_get};
-ghost use Rattle.mdb_encode.specs.Bytes.{Bytes};
+ghost use Rattle.std.specs.Prelude.{◌≡◌, ◌≤◌, ◌<◌, ◌++◌, ◌∷◌, [], IfOk, OnOk, All, length, map};
+ghost use Rattle.std.specs.Prelude.{if◌then◌else◌, replicate};
 ghost use Rattle.mdb_schema.specs.State.{full_key};
 ghost use Rattle.mdb_schema.specs.Write.{is_among};
 ghost use Rattle.table_index.specs.inner.Keys.{IsShort};
@@ -35,11 +34,21 @@ impl FullKey {
         requires { IsShort key.now }
         ensures { IfOk result (λ k. k ≡ full_key index.now id.now key.now) }
     {
-        let mut bytes = key.bytes().to_vec(alloc)?;
-        if !index.unique() {
-            bytes.extend_from_slice(id.bytes())?;
-        }
+        let key = key.bytes();
+        let rest = rest_of(index, id);
+        let mut bytes = Vec::with_capacity(alloc, key.len() + rest.len())?;
+        bytes.extend_from_slice(key)?;
+        bytes.extend_from_slice(rest)?;
         Ok(FullKey { bytes })
+    }
+
+    /// The full key of an `id` key in the index `id`. It takes memory for the bytes.
+    fn of_id(alloc: Global, id: &IdKey) -> Result<FullKey, AllocError>
+        ensures { IfOk result (λ k. k ≡ id.now) }
+    {
+        Ok(FullKey {
+            bytes: id.bytes().to_vec(alloc)?,
+        })
     }
 
     /// The bytes.
@@ -49,6 +58,14 @@ impl FullKey {
     {
         self.bytes.as_slice()
     }
+}
+
+/// What stands behind a key in an index: nothing in a unique one, else the row's `id` key.
+fn rest_of<'a>(index: &IndexDef, id: &'a IdKey) -> &'a [u8]
+    ensures rest { result.now ≡ (if index.now.unique then [] else id.now) }
+    ensures short { IsShort result.now }
+{
+    if index.unique() { &[] } else { id.bytes() }
 }
 
 /// The full keys of one row in one index, at most 256, seen as a list of byte strings.
@@ -79,7 +96,7 @@ impl FullKeys {
         requires few { length keys.now ≤ 256 }
         ensures { IfOk result (λ found. found ≡ map (full_key index.now id.now) keys.now) }
     {
-        let mut full = FullKeys::none(alloc);
+        let mut full = FullKeys::with_capacity(alloc, keys.len())?;
         for at in 0..keys.len() {
             let Some(key) = keys.get(at) else {
                 unreachable!();
@@ -104,6 +121,24 @@ impl FullKeys {
     {
         let full = FullKey::of(alloc, index, id, key)?;
         Ok(self.keys.push(full)?)
+    }
+
+    /// The only full key of a row in the index `id`. It takes memory for it.
+    pub(crate) fn of_id(alloc: Global, id: &IdKey) -> Result<FullKeys, AllocError>
+        ensures { IfOk result (λ found. found ≡ id.now ∷ []) }
+    {
+        let mut full = FullKeys::with_capacity(alloc, 1)?;
+        full.keys.push(FullKey::of_id(alloc, id)?)?;
+        Ok(full)
+    }
+
+    /// No keys, with memory for so many.
+    fn with_capacity(alloc: Global, count: usize) -> Result<FullKeys, AllocError>
+        ensures { IfOk result (λ found. found ≡ []) }
+    {
+        Ok(FullKeys {
+            keys: Vec::with_capacity(alloc, count)?,
+        })
     }
 
     /// No keys.

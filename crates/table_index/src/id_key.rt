@@ -1,36 +1,40 @@
 //! The `id` key of a row.
-ghost use Rattle.std.specs.Prelude.{◌≡◌, ◌≤◌, IfOk, length};
+ghost use Rattle.std.specs.Prelude.{◌≡◌, All};
+ghost use Rattle.mdb_datum.specs.Pairs.{first_item};
 ghost use Rattle.table_index.specs.inner.Keys.{IsShort};
 
-use mdb_encode::Key;
-use std::alloc::{AllocError, Global};
+use mdb_encode::Keys;
 use std::marker::Model;
 
 /// The key of a row in the index `id`, of at most 1,024 bytes, seen as the list of these bytes.
 #[derive(Drop)]
 pub(crate) struct IdKey {
-    bytes: Vec<u8>,
+    /// The keys of the row there, of which the first is meant.
+    keys: Keys,
 }
 
 impl Model for IdKey {
-    ghost use Rattle.std.specs.Prelude.{List, ℕ, ◌≤◌, length};
+    ghost use Rattle.std.specs.Prelude.{List, ℕ};
 
     ghost Value = { List ℕ };
 
-    ghost view = { λ k. k.bytes.items };
+    ghost use Rattle.table_index.specs.inner.Views.{id_view, IsIdKey};
 
-    ghost invariant = { λ k. length k.bytes.items ≤ 1024 };
+    ghost view = { id_view };
+
+    ghost invariant = { IsIdKey };
 }
 
 impl IdKey {
-    /// A copy of a key. It takes memory for the bytes.
-    pub(crate) fn of(alloc: Global, key: &Key) -> Result<IdKey, AllocError>
-        requires { IsShort key.now }
-        ensures { IfOk result (λ id. id ≡ key.now) }
+    /// The first of a row's keys in the index `id`, if there is one. It takes no memory.
+    pub(crate) fn of(keys: Keys) -> Option<IdKey>
+        requires { All IsShort keys }
+        ensures { result ≡ first_item keys }
     {
-        Ok(IdKey {
-            bytes: key.bytes().to_vec(alloc)?,
-        })
+        if keys.len() == 0 {
+            return None;
+        }
+        Some(IdKey { keys })
     }
 
     /// The bytes.
@@ -38,6 +42,9 @@ impl IdKey {
         ensures bytes { result.now ≡ self.now }
         ensures short { IsShort result.now }
     {
-        self.bytes.as_slice()
+        let Some(key) = self.keys.get(0) else {
+            unreachable!();
+        };
+        key.bytes()
     }
 }

@@ -17,7 +17,7 @@ use crate::cut::cut_listed;
 use crate::edits::delete_each;
 use crate::id_key::IdKey;
 use crate::refusal::of_stored;
-use crate::row_keys::full_keys_of;
+use crate::row_keys::{full_keys_of, id_place};
 use crate::stored::stored_id;
 use crate::wipe_error::WipeError;
 use mdb_datum::Row;
@@ -43,16 +43,19 @@ pub(crate) fn wipe_listed(
     requires ready { AreReady front.now ids.old txns.old }
     requires held { AreTrees def.now (nodes_of txns.old) }
     ensures answers { let rows = rows_held def.now (nodes_of txns.old) in
-        let gone = once def.now (listed_at def.now rows (slice_get def.now.indexes place) key.now) in
+        let gone = once def.now
+        (listed_at def.now rows (slice_get def.now.indexes place) key.now) in
         MatchResult result
         (λ taken. AreLeft ids.old.next (length gone) × IsWiped def.now gone taken txns.old txns.new)
         (λ e. GivesUp ids.old.next (length gone) e txns.old txns.new) }
     ensures drawn { let rows = rows_held def.now (nodes_of txns.old) in
-        let gone = once def.now (listed_at def.now rows (slice_get def.now.indexes place) key.now) in
+        let gone = once def.now
+        (listed_at def.now rows (slice_get def.now.indexes place) key.now) in
         HaveDrawn front.now (2 ^ 26 * length gone) ids.old ids.new txns.old txns.new }
     ensures refused { IfErr result (λ e. (e ≡ Memory) ⊎ (ids.new ≡ ids.old)) }
     ensures written { let rows = rows_held def.now (nodes_of txns.old) in
-        let gone = once def.now (listed_at def.now rows (slice_get def.now.indexes place) key.now) in
+        let gone = once def.now
+        (listed_at def.now rows (slice_get def.now.indexes place) key.now) in
         OnOk result (WroteRows def.now gone txns.old txns.new) }
 {
     let indexes = def.len();
@@ -85,13 +88,15 @@ fn move_listed(
 ) -> Result<(), WipeError>
     requires stored { IsStored def.now row }
     requires ready { AreReady front.now ids.old txns.old }
-    requires left { let there = is_there def.now cut (id_key def.now row) (map txn_pairs txns.old) in
+    requires left { let there = is_there def.now cut
+        (id_key def.now row) (map txn_pairs txns.old) in
         ids.old.next + ids_of_row there ≤ 2 ^ 63 }
     requires both { length txns.old ≡ length def.now.indexes }
     ensures answers { MatchResult result
         (λ _. IsMoved def.now cut row txns.old txns.new gone.old gone.new)
         (λ e. e ≡ Memory) }
-    ensures drawn { let there = is_there def.now cut (id_key def.now row) (map txn_pairs txns.old) in
+    ensures drawn { let there = is_there def.now cut
+        (id_key def.now row) (map txn_pairs txns.old) in
         HaveDrawn front.now (ids_of_row there) ids.old ids.new txns.old txns.new }
     ensures written { OnOk result (WroteRows def.now (row ∷ []) txns.old txns.new) }
 {
@@ -116,13 +121,15 @@ fn take_listed(
 ) -> Result<bool, WipeError>
     requires stored { IsStored def.now row.now }
     requires ready { AreReady front.now ids.old txns.old }
-    requires left { let there = is_there def.now cut (id_key def.now row.now) (map txn_pairs txns.old) in
+    requires left { let there = is_there def.now cut
+        (id_key def.now row.now) (map txn_pairs txns.old) in
         ids.old.next + ids_of_row there ≤ 2 ^ 63 }
     requires both { length txns.old ≡ length def.now.indexes }
     ensures answers { MatchResult result
         (λ taken. IsTaking def.now cut row.now taken txns.old txns.new)
         (λ e. e ≡ Memory) }
-    ensures drawn { let there = is_there def.now cut (id_key def.now row.now) (map txn_pairs txns.old) in
+    ensures drawn { let there = is_there def.now cut
+        (id_key def.now row.now) (map txn_pairs txns.old) in
         HaveDrawn front.now (ids_of_row there) ids.old ids.new txns.old txns.new }
     ensures written { OnOk result (WroteRows def.now (row.now ∷ []) txns.old txns.new) }
 {
@@ -170,9 +177,7 @@ fn is_there(def: &TableDef, txns: &[TreeTxn], cut: usize, id: &IdKey) -> bool
     requires both { length txns.now ≡ length def.now.indexes }
     ensures { result ≡ is_there def.now cut id.now (map txn_pairs txns.now) }
 {
-    let Some(place) = def.find("id") else {
-        return false;
-    };
+    let place = id_place(def);
     if place == cut {
         return true;
     }

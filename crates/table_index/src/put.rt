@@ -105,10 +105,7 @@ fn write_row(
 {
     let count = def.len();
     prove!(0 < count);
-    let keys = match keys_to_write(alloc, def, txns, ids, row) {
-        Ok(keys) => keys,
-        Err(error) => return Err(error),
-    };
+    let keys = keys_to_write(alloc, def, txns, ids, row)?;
     let PutKeys { new, old } = keys;
     replace_each(txns, front, ids, new.lists(), old.keys.lists(), row)?;
     Ok(old.there)
@@ -130,10 +127,7 @@ fn keys_to_write(
         × IsAccepted def.now row.now rows keys.new keys.old.keys keys.old.there)
         (λ e. IsRefused ids.now.next (put_row def.now row.now rows) e txns.now txns.now) }
 {
-    let keys = match accepted_keys(alloc, def, txns, row) {
-        Ok(keys) => keys,
-        Err(error) => return Err(error),
-    };
+    let keys = accepted_keys(alloc, def, txns, row)?;
     if has_ids(ids, 1) {
         Ok(keys)
     } else {
@@ -155,10 +149,8 @@ fn accepted_keys(
         (λ keys. IsAccepted def.now row.now rows keys.new keys.old.keys keys.old.there)
         (λ e. Tells (put_row def.now row.now rows) e) }
 {
-    match id_key_of(alloc, def, row) {
-        Ok(id) => keys_of_id(alloc, def, txns, row, &id),
-        Err(error) => Err(error),
-    }
+    let id = id_key_of(alloc, def, row)?;
+    keys_of_id(alloc, def, txns, row, &id)
 }
 
 /// The same, where the row has this `id` key.

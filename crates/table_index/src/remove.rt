@@ -84,7 +84,8 @@ fn take_row(
 ) -> Result<Row, WriteError>
     requires ready { AreReady front.now ids.old txns.old }
     requires held { AreTrees def.now (nodes_of txns.old) }
-    ensures answers { let told = remove_row def.now row.now (rows_held def.now (nodes_of txns.old)) in
+    ensures answers { let told = remove_row def.now row.now
+        (rows_held def.now (nodes_of txns.old)) in
         MatchResult result
         (λ old. AreLeft ids.old.next 1 × IsWritten def.now told (Some old) txns.new)
         (λ e. IsRefused ids.old.next told e txns.old txns.new) }
@@ -95,10 +96,8 @@ fn take_row(
 {
     let count = def.len();
     prove!(0 < count);
-    match row_to_take(alloc, def, txns, ids, row) {
-        Ok(stored) => delete_stored(txns, front, ids, stored),
-        Err(error) => Err(error),
-    }
+    let stored = row_to_take(alloc, def, txns, ids, row)?;
+    delete_stored(txns, front, ids, stored)
 }
 
 /// The row of another's `id` key and its full keys, if it is there and there are ids for a write.
@@ -120,14 +119,8 @@ fn row_to_take(
 {
     // The definition is lawful by its type.
     let _ = def.len();
-    let id = match id_key_of(alloc, def, row) {
-        Ok(id) => id,
-        Err(error) => return Err(error),
-    };
-    let stored = match stored_row(alloc, def, txns, &id) {
-        Ok(stored) => stored,
-        Err(error) => return Err(error),
-    };
+    let id = id_key_of(alloc, def, row)?;
+    let stored = stored_row(alloc, def, txns, &id)?;
     if has_ids(ids, 1) {
         Ok(stored)
     } else {
@@ -150,7 +143,8 @@ fn delete_stored(
         MatchResult result
         (λ row. (row ≡ stored.row) × (map txn_pairs txns.new ≡ edited) × AreSound txns.new)
         (λ e. e ≡ Memory) }
-    ensures drawn { HaveDrawn front.now (2 ^ 20 * length txns.old) ids.old ids.new txns.old txns.new }
+    ensures drawn { HaveDrawn front.now (2 ^ 20 * length txns.old)
+        ids.old ids.new txns.old txns.new }
     ensures written { OnOk result
         (TreesWrote (IsAt stored.keys) txns.old txns.new) }
 {

@@ -1,7 +1,8 @@
 //! The keys of a row in the indexes of a table, with the refusals that come of them.
-ghost use Rattle.std.specs.Prelude.{◌≡◌, ◌<◌, ◌≤◌, All, IfOk, length};
+ghost use Rattle.std.specs.Prelude.{◌≡◌, ◌<◌, ◌≤◌, ◌∷◌, [], All, IfOk, Ok, Some, codes, length};
 ghost use Rattle.mdb_datum.specs.Pairs.{first_item};
 ghost use Rattle.mdb_encode.specs.Keys.{keys};
+ghost use Rattle.mdb_schema.specs.Schema.{index_place};
 ghost use Rattle.mdb_schema.specs.Tests.{each, needed};
 ghost use Rattle.mdb_schema.specs.Write.{id_of, indexes_of, keys_at, no_id};
 ghost use Rattle.table_index.specs.inner.Keys.{Answers, IsShort, full_keys_at, told_at};
@@ -23,8 +24,21 @@ pub(crate) fn told_place(def: &TableDef, at: usize) -> u32
     at as u32
 }
 
+/// The place of the index `id`.
+pub(crate) fn id_place(def: &TableDef) -> usize
+    ensures placed { Some result ≡ index_place (codes "id") def.now.indexes }
+    ensures within { result < length def.now.indexes }
+{
+    // The definition is lawful by its type.
+    let _ = def.len();
+    let Some(place) = def.find("id") else {
+        unreachable!();
+    };
+    place
+}
+
 /// Why a row has no keys in the index at a place.
-fn told(place: u32, error: KeyError) -> WriteError
+fn write_error(place: u32, error: KeyError) -> WriteError
     ensures { result ≡ told_at place error }
 {
     match error {
@@ -45,7 +59,7 @@ fn keys_in(alloc: Global, place: u32, index: &IndexDef, row: &Row) -> Result<Key
 {
     match keys_of(alloc, index.kind(), row) {
         Ok(found) => Ok(found),
-        Err(error) => Err(told(place, error)),
+        Err(error) => Err(write_error(place, error)),
     }
 }
 
@@ -53,30 +67,29 @@ fn keys_in(alloc: Global, place: u32, index: &IndexDef, row: &Row) -> Result<Key
 pub(crate) fn id_key_of(alloc: Global, def: &TableDef, row: &Row) -> Result<IdKey, WriteError>
     ensures { Answers (id_of def.now row.now) result }
 {
-    let Some(place) = def.find("id") else {
-        return Err(WriteError::NoId);
-    };
+    let place = id_place(def);
     let Some(index) = def.index(place) else {
-        return Err(WriteError::NoId);
+        unreachable!();
     };
     match keys_in(alloc, told_place(def, place), index, row) {
-        Ok(found) => first_key(alloc, &found),
+        Ok(found) => first_key(found),
         Err(error) => Err(error),
     }
 }
 
 /// The `id` key of a row that has these keys in the index `id`.
-fn first_key(alloc: Global, found: &Keys) -> Result<IdKey, WriteError>
-    requires short { All IsShort found.now }
-    ensures { Answers (needed no_id (first_item found.now)) result }
+fn first_key(found: Keys) -> Result<IdKey, WriteError>
+    requires { All IsShort found }
+    ensures { Answers (needed no_id (first_item found)) result }
 {
-    match found.get(0) {
-        Some(key) => Ok(IdKey::of(alloc, key)?),
+    match IdKey::of(found) {
+        Some(id) => Ok(id),
         None => Err(WriteError::NoId),
     }
 }
 
-/// The full keys of a row in the index at a place, which has to take the row.
+/// The full keys of a row in the index at a place, which has to take the row. In the index `id`
+/// that is its `id` key, which isn't made again.
 fn full_keys_in(
     alloc: Global,
     place: u32,
@@ -84,8 +97,12 @@ fn full_keys_in(
     id: &IdKey,
     row: &Row,
 ) -> Result<FullKeys, WriteError>
+    requires { index.now.name ≡ codes "id" → keys index.now.indexer row.now ≡ Ok (id.now ∷ []) }
     ensures { Answers (full_keys_at id.now row.now (place, index.now)) result }
 {
+    if index.name().as_str() == "id" {
+        return Ok(FullKeys::of_id(alloc, id)?);
+    }
     let found = keys_in(alloc, place, index, row)?;
     if !index.allow_missing() && found.len() == 0 {
         return Err(WriteError::Missing { index: place });
@@ -93,17 +110,18 @@ fn full_keys_in(
     Ok(FullKeys::of(alloc, index, id, &found)?)
 }
 
-/// The full keys of a row in each index, if each takes the row. It takes memory for them, and time
-/// in their lengths.
+/// The full keys of a row of an `id` key in each index, if each takes the row. It takes memory for
+/// them, and time in their lengths.
 pub(crate) fn full_keys_of(
     alloc: Global,
     def: &TableDef,
     id: &IdKey,
     row: &Row,
 ) -> Result<RowKeys, WriteError>
+    requires { id_of def.now row.now ≡ Ok id.now }
     ensures { Answers (each (full_keys_at id.now row.now) (indexes_of def.now)) result }
 {
-    let mut found = Vec::new(alloc);
+    let mut found = Vec::with_capacity(alloc, def.len())?;
     for at in 0..def.len() {
         let Some(index) = def.index(at) else {
             unreachable!();

@@ -8,7 +8,7 @@ ghost use Rattle.table_index.specs.inner.Wipes.{IsStored};
 
 use crate::id_key::IdKey;
 use crate::refusal::of_stored;
-use crate::row_keys::id_key_of;
+use crate::row_keys::{id_key_of, id_place};
 use crate::wipe_error::WipeError;
 use mdb_datum::Row;
 use mdb_schema::TableDef;
@@ -38,9 +38,7 @@ pub(crate) fn row_at<'a>(def: &TableDef, txns: &'a [TreeTxn], id: &IdKey) -> Opt
 {
     // The definition is lawful by its type.
     let _ = def.len();
-    let Some(place) = def.find("id") else {
-        unreachable!();
-    };
+    let place = id_place(def);
     let txn = &txns[place];
     txn.get(id.bytes())
 }

@@ -3,8 +3,11 @@ use Rattle.std.specs.Prelude.{replicate}
 use Rattle.mdb_datum.specs.Row.{Fields}
 use Rattle.mdb_encode.specs.Bytes.{Bytes}
 use Rattle.table_index.specs.inner.PutKeys.{keys_of_each}
-use Rattle.table_index.proofs.StoredRows.{keys_are, keys_of_none, only_memory}
+use Rattle.table_index.proofs.StoredRows.{id_known, keys_are, keys_of_none, only_memory}
 use Rattle.table_index.proofs.put.old_keys_of.Goals as goal
+
+pub full_keys_of-requires : goal.full_keys_of-requires
+full_keys_of-requires c = id_known c.args.def.now c.args.txns.now c.len.ensures.lawful c.requires.held c.args.id.now c.in-Some.row.now (sym c.in-Some.ensures)
 
 pub returns-in-Ok : goal.returns-in-Ok
 returns-in-Ok c = (

@@ -1,11 +1,18 @@
 use Rattle.std.proofs.Common.{◌≡◌, ◌∙◌, ℕ, ◌≤◌, length, Some, Ok, slice_get, sym, ap, subst, arith}
 use Rattle.mdb_schema.specs.Write.{indexes_of}
 use Rattle.mdb_schema.proofs.Each.{each_pushed}
+use Rattle.mdb_schema.proofs.Membership.{Contains-slice_get}
 use Rattle.table_index.specs.inner.Keys.{full_keys_at, Tells}
 use Rattle.table_index.proofs.IdRead.{placed_at}
 use Rattle.table_index.proofs.KeyLoops.{each_done, length_placed}
+use Rattle.table_index.proofs.OnlyIdKey.{only_id_key}
 use Rattle.table_index.proofs.RowKeys.{refused_at}
 use Rattle.table_index.proofs.row_keys.full_keys_of.Goals as goal
+
+pub full_keys_in-requires : goal.full_keys_in-requires
+full_keys_in-requires c =
+    let is = c.args.def.now.indexes in
+    only_id_key c.args.def.now c.len.ensures.lawful c.args.row.now c.args.id.now c.requires c.in-Some.index.now (Contains-slice_get is c.loop-at.at c.in-Some.index.now (sym c.in-Some.ensures.found))
 
 pub returns-in-Err : goal.returns-in-Err
 returns-in-Err c =

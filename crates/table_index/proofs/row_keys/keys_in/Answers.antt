@@ -10,6 +10,6 @@ use Rattle.table_index.proofs.row_keys.keys_in.Goals as goal
 
 pub returns-in-Err-clause-answers : goal.returns-in-Err-clause-answers
 returns-in-Err-clause-answers c =
-    subst (λ (e : WriteError). Tells (keys_at c.args.place (keys c.args.index.now.indexer c.args.row.now)) e) (sym c.told.ensures)
+    subst (λ (e : WriteError). Tells (keys_at c.args.place (keys c.args.index.now.indexer c.args.row.now)) e) (sym c.write_error.ensures)
     (refused c.args.place (keys c.args.index.now.indexer c.args.row.now) c.in-Err.error
     (subst (λ (i : Indexer). AnswersKeys (keys i c.args.row.now) (Err c.in-Err.error)) c.kind.ensures.indexer c.in-Err.ensures))
