@@ -5,7 +5,7 @@ ghost use Rattle.mdb_schema.specs.Answer.{answer, ask_rows, is_exact};
 ghost use Rattle.mdb_schema.specs.declared.ask_error.AskError.TheVariants.{Memory};
 ghost use Rattle.radix_node.specs.Cells.{plain_of};
 ghost use Rattle.radix_node.specs.Nodes.{pairs_of};
-ghost use Rattle.table_index.specs.Watched.{AnswersWatch, IsSpot, cell_of, is_for_one, is_watchable};
+ghost use Rattle.table_index.specs.Watched.{AnswersWatch, IsSpot, cell_of, is_watchable};
 ghost use Rattle.table_index.specs.Watched.{looks_up, watch_in};
 ghost use Rattle.table_index.specs.inner.Lookups.{IsSpotIn};
 

@@ -41,11 +41,13 @@ pub(crate) fn cut_listed(
     requires short { length key.now ≤ 2048 }
     requires ready { AreReady front.now ids.old txns.old }
     requires held { AreTrees def.now (nodes_of txns.old) }
-    ensures answers { let rows = length (once def.now (listed_from key.now (slice_get txns.old place))) in
+    ensures answers { let rows = length
+        (once def.now (listed_from key.now (slice_get txns.old place))) in
         MatchResult result
         (λ listed. BeginsWipe def.now place key.now ids.old.next txns.old txns.new listed)
         (λ e. GivesUp ids.old.next rows e txns.old txns.new) }
-    ensures drawn { let rows = length (once def.now (listed_from key.now (slice_get txns.old place))) in
+    ensures drawn { let rows = length
+        (once def.now (listed_from key.now (slice_get txns.old place))) in
         HaveDrawn front.now (4096 * rows) ids.old ids.new txns.old txns.new }
     ensures refused { IfErr result (λ e. (e ≡ Memory) ⊎ (ids.new ≡ ids.old)) }
     ensures written { OnOk result
@@ -72,7 +74,8 @@ fn checked_walk(
     requires place { place < length txns.old }
     requires sound { AreSound txns.old }
     requires held { AreTrees def.now (nodes_of txns.old) }
-    ensures answers { let rows = length (once def.now (listed_from key.now (slice_get txns.old place))) in
+    ensures answers { let rows = length
+        (once def.now (listed_from key.now (slice_get txns.old place))) in
         MatchResult result
         (λ w. (w ≡ listed_from key.now (slice_get txns.old place)) × AreLeft ids.now.next rows)
         (λ e. (e ≡ Memory) ⊎ (AreSpent ids.now.next rows × (e ≡ IdsSpent))) }
@@ -142,7 +145,8 @@ fn are_enough(
     requires sound { AreSound txns.old }
     requires held { AreTrees def.now (nodes_of txns.old) }
     requires counted { count ≡ length (listed_from key.now (slice_get txns.old place)) }
-    ensures answers { let rows = length (once def.now (listed_from key.now (slice_get txns.old place))) in
+    ensures answers { let rows = length
+        (once def.now (listed_from key.now (slice_get txns.old place))) in
         MatchResult result
         (λ enough. (enough ≡ true → AreLeft ids.now.next rows)
         × (enough ≡ false → AreSpent ids.now.next rows))

@@ -48,7 +48,8 @@ pub(crate) fn delete_each(
     ensures pairs { OnOk result
         (map txn_pairs txns.new ≡ without_each keys.now (map txn_pairs txns.old)) }
     ensures sound { OnOk result (AreSound txns.new) }
-    ensures drawn { HaveDrawn front.now (2 ^ 20 * length txns.old) ids.old ids.new txns.old txns.new }
+    ensures drawn { HaveDrawn front.now (2 ^ 20 * length txns.old)
+        ids.old ids.new txns.old txns.new }
     ensures written { OnOk result (TreesWrote (IsAt keys.now) txns.old txns.new) }
 {
     for at in 0..txns.len() {

@@ -87,7 +87,7 @@ pub(crate) fn lookup<'a>(
         return Err(AskError::UnknownIndex);
     };
     let Some(index) = def.index(place) else {
-        return Err(AskError::UnknownIndex);
+        unreachable!();
     };
     if !may_ask(ask, index) {
         return Err(AskError::NotUnique);

@@ -12,7 +12,7 @@ use mdb_schema::{AskError, IndexDef, Query};
 use std::alloc::Global;
 
 /// Why arguments make no key.
-fn told(error: ArgError) -> AskError
+fn ask_error(error: ArgError) -> AskError
     ensures { result ≡ argument_told error }
 {
     match error {
@@ -53,6 +53,6 @@ pub(crate) fn key_asked(
     }
     match key_made(alloc, index, query) {
         Ok(key) => Ok(Some(key)),
-        Err(error) => Err(told(error)),
+        Err(error) => Err(ask_error(error)),
     }
 }

@@ -102,7 +102,8 @@ pub(crate) fn replace_each(
     ensures pairs { OnOk result
         (map txn_pairs txns.new ≡ replaced_each row.now keys.now old.now (map txn_pairs txns.old)) }
     ensures sound { OnOk result (AreSound txns.new) }
-    ensures drawn { HaveDrawn front.now (2 ^ 21 * length txns.old) ids.old ids.new txns.old txns.new }
+    ensures drawn { HaveDrawn front.now (2 ^ 21 * length txns.old)
+        ids.old ids.new txns.old txns.new }
     ensures written { OnOk result
         (TreesWrote (λ place k. IsAt keys.now place k ⊎ IsAt old.now place k) txns.old txns.new) }
 {

@@ -82,7 +82,8 @@ impl TableTxn {
         requires below_start { AreAllBelow ids.old.next self.old.start }
 
         ensures answers { AnswersTake ids.old.next
-            (wiped_rows_by_prefix self.old.schema self.old.rows query.now) result self.old self.new }
+            (wiped_rows_by_prefix self.old.schema self.old.rows query.now)
+            result self.old self.new }
         ensures below { AreAllBelow ids.new.next self.new.trees }
         ensures of { AreAllOf ids.new.book self.new.trees }
         ensures drawn { AreDrawn front.now ids.old ids.new self.old.trees self.new.trees }
@@ -93,7 +94,8 @@ impl TableTxn {
             * rows_asked (wiped_rows_by_prefix self.old.schema self.old.rows query.now) }
         ensures refused { IfErr result (λ e. (e ≡ Memory) ⊎ (ids.new ≡ ids.old)) }
         ensures written { OnOk result (Writes
-            (rows_told (wiped_rows_by_prefix self.old.schema self.old.rows query.now)) self.old self.new) }
+            (rows_told (wiped_rows_by_prefix self.old.schema self.old.rows query.now))
+            self.old self.new) }
     {
         check_prefix_name(query)?;
         self.take_all(front, ids, query)
@@ -146,7 +148,8 @@ impl TableTxn {
         requires below_start { AreAllBelow ids.old.next self.old.start }
 
         ensures answers { AnswersWipe ids.old.next
-            (wiped_rows_by_prefix self.old.schema self.old.rows query.now) result self.old self.new }
+            (wiped_rows_by_prefix self.old.schema self.old.rows query.now)
+            result self.old self.new }
         ensures below { AreAllBelow ids.new.next self.new.trees }
         ensures of { AreAllOf ids.new.book self.new.trees }
         ensures drawn { AreDrawn front.now ids.old ids.new self.old.trees self.new.trees }
@@ -157,7 +160,8 @@ impl TableTxn {
             * rows_asked (wiped_rows_by_prefix self.old.schema self.old.rows query.now) }
         ensures refused { IfErr result (λ e. (e ≡ Memory) ⊎ (ids.new ≡ ids.old)) }
         ensures written { OnOk result (Writes
-            (rows_told (wiped_rows_by_prefix self.old.schema self.old.rows query.now)) self.old self.new) }
+            (rows_told (wiped_rows_by_prefix self.old.schema self.old.rows query.now))
+            self.old self.new) }
     {
         match self.take_prefix(front, ids, query) {
             Ok(gone) => Ok(gone.len() as u64),
@@ -184,15 +188,18 @@ fn wipe_rows(
 ) -> Result<Rows, WipeError>
     requires ready { AreReady front.now ids.old txns.old }
     requires held { AreTrees def.now (nodes_of txns.old) }
-    ensures answers { let asked = wiped_rows def.now (rows_held def.now (nodes_of txns.old)) query.now in
+    ensures answers { let asked
+        = wiped_rows def.now (rows_held def.now (nodes_of txns.old)) query.now in
         MatchResult result
         (λ taken. (gone : List Fields) × (asked ≡ Ok gone) × AreLeft ids.old.next (length gone)
         × IsWiped def.now gone taken txns.old txns.new)
         (λ e. IsRefusedWipe ids.old.next asked e txns.old txns.new) }
-    ensures drawn { let asked = wiped_rows def.now (rows_held def.now (nodes_of txns.old)) query.now in
+    ensures drawn { let asked
+        = wiped_rows def.now (rows_held def.now (nodes_of txns.old)) query.now in
         HaveDrawn front.now (2 ^ 26 * rows_asked asked) ids.old ids.new txns.old txns.new }
     ensures refused { IfErr result (λ e. (e ≡ Memory) ⊎ (ids.new ≡ ids.old)) }
-    ensures written { let asked = wiped_rows def.now (rows_held def.now (nodes_of txns.old)) query.now in
+    ensures written { let asked
+        = wiped_rows def.now (rows_held def.now (nodes_of txns.old)) query.now in
         OnOk result (WroteRows def.now (rows_told asked) txns.old txns.new) }
 {
     let at = match wipe_target(alloc, def, query) {

@@ -10,7 +10,7 @@ use std::alloc::{AllocError, AllocFailed};
 pub enum WipeError {
     /// There was not enough memory.
     Memory,
-    /// The ids of watch cells are spent.
+    /// Fewer than 2^26 ids of watch cells are left for each row that goes.
     IdsSpent,
     /// The question that names the rows is refused, but not for want of memory.
     Refused(AskError),

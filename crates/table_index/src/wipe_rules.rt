@@ -63,12 +63,12 @@ pub(crate) fn wipe_target<'a>(
 {
     match lookup(alloc, def, Ask::Get, query) {
         Ok(at) => Ok(at),
-        Err(error) => Err(told(error)),
+        Err(error) => Err(wipe_error(error)),
     }
 }
 
 /// The error of a wipe whose question has this error.
-fn told(error: AskError) -> WipeError
+fn wipe_error(error: AskError) -> WipeError
     ensures { result ≡ wipe_error error }
 {
     match error {

@@ -66,8 +66,8 @@ fn is_noticed(notices: &Notices, spot: &Spot) -> bool {
     false
 }
 
-/// Whether the cell of the same question is another one in a later table exactly where that is said,
-/// and the notices tell the same.
+/// Whether the cell of the same question is another one in a later table exactly where that is
+/// said, and the notices tell the same.
 fn is_right(table: &Table, notices: &Notices, spot: &Spot, want: bool) -> bool {
     if spot.index() as usize >= schema_of(table).len() {
         return false;

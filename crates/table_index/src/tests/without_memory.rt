@@ -38,7 +38,8 @@ fn finds_no_memory(txn: &mut Work, write: &Write) -> bool {
     }
 }
 
-/// Makes drawn writes until one finds no memory, and tells whether that one alone spoils the change.
+/// Makes drawn writes until one finds no memory, and tells whether that one alone spoils the
+/// change.
 fn one_spoils(alloc: Global, random: &mut Random, txn: &mut Work) -> Told {
     for _ in 0..40 {
         let write = random.write(alloc)?;

@@ -26,7 +26,8 @@ first id ["an"] => none
 get-reverse id_prefix ["an"] => rows 2 {"age":2,"name":"anna"} {"age":1,"name":"ann"}
 "#,
     ),
-    // The full keys are `00 ff 78 00` and `01 00 79 00`; a bound is compared with the whole of them.
+    // The full keys are `00 ff 78 00` and `01 00 79 00`; a bound is compared with the whole of
+    // them.
     (
         USERS,
         r#"insert {"name":"x","age":255} => inserted
@@ -94,8 +95,8 @@ insert {"name":"bob","age":1,"mail":"x"} => refused key-taken mail
 delete {"name":"bob"} => refused not-found
 "#,
     ),
-    // The keys of `path` are `east 00 00` and `east 00 web 00`. The last argument has no end byte, so
-    // the key of `b` is no prefix of the second question.
+    // The keys of `path` are `east 00 00` and `east 00 web 00`. The last argument has no end byte,
+    // so the key of `b` is no prefix of the second question.
     (
         RULES,
         r#"insert {"dc":"east","name":"a"} => inserted

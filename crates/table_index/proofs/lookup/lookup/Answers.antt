@@ -2,8 +2,14 @@ use Rattle.std.proofs.Common.{◌∙◌, sym, ap}
 use Rattle.mdb_encode.specs.Bytes.{Bytes}
 use Rattle.mdb_schema.specs.Answer.{own_name}
 use Rattle.mdb_schema.specs.Schema.{index_place}
+use Rattle.table_index.proofs.IdRead.{index_there, place_within}
 use Rattle.table_index.proofs.Lookups.{all_passed, key_found, key_refused}
 use Rattle.table_index.proofs.lookup.lookup.Goals as goal
+
+pub unreachable-requires : goal.unreachable-requires
+unreachable-requires c =
+    index_there c.args.def.now.indexes c.in-Some.place (place_within _ c.args.def.now.indexes c.in-Some.place (sym c.in-Some.ensures))
+    (sym c.in_default-index.ensures.found)
 
 pub returns-in-Ok-clause-answers : goal.returns-in-Ok-clause-answers
 returns-in-Ok-clause-answers c =

@@ -10,5 +10,5 @@ returns-in-Ok-clause-answers c = found_key c.args.index.now c.args.query.now c.i
 
 pub returns-in-Err-clause-answers : goal.returns-in-Err-clause-answers
 returns-in-Err-clause-answers c =
-    subst (λ (e : AskError). AnswersAskedKey (key_asked c.args.index.now c.args.query.now c.args.query.now.args) (Err e)) (sym c.told.ensures)
+    subst (λ (e : AskError). AnswersAskedKey (key_asked c.args.index.now c.args.query.now c.args.query.now.args) (Err e)) (sym c.ask_error.ensures)
     (refused_key c.args.index.now c.args.query.now c.in-Err.error (sym c.if-not-has_argument.ensures) c.in-Err.ensures.answers)

@@ -12,4 +12,4 @@ returns-in-Ok-clause-answers c = target_found (lookup_of c.args.def.now (record 
 pub returns-in-Err-clause-answers : goal.returns-in-Err-clause-answers
 returns-in-Err-clause-answers c =
     let told = lookup_of c.args.def.now (record c.args.query.now { ask = Get }) in
-    subst (λ (e : WipeError). AnswersTarget told (Err e)) (sym c.told.ensures) (target_refused told c.in-Err.error c.in-Err.ensures.answers)
+    subst (λ (e : WipeError). AnswersTarget told (Err e)) (sym c.wipe_error.ensures) (target_refused told c.in-Err.error c.in-Err.ensures.answers)
