@@ -1,5 +1,5 @@
 //! Wipes of a table, for a write transaction.
-ghost use Rattle.std.specs.Prelude.{◌≡◌, ◌⊎◌, ◌≤◌, ◌<◌, ◌+◌, ◌*◌, ◌^◌, ◌++◌, ◌∷◌, [], false, All, IfErr, IfOk, MatchResult, OnOk, length};
+ghost use Rattle.std.specs.Prelude.{◌≡◌, ◌⊎◌, ◌≤◌, ◌<◌, ◌+◌, ◌*◌, ◌^◌, ◌++◌, ◌∷◌, [], false, All, IfErr, MatchResult, OnErr, OnOk, length, take};
 ghost use Rattle.mdb_schema.specs.Wipe.{removals};
 ghost use Rattle.mdb_schema.specs.Write.{remove};
 ghost use Rattle.mem_txn.specs.inner.VersionTables.{IsSound, IsWithin, unwritten};
@@ -13,7 +13,7 @@ use crate::txn_tables::TxnTables;
 use mdb_datum::Row;
 use mdb_schema::{Query, Rows, TableDef};
 use radix_node::Ids;
-use std::alloc::{AllocError, Global};
+use std::alloc::AllocError;
 use table_index::{Table, TableTxn, WipeError};
 use watch_word::Front;
 
@@ -87,6 +87,7 @@ pub(crate) fn is_memory(error: &WipeError) -> bool
 }
 
 /// Wipes the table at a place, and notes the removal of each row. Gives the number of the rows.
+/// After a refusal the writes are as before.
 pub(crate) fn wipe_in(
     place: usize,
     def: &TableDef,
@@ -106,29 +107,37 @@ pub(crate) fn wipe_in(
         Ok(gone) => gone,
         Err(error) => return Err(error),
     };
-    let mut noted = removals(*writes.allocator(), def, &gone)?;
-    writes.append(&mut noted)?;
-    Ok(gone.len() as u64)
+    let before = writes.len();
+    match note_removals(writes, def, &gone) {
+        Ok(()) => Ok(gone.len() as u64),
+        Err(AllocError) => {
+            writes.truncate(before);
+            Err(WipeError::Memory)
+        }
+    }
 }
 
-/// The removals of these rows from a table.
-fn removals(alloc: Global, def: &TableDef, rows: &Rows) -> Result<Vec<Accepted>, AllocError>
-    ensures { IfOk result (λ ws. ws.items ≡ removals def.now.name rows.now) }
+/// Adds the removals of these rows from a table. After a refusal only the first of them may be
+/// there.
+fn note_removals(writes: &mut Vec<Accepted>, def: &TableDef, rows: &Rows) -> Result<(), AllocError>
+    ensures all { OnOk result
+        (writes.new.items ≡ writes.old.items ++ removals def.now.name rows.now) }
+    ensures before { take (length writes.old.items) writes.new.items ≡ writes.old.items }
 {
-    let mut writes = Vec::with_capacity(alloc, rows.len())?;
     for at in 0..rows.len() {
         let Some(row) = rows.get(at) else {
             unreachable!();
         };
-        note_removal(&mut writes, def, row)?;
+        note_removal(writes, def, row)?;
     }
-    Ok(writes)
+    Ok(())
 }
 
 /// Adds the removal of a row from a table.
 fn note_removal(writes: &mut Vec<Accepted>, def: &TableDef, row: &Row) -> Result<(), AllocError>
-    ensures { OnOk result
+    ensures added { OnOk result
         (writes.new.items ≡ writes.old.items ++ remove def.now.name row.now ∷ []) }
+    ensures unchanged { OnErr result (writes.new.items ≡ writes.old.items) }
 {
     writes.push(Accepted::of(Kind::Remove, def, row)?)?;
     Ok(())
