@@ -38,8 +38,8 @@ impl Model for Accepted {
 }
 
 impl Accepted {
-    /// A write of a row to a table. It is refused only for want of room to count one more owner of
-    /// the two.
+    /// A write of a row to a table: a second owner of both. It takes no memory. `AllocError` comes
+    /// where the kit's `Arc` refuses one more owner.
     pub(crate) fn of(kind: Kind, table: &TableDef, row: &Row) -> Result<Accepted, AllocError>
         ensures { IfOk result (λ w. w ≡ write_of kind table.now row.now) }
     {

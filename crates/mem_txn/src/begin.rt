@@ -1,5 +1,4 @@
 //! The start of write transactions.
-ghost use Rattle.std.specs.Prelude.{◌≡◌};
 ghost use Rattle.mem_txn.specs.Database.{IsOf};
 ghost use Rattle.mem_txn.specs.Transactions.{AnswersBegin, AnswersTry};
 ghost use Rattle.mem_txn.specs.inner.Commits.{AnswersTurn};

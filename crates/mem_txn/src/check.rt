@@ -15,13 +15,14 @@ use std::sync::Wait;
 use watch_word::Front;
 
 impl Db {
-    /// Looks whether a watch's cell has fired, after all commits that there are, which the pass then
-    /// has seen. `Quiet` comes only where no commit up to the one before the last has fired it, nor
-    /// the last where that is the caller's own. `Fired` comes only where the question now has
-    /// another cell. Where a commit that wasn't shown yet has fired the cell, the call looks again.
+    /// Looks whether a watch's cell has fired, after all commits that there are, which the pass
+    /// then has seen. `Quiet` comes only where no commit up to the one before the last has fired
+    /// it, nor the last where that is the caller's own. `Fired` comes only where the question now
+    /// has another cell. Where a commit that wasn't shown yet has fired the cell, the call looks
+    /// again.
     ///
-    /// It is refused only for want of room to count one more owner of the state; the pass may have
-    /// seen more by then.
+    /// It takes no memory. `AllocError` comes where the state can't get one more owner, and the
+    /// pass may have seen more by then.
     pub fn check<R: Wait>(&self, rt: &R, pass: &mut Pass, held: &Held) -> Result<Look, AllocError>
         requires own { IsOf self.now pass.old }
         requires held { IsHeldBy pass.old held.now }

@@ -1,5 +1,4 @@
 //! Commits of write transactions.
-ghost use Rattle.std.specs.Prelude.{◌≡◌};
 ghost use Rattle.mem_txn.specs.Database.{IsOf};
 ghost use Rattle.mem_txn.specs.inner.Commits.{AnswersChanges};
 

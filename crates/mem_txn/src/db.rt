@@ -69,7 +69,8 @@ impl Db {
     }
 
     /// The state after all commits that there are, which the pass then has seen, in constant time.
-    /// It is refused only for want of room to count one more owner of it.
+    /// It is a second owner of the same state, and takes no memory. `AllocError` comes where the
+    /// kit's `Arc` refuses one more owner.
     pub fn read<R: Wait>(&self, rt: &R, pass: &mut Pass) -> Result<ReadTxn, AllocError>
         requires own { IsOf self.now pass.old }
         ensures read { IfOk result (λ t. t ≡ reading_of pass.new) }

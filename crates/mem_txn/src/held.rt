@@ -69,8 +69,8 @@ impl Held {
         })
     }
 
-    /// A second one. It takes no memory, and is refused only for want of room to count one more
-    /// owner.
+    /// A second owner of the same watch. It takes no memory. `AllocError` comes where the kit's
+    /// `Arc` refuses one more owner.
     pub fn share(&self) -> Result<Held, AllocError>
         ensures { IfOk result (λ h. h ≡ self.now) }
     {

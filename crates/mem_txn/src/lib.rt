@@ -15,7 +15,7 @@
 //! read transaction may be asked with the watch of its answer ([`ReadTxn::ask_watch`]). The log
 //! that a commit gives has the cell of each watched question whose answer has changed; what no
 //! commit fires guards its answer ([`pass_laws`]). [`Db::check`] tells whether a held watch is
-//! quiet after all commits that there are, or its question has another cell.
+//! quiet, up to the commit before the last one seen, or its question has another cell.
 //!
 //! All commits are one list, of which each pass has seen a beginning, as `db_front` has it. What
 //! the clauses say of a pass stands in `specs/Database.antt`, and of a transaction in

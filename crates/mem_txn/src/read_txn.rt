@@ -54,8 +54,8 @@ impl ReadTxn {
         self.version.view().number()
     }
 
-    /// A second transaction that reads the same state. It takes no memory, and is refused only for
-    /// want of room to count one more owner.
+    /// A second owner of the same state. It takes no memory. `AllocError` comes where the kit's
+    /// `Arc` refuses one more owner.
     pub fn snapshot(&self) -> Result<ReadTxn, AllocError>
         ensures { IfOk result (λ t. t ≡ self.now) }
     {

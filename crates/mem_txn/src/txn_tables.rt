@@ -1,5 +1,5 @@
 //! The tables of a write transaction.
-ghost use Rattle.std.specs.Prelude.{◌≡◌, ◌<◌, ◌++◌, ◌∷◌, [], false, IfOk, OnOk, ℕ, All, List, Option, length, map, option_to_list, slice_get, Some};
+ghost use Rattle.std.specs.Prelude.{◌≡◌, ◌<◌, ◌++◌, ◌∷◌, [], false, IfOk, OnOk, ℕ, All, List, Option, length, map, option_to_list, Some};
 ghost use Rattle.std.specs.Arc.{arc_value};
 ghost use Rattle.mdb_schema.specs.Write.{put_row, remove_row};
 ghost use Rattle.mem_txn.specs.Changes.{gives_replaced, gives_row};
