@@ -1,5 +1,5 @@
 -- The `id` key of a row is its only key in the index `id`, and its only full key there.
-use Rattle.std.proofs.Common.{◌≡◌, ◌≢◌, ◌∙◌, ◌||◌, ◌++◌, ℕ, List, [], ◌∷◌, Bool, true, false, codes, length, map, Some, None, Ok, Contains, refl, sym, ap}
+use Rattle.std.proofs.Common.{◌≡◌, ◌≢◌, ◌∙◌, ◌||◌, ◌++◌, ℕ, List, [], ◌∷◌, Bool, true, codes, map, Some, Ok, Contains, sym, ap}
 use Rattle.std.specs.Prelude.{if◌then◌else◌}
 use Rattle.mdb_datum.specs.Pairs.{first_item}
 use Rattle.mdb_datum.specs.Row.{Fields}

@@ -44,16 +44,17 @@ fn args_of(alloc: Global, text: &str) -> Result<Items, AllocError> {
     }
 }
 
+/// A question of an index, with the arguments that a text lists.
+fn asked_of(alloc: Global, ask: Ask, index: &Text, args: &str) -> Result<Query, AllocError> {
+    let args = args_of(alloc, args)?;
+    let table = Text::of(alloc, "t")?;
+    Query::of(alloc, ask, &table, index, args)
+}
+
 /// A question of the table, with the arguments that a text lists.
 fn asked(alloc: Global, ask: Ask, index: &str, args: &str) -> Result<Query, AllocError> {
-    let args = args_of(alloc, args)?;
-    Query::of(
-        alloc,
-        ask,
-        &Text::of(alloc, "t")?,
-        &Text::of(alloc, index)?,
-        args,
-    )
+    let index = Text::of(alloc, index)?;
+    asked_of(alloc, ask, &index, args)
 }
 
 /// What a schema says of its first table.

@@ -3,8 +3,8 @@ use super::played::{RULES, filled, tell_answer, write};
 use super::words::ask_of;
 use super::work::{Base, Work};
 use super::{Told, asked, right};
-use mdb_schema::{Answer, AskError};
-use std::alloc::{AllocError, Global};
+use mdb_schema::{Answer, AskError, Query};
+use std::alloc::Global;
 use std::test::Fail;
 
 /// The rows of the table.
@@ -60,26 +60,42 @@ fn is_told(alloc: Global, answer: Result<Answer, AskError>, want: &str) -> Told 
     Ok(out.as_str() == want)
 }
 
-/// Whether a table and a change of it answer a question as it says.
-fn are_told(alloc: Global, table: &Base, txn: &mut Work, case: &Case) -> Told {
-    let query = asked(alloc, ask_of(case.0), case.1, case.2)?;
-    let by_table = is_told(alloc, table.ask(&query), case.3[0])?;
-    Ok(by_table && is_told(alloc, txn.ask(&query), case.3[1])?)
+/// Whether a table and a change of it answer a question so.
+fn are_both_told(
+    alloc: Global,
+    table: &Base,
+    txn: &mut Work,
+    query: &Query,
+    want: &[&str; 2],
+) -> Told {
+    let by_table = is_told(alloc, table.ask(query), want[0])?;
+    Ok(by_table && is_told(alloc, txn.ask(query), want[1])?)
 }
 
-/// Makes the writes in a change of a table, and fails with the first answer that is another one.
+/// Whether both answer a question as it says.
+fn are_told(alloc: Global, table: &Base, txn: &mut Work, case: &Case) -> Told {
+    let query = asked(alloc, ask_of(case.0), case.1, case.2)?;
+    are_both_told(alloc, table, txn, &query, &case.3)
+}
+
+/// Fails with the first answer that is another one.
 fn each_is_told(alloc: Global, table: &Base, txn: &mut Work) -> Result<(), Fail> {
-    write(alloc, txn, WRITES)?;
     for case in &CASES {
         right(are_told(alloc, table, txn, case)?, case.2)?;
     }
     Ok(())
 }
 
+/// The same after the writes in a change of the table.
+fn change_by(alloc: Global, table: &Base, txn: &mut Work) -> Result<(), Fail> {
+    write(alloc, txn, WRITES)?;
+    each_is_told(alloc, table, txn)
+}
+
 /// The same in a new change.
 fn change(alloc: Global, table: &Base) -> Result<(), Fail> {
     let mut txn = table.txn()?;
-    each_is_told(alloc, table, &mut txn)
+    change_by(alloc, table, &mut txn)
 }
 
 #[test]

@@ -163,13 +163,18 @@ impl Random {
         ASKS[self.below(7) as usize]
     }
 
+    /// Adds the members of a row, and the end of its text.
+    fn add_members(&mut self, text: &mut String) -> Result<(), AllocError> {
+        for (name, values) in &MEMBERS {
+            add_member(text, name, self.text(values))?;
+        }
+        text.push('}')
+    }
+
     /// The text of a row.
     fn row_text(&mut self, alloc: Global) -> Result<String, AllocError> {
         let mut text = String::from_str(alloc, r#"{"kept":1"#)?;
-        for (name, values) in &MEMBERS {
-            add_member(&mut text, name, self.text(values))?;
-        }
-        text.push('}')?;
+        self.add_members(&mut text)?;
         Ok(text)
     }
 

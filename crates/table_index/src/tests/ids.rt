@@ -1,5 +1,4 @@
 //! Writes near the end of the ids, and the notices of a change.
-ghost use Rattle.std.specs.Prelude.{◌≤◌, ◌^◌};
 
 use super::work::{Base, Work};
 use super::{SCHEMA, Told, asked, def_of, right, row_of};
@@ -151,12 +150,18 @@ fn notices_of(work: Work) -> Result<Notices, AllocError> {
     Ok(notices)
 }
 
+/// Puts a new row into a change, or none.
+fn put_any(alloc: Global, work: &mut Work, text: &str) -> Result<(), AllocError> {
+    match text {
+        "no row" => Ok(()),
+        _ => put_one(alloc, work, text),
+    }
+}
+
 /// The notices of a change that puts a row, or none.
 fn noticed(alloc: Global, table: &Base, text: &str) -> Result<Notices, AllocError> {
     let mut work = table.txn()?;
-    if text != "no row" {
-        put_one(alloc, &mut work, text)?;
-    }
+    put_any(alloc, &mut work, text)?;
     notices_of(work)
 }
 

@@ -36,11 +36,17 @@ fn line_of(alloc: Global, row: Option<&Row>) -> Result<Vec<u8>, AllocError> {
 }
 
 /// The texts of the rows of an answer.
-pub fn told(alloc: Global, table: &Base, question: &Question) -> Result<Vec<u8>, AskError> {
-    match table.ask(&question.query)? {
-        Answer::One(row) => Ok(line_of(alloc, row.as_ref())?),
-        Answer::Many(rows) => Ok(text_of(alloc, &rows)?),
+fn lines_of(alloc: Global, answer: &Answer) -> Result<Vec<u8>, AllocError> {
+    match answer {
+        Answer::One(row) => line_of(alloc, row.as_ref()),
+        Answer::Many(rows) => text_of(alloc, rows),
     }
+}
+
+/// The texts of the rows that a table answers.
+pub fn told(alloc: Global, table: &Base, question: &Question) -> Result<Vec<u8>, AskError> {
+    let answer = table.ask(&question.query)?;
+    Ok(lines_of(alloc, &answer)?)
 }
 
 /// Whether both answer a question the same. Want of memory is no answer.

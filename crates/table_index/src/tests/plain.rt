@@ -153,8 +153,13 @@ impl PlainTable {
     /// The texts of the rows that a question is answered.
     pub fn ask(&self, alloc: Global, question: &Question) -> Result<Vec<u8>, AskError> {
         let sought = self.sought(alloc, question)?;
+        Ok(self.listed(alloc, &sought)?)
+    }
+
+    /// The texts of the rows that are meant.
+    fn listed(&self, alloc: Global, sought: &Sought) -> Result<Vec<u8>, AllocError> {
         let entries = self.entries(alloc, sought.place)?;
-        Ok(text_of(alloc, &sought.rows(alloc, &entries)?)?)
+        sought.text(alloc, &entries)
     }
 
     fn id_key(&self, alloc: Global, row: &Row) -> Result<Vec<u8>, WriteError> {
@@ -171,11 +176,24 @@ impl PlainTable {
     fn keys(&self, alloc: Global, id: &[u8], row: &Row) -> Result<KeyLists, WriteError> {
         let mut lists = Vec::new(alloc);
         for place in 0..self.def.len() {
-            if let Some(index) = self.def.index(place) {
-                lists.push(keys_at(alloc, told_place(place), index, id, row)?)?;
-            }
+            self.push_keys(alloc, &mut lists, place, id, row)?;
         }
         Ok(lists)
+    }
+
+    /// Adds the full keys of a row in the index at a place, if there is one.
+    fn push_keys(
+        &self,
+        alloc: Global,
+        lists: &mut KeyLists,
+        place: usize,
+        id: &[u8],
+        row: &Row,
+    ) -> Result<(), WriteError> {
+        if let Some(index) = self.def.index(place) {
+            lists.push(keys_at(alloc, told_place(place), index, id, row)?)?;
+        }
+        Ok(())
     }
 
     /// The first index where another row has one of a row's full keys.
@@ -403,6 +421,12 @@ impl Sought {
             Ask::Longest => key.starts_with(full),
             _ => full.starts_with(key),
         }
+    }
+
+    /// The texts of the rows that are meant.
+    fn text(&self, alloc: Global, entries: &Entries) -> Result<Vec<u8>, AllocError> {
+        let rows = self.rows(alloc, entries)?;
+        text_of(alloc, &rows)
     }
 
     /// The rows that are meant, as a question gives them.

@@ -48,10 +48,16 @@ pub fn filled(alloc: Global, schema: &str, script: &str) -> Result<Base, Fail> {
     stood(alloc, &mut txn, script)
 }
 
-/// A second owner of the table after a script.
+/// A second owner of the present table.
+fn shared(txn: &mut Work) -> Result<Base, AllocError> {
+    let table = txn.stand()?;
+    table.share()
+}
+
+/// The same after a script.
 fn stood(alloc: Global, txn: &mut Work, script: &str) -> Result<Base, Fail> {
     write(alloc, txn, script)?;
-    Ok(txn.stand()?.share()?)
+    Ok(shared(txn)?)
 }
 
 /// Fails with the lines and the answers that came where they aren't those of a script.
@@ -97,10 +103,31 @@ fn command_of(line: &str) -> &str {
 /// Adds what a command answers.
 fn tell(alloc: Global, txn: &mut Work, command: &str, out: &mut String) -> Result<(), AllocError> {
     match command.split_once(' ') {
-        Some(("insert", row)) => tell_insert(txn, &row_of(alloc, row)?, out),
-        Some(("delete", row)) => tell_delete(txn, &row_of(alloc, row)?, out),
-        Some((word, rest)) => tell_listed(alloc, txn, word, rest, out),
+        Some((word, rest)) => tell_by_word(alloc, txn, word, rest, out),
         None => out.push_str("no command"),
+    }
+}
+
+/// Adds what a command of this word answers.
+fn tell_by_word(
+    alloc: Global,
+    txn: &mut Work,
+    word: &str,
+    rest: &str,
+    out: &mut String,
+) -> Result<(), AllocError> {
+    match word {
+        "insert" | "delete" => tell_write(txn, word, &row_of(alloc, rest)?, out),
+        _ => tell_listed(alloc, txn, word, rest, out),
+    }
+}
+
+/// Adds what the write of a row answers.
+fn tell_write(txn: &mut Work, word: &str, row: &Row, out: &mut String) -> Result<(), AllocError> {
+    if word == "insert" {
+        tell_insert(txn, row, out)
+    } else {
+        tell_delete(txn, row, out)
     }
 }
 

@@ -2,7 +2,7 @@
 use super::played::{USERS, play, write};
 use super::work::Work;
 use super::{Told, begun, right};
-use std::alloc::{AllocError, Global};
+use std::alloc::Global;
 use std::test::Fail;
 
 /// What the table holds.
@@ -41,29 +41,39 @@ fn is_answered(alloc: Global, txn: &mut Work, line: &str) -> Told {
     Ok(answer.as_str().strip_suffix('\n') == Some(line))
 }
 
-/// Whether a line is answered as it says, and each index lists the same after it.
-fn leaves_all(alloc: Global, txn: &mut Work, line: &str) -> Told {
-    let before = play(alloc, txn, EACH_INDEX)?;
-    Ok(is_answered(alloc, txn, line)? && lists(alloc, txn, &before)?)
-}
-
 /// Whether each index lists these rows.
 fn lists(alloc: Global, txn: &mut Work, rows: &str) -> Told {
     let listed = play(alloc, txn, EACH_INDEX)?;
     Ok(listed.as_str() == rows)
 }
 
+/// Whether a line is answered as it says, and each index lists these rows after it.
+fn leaves(alloc: Global, txn: &mut Work, line: &str, rows: &str) -> Told {
+    Ok(is_answered(alloc, txn, line)? && lists(alloc, txn, rows)?)
+}
+
+/// Whether a line is answered as it says, and each index lists the same after it.
+fn leaves_all(alloc: Global, txn: &mut Work, line: &str) -> Told {
+    let before = play(alloc, txn, EACH_INDEX)?;
+    leaves(alloc, txn, line, &before)
+}
+
 /// Fails with the first line that changes what an index lists.
 fn each_leaves_all(alloc: Global, txn: &mut Work) -> Result<(), Fail> {
-    write(alloc, txn, ROWS)?;
     for line in REFUSED.lines() {
         right(leaves_all(alloc, txn, line)?, line)?;
     }
     Ok(())
 }
 
+/// The same after the puts of those rows.
+fn refuse_after_rows(alloc: Global, txn: &mut Work) -> Result<(), Fail> {
+    write(alloc, txn, ROWS)?;
+    each_leaves_all(alloc, txn)
+}
+
 #[test]
 fn a_refused_write_leaves_each_index(rt: HostRuntime) -> Result<(), Fail> {
     let mut txn = begun(rt.alloc(), USERS)?;
-    each_leaves_all(rt.alloc(), &mut txn)
+    refuse_after_rows(rt.alloc(), &mut txn)
 }

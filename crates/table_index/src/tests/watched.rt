@@ -92,17 +92,22 @@ fn changed(alloc: Global, base: &Base, script: &str) -> Result<Work, Fail> {
     Ok(work)
 }
 
-/// Whether a watch moves by a change exactly where that is said.
-fn moves_so(work: Work, spot: &Spot, want: bool) -> Told {
-    let (table, notices) = work.freeze()?;
-    Ok(is_right(&table, &notices, spot, want))
+/// The table and the notices after a write.
+fn written(alloc: Global, base: &Base, script: &str) -> Result<(Table, Notices), Fail> {
+    let work = changed(alloc, base, script)?;
+    Ok(work.freeze()?)
 }
 
-/// Whether a question's watch moves by a write exactly where that is said.
+/// Whether a watch moves by a write exactly where that is said.
+fn moves_so(alloc: Global, base: &Base, spot: &Spot, case: &Case) -> Result<bool, Fail> {
+    let (table, notices) = written(alloc, base, case.3)?;
+    Ok(is_right(&table, &notices, spot, case.4))
+}
+
+/// The same of a question's watch.
 fn is_case_right(alloc: Global, base: &Base, case: &Case) -> Result<bool, Fail> {
     let watched = watch_of(alloc, base, case)?;
-    let work = changed(alloc, base, case.3)?;
-    Ok(moves_so(work, &watched.spot, case.4)?)
+    moves_so(alloc, base, &watched.spot, case)
 }
 
 /// Fails with the first watch that doesn't.
@@ -129,7 +134,7 @@ static UNWATCHED: [(&str, &str, &str); 3] = [
 /// Whether a question is refused since it can't be watched.
 fn is_unwatched(alloc: Global, base: &Base, case: &(&str, &str, &str)) -> Told {
     let query = asked(alloc, ask_of(case.0), case.1, case.2)?;
-    Ok(matches!(base.table().ask_watch(&query), Err(AskError::Unwatchable)))
+    Ok(base.table().ask_watch(&query).err() == Some(AskError::Unwatchable))
 }
 
 /// Fails with the first question that is watched.

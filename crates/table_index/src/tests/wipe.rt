@@ -96,12 +96,16 @@ fn is_taken(table: &Base, query: &Query, by_prefix: bool, want: Option<WipeError
     Ok(taken(&mut txn, by_prefix, query) == want && !txn.spoiled())
 }
 
-/// Whether a wipe is refused as it says, before a change and in one.
+/// Whether a wipe is refused so, before a change and in one.
+fn is_refused(table: &Base, query: &Query, by_prefix: bool, want: Option<WipeError>) -> Told {
+    let before = checked(table, by_prefix, query) == want;
+    Ok(before && is_taken(table, query, by_prefix, want)?)
+}
+
+/// Whether a wipe is refused as it says.
 fn is_told(alloc: Global, table: &Base, case: &Case) -> Told {
-    let want = case.3.map(WipeError::Refused);
     let query = asked(alloc, Ask::Longest, case.1, case.2)?;
-    let before = checked(table, case.0, &query) == want;
-    Ok(before && is_taken(table, &query, case.0, want)?)
+    is_refused(table, &query, case.0, case.3.map(WipeError::Refused))
 }
 
 /// Fails with the first wipe that isn't.

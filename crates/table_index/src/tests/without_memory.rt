@@ -29,21 +29,26 @@ fn listed(alloc: Global, table: &Base) -> Result<Vec<Vec<u8>>, AllocError> {
 /// Makes a write, and tells whether it found no memory.
 fn finds_no_memory(txn: &mut Work, write: &Write) -> bool {
     match write {
-        Write::Put(row) => matches!(txn.put(row), Err(WriteError::Memory)),
-        Write::Remove(row) => matches!(txn.remove(row), Err(WriteError::Memory)),
-        Write::Wipe(question) => { matches!(txn.take_all(&question.query), Err(WipeError::Memory)) }
+        Write::Put(row) => txn.put(row) == Err(WriteError::Memory),
+        Write::Remove(row) => txn.remove(row).err() == Some(WriteError::Memory),
+        Write::Wipe(question) => txn.take_all(&question.query).err() == Some(WipeError::Memory),
         Write::WipePrefix(question) => {
-            matches!(txn.take_prefix(&question.query), Err(WipeError::Memory))
+            txn.take_prefix(&question.query).err() == Some(WipeError::Memory)
         }
     }
+}
+
+/// Makes a drawn write, and tells whether it finds no memory just where it spoils the change.
+fn spoils_so(alloc: Global, random: &mut Random, txn: &mut Work) -> Told {
+    let write = random.write(alloc)?;
+    Ok(finds_no_memory(txn, &write) == txn.spoiled())
 }
 
 /// Makes drawn writes until one finds no memory, and tells whether that one alone spoils the
 /// change.
 fn one_spoils(alloc: Global, random: &mut Random, txn: &mut Work) -> Told {
     for _ in 0..40 {
-        let write = random.write(alloc)?;
-        if finds_no_memory(txn, &write) != txn.spoiled() {
+        if !spoils_so(alloc, random, txn)? {
             return Ok(false);
         }
         if txn.spoiled() {
@@ -66,16 +71,19 @@ fn is_kept(alloc: Global, random: &mut Random, table: &Base) -> Told {
     Ok(spoils && listed(alloc, table)? == before)
 }
 
-/// The same of the table after a change, where that isn't spoiled.
-fn is_kept_after(alloc: Global, txn: &mut Work) -> Told {
-    let mut random = Random(0x2545_f491_4f6c_dd1d);
-    if !one_spoils(alloc, &mut random, txn)? {
-        return Ok(false);
-    }
+/// The same of the table of a change, where that isn't spoiled.
+fn is_kept_by(alloc: Global, random: &mut Random, txn: &mut Work) -> Told {
     if txn.spoiled() {
         return Ok(true);
     }
-    is_kept(alloc, &mut random, &txn.stand()?)
+    let table = txn.stand()?;
+    is_kept(alloc, random, &table)
+}
+
+/// The same after drawn writes in the change, of which one alone may spoil it.
+fn is_kept_after(alloc: Global, txn: &mut Work) -> Told {
+    let mut random = Random(0x2545_f491_4f6c_dd1d);
+    Ok(one_spoils(alloc, &mut random, txn)? && is_kept_by(alloc, &mut random, txn)?)
 }
 
 /// The same on a new table. It is so whichever allocation of a write fails.

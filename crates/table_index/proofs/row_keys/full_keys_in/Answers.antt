@@ -1,4 +1,4 @@
-use Rattle.std.proofs.Common.{◌∙◌, codes, sym, inr, refl}
+use Rattle.std.proofs.Common.{◌∙◌, sym, inr, refl}
 use Rattle.mdb_schema.specs.Write.{missing}
 use Rattle.table_index.proofs.IdRead.{missing_here}
 use Rattle.table_index.proofs.row_keys.full_keys_in.Goals as goal
