@@ -60,11 +60,11 @@ at_prefix {X} xs ys n x p there = subst (λ (zs : List X). slice_get zs n ≡ So
     further (u ∷ us) vs (suc m) e = further us vs m e
 
 -- the state after a commit is that of each longer history
-state_longer : (schema : DbSchema) (old new : History) (n : ℕ) → IsPrefix old new → n ≤ length old → state_at schema new n ≡ state_at schema old n
+pub state_longer : (schema : DbSchema) (old new : History) (n : ℕ) → IsPrefix old new → n ≤ length old → state_at schema new n ≡ state_at schema old n
 state_longer schema old new n p few = ap (after_commits schema (empty_state schema)) (ap (take n) (sym p.1) ∙ take-append-le n old p.0 few)
 
 -- a longer list is as long or longer
-length_longer : {X : Type 0} (xs ys : List X) → IsPrefix xs ys → length xs ≤ length ys
+pub length_longer : {X : Type 0} (xs ys : List X) → IsPrefix xs ys → length xs ≤ length ys
 length_longer xs ys p = let all : length ys ≡ length xs + length p.0 = ap length (sym p.1) ∙ length-append xs p.0 in omega (arith, all)
 
 -- without trees no table is looked up in

@@ -80,6 +80,19 @@ fn committed<D: Drop, R: Wait>(
     }
 }
 
+/// Ends a transaction by its commit or its abort.
+fn ended<R: Wait>(rt: &R, db: &Db, txn: Txn, commits: bool) -> (Pass, Result<(), AllocError>)
+    requires own { IsOf db.now (changes_of txn).caller }
+    ensures own { IsCaller db.now (changes_of txn).caller.number result.0 }
+    ensures same { let pass = result.0 in pass.book ≡ (changes_of txn).caller.book }
+{
+    if !commits {
+        return (txn.abort(db), Ok(()));
+    }
+    let (pass, receipt) = committed(rt, db, txn);
+    (pass, receipt.and(Ok(())))
+}
+
 /// The row that a text is. Another text counts as want of memory, which ends a test.
 #[tactic(auto, using(mdb_datum::proofs::Variants::doc_of_members))]
 fn row_of(alloc: Global, text: &str) -> Result<Row, AllocError> {
@@ -97,16 +110,21 @@ fn args_of(alloc: Global, text: &str) -> Result<Items, AllocError> {
     }
 }
 
+fn query_at(
+    alloc: Global,
+    ask: Ask,
+    table: &Text,
+    index: &Text,
+    args: &str,
+) -> Result<Query, AllocError> {
+    Query::of(alloc, ask, table, index, args_of(alloc, args)?)
+}
+
 /// A question of an index of a table, with the arguments that a text lists.
 fn query_of(alloc: Global, ask: Ask, named: (&str, &str), args: &str) -> Result<Query, AllocError> {
-    let args = args_of(alloc, args)?;
-    Query::of(
-        alloc,
-        ask,
-        &Text::of(alloc, named.0)?,
-        &Text::of(alloc, named.1)?,
-        args,
-    )
+    let table = Text::of(alloc, named.0)?;
+    let index = Text::of(alloc, named.1)?;
+    query_at(alloc, ask, &table, &index, args)
 }
 
 /// Adds a line with a row's text.

@@ -1,35 +1,25 @@
 -- A chain of quiet checks guards the answer of each watch in the history that the pass has seen at its end.
-use Rattle.std.proofs.Common.{◌≡◌, ◌∙◌, ◌+◌, ◌-◌, ◌<◌, ◌≤◌, ◌++◌, ℕ, zero, suc, List, [], ◌∷◌, length, slice_get, append_assoc, append-nil, length-append, refl, sym, ap, subst, arith}
-use Rattle.std.proofs.lemmas.List.{take-append-le}
+use Rattle.std.proofs.Common.{◌≡◌, ◌∙◌, ◌-◌, ◌<◌, ◌≤◌, ◌++◌, ℕ, zero, suc, List, [], ◌∷◌, length, slice_get, append_assoc, append-nil, refl, sym, ap, subst, arith}
 use mathlib.Core.List.{IsPrefix}
 use Rattle.mdb_schema.specs.Answer.{ask}
 use Rattle.mdb_schema.specs.Guarded.{IsGuarded}
-use Rattle.mdb_schema.specs.History.{History, IsMadeBy, after_commits, state_at}
+use Rattle.mdb_schema.specs.History.{History, IsMadeBy, state_at}
 use Rattle.mdb_schema.specs.Query.{Query}
 use Rattle.mdb_schema.specs.Schema.{DbSchema}
-use Rattle.mdb_schema.specs.State.{State, empty_state}
+use Rattle.mdb_schema.specs.State.{State}
 use Rattle.mem_txn.specs.Checked.{HasLooked, IsQuiet}
 use Rattle.mem_txn.specs.Database.{Caller, HasSeen}
 use Rattle.mem_txn.specs.Held.{HeldWatch}
+use Rattle.mem_txn.proofs.HeldAlong.{length_longer, prefix_twice, state_longer}
 use Rattle.watch_set.specs.Checks.{AreQuiet}
 use Rattle.watch_set.specs.GuardedLooks.{AreGuarded, IsGuardedBy, QuietIsGuarded}
 
 -- ---- a longer history
 
-within-longer : {X : Type 0} (xs ys : List X) → IsPrefix xs ys → length xs ≤ length ys
-within-longer xs ys p = let all : length ys ≡ length xs + length p.0 = ap length (sym p.1) ∙ length-append xs p.0 in omega (arith, all)
-
-state-longer : (schema : DbSchema) (old new : History) (n : ℕ) → IsPrefix old new → n ≤ length old → state_at schema new n ≡ state_at schema old n
-state-longer schema old new n p few =
-    ap (λ (H : History). state_at schema H n) (sym p.1) ∙ ap (after_commits schema (empty_state schema)) (take-append-le n old p.0 few)
-
 item-there : {X : Type 0} (xs more : List X) (n : ℕ) → n < length xs → slice_get (xs ++ more) n ≡ slice_get xs n
 item-there [] more n within = absurd (omega arith)
 item-there (x ∷ xs) more zero within = refl
 item-there (x ∷ xs) more (suc n) within = item-there xs more n (omega arith)
-
-prefix-twice : {X : Type 0} (xs ys zs : List X) → IsPrefix xs ys → IsPrefix ys zs → IsPrefix xs zs
-prefix-twice xs ys zs p q = (p.0 ++ q.0, sym (append_assoc xs p.0 q.0) ∙ ap (λ (l : List _). l ++ q.0) p.1 ∙ q.1)
 
 -- what was read up to a look, and then more
 read-longer : (xs ys zs read : List ℕ) (at : ℕ) → ys ≡ xs ++ (read ++ at ∷ []) → (q : IsPrefix ys zs) → zs ≡ xs ++ (read ++ at ∷ q.0)
@@ -61,8 +51,8 @@ follows-itself p = record { seen = ([], append-nil p.seen); counts = ([], append
 
 follows-on : (old mid new : Caller) → HasSeen old mid → Follows mid new → Follows old new
 follows-on old mid new first then = record {
-  seen = prefix-twice old.seen mid.seen new.seen first.seen then.seen;
-  counts = prefix-twice old.counts mid.counts new.counts first.counts then.counts;
+  seen = prefix_twice old.seen mid.seen new.seen first.seen then.seen;
+  counts = prefix_twice old.counts mid.counts new.counts first.counts then.counts;
   schema = then.schema ∙ ap (λ (p : Caller). p.schema) first.others;
   number = then.number ∙ ap (λ (p : Caller). p.number) first.others;
 }
@@ -75,8 +65,8 @@ chain-follows old new (h ∷ hs) (next, at, told, rest) = follows-on old next ne
 
 guarded-longer : (mid new : Caller) (q : Query) (v n : ℕ) → Follows mid new → n ≤ length mid.seen → IsGuarded mid.schema mid.seen q v n → IsGuarded new.schema new.seen q v n
 guarded-longer mid new q v n more within guarded j low high =
-    let there = state-longer mid.schema mid.seen new.seen j more.seen (omega arith) in
-    let first = state-longer mid.schema mid.seen new.seen v more.seen (omega arith) in
+    let there = state_longer mid.schema mid.seen new.seen j more.seen (omega arith) in
+    let first = state_longer mid.schema mid.seen new.seen v more.seen (omega arith) in
     subst (λ (s : DbSchema). ask s (state_at s new.seen j) q ≡ ask s (state_at s new.seen v) q) (sym more.schema)
     (ap (λ (s : State). ask mid.schema s q) there ∙ guarded j low high ∙ sym (ap (λ (s : State). ask mid.schema s q) first))
 
@@ -92,8 +82,8 @@ own-before mid new at more last own =
 one-guarded : (old mid new : Caller) (h : HeldWatch) (at : ℕ) → HasSeen old mid → HasLooked old mid at → IsQuiet mid h at → Follows mid new → IsGuardedBy old new h
 one-guarded old mid new h at seen looked told more =
     let last = looked.number in
-    let before = within-longer old.seen mid.seen seen.seen in
-    let after = within-longer mid.seen new.seen more.seen in
+    let before = length_longer old.seen mid.seen seen.seen in
+    let after = length_longer mid.seen new.seen more.seen in
     record {
       at = at;
       earlier = looked.read;
@@ -115,7 +105,7 @@ guarded-sooner old mid new (h ∷ hs) seen all = (
     earlier = seen.counts.0 ++ all.0.earlier;
     further = all.0.further;
     counts = read-sooner old.counts mid.counts new.counts (all.0.at ∷ all.0.further) seen.counts all.0.earlier all.0.counts;
-    later = let less = within-longer old.seen mid.seen seen.seen in let later = all.0.later in omega arith;
+    later = let less = length_longer old.seen mid.seen seen.seen in let later = all.0.later in omega arith;
     seen = all.0.seen;
     unchanged = all.0.unchanged;
   },

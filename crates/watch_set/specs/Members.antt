@@ -1,5 +1,6 @@
 -- Sets of held watches, as contracts see them.
-use Rattle.std.specs.Prelude.{◌≡◌, ◌&&◌, ℕ, Bool, true, false, List, [], ◌∷◌, ◌++◌, if◌then◌else◌, map, nat_eq, nat_lt, length}
+use Rattle.std.specs.Prelude.{◌≡◌, ◌&&◌, ℕ, Bool, true, false, List, [], ◌∷◌, ◌++◌}
+use Rattle.std.specs.Prelude.{if◌then◌else◌, map, nat_eq, nat_lt, length}
 use Rattle.std.specs.Str.{bytes_eq}
 use Rattle.mdb_datum.specs.Bytes.{Bytes}
 use Rattle.mem_txn.specs.Checked.{IsHeldBy}

@@ -1,5 +1,5 @@
 //! Looks at the members of a set.
-ghost use Rattle.std.specs.Prelude.{◌≡◌, ◌<◌, [], IfOk, IfSome, None, OnErr, length, option_copied};
+ghost use Rattle.std.specs.Prelude.{◌<◌, [], IfOk, IfSome, None, OnErr, length, option_copied};
 ghost use Rattle.mem_txn.specs.Checked.{AnswersCheck, IsHeldBy};
 ghost use Rattle.mem_txn.specs.Database.{HasSeen, IsOf};
 ghost use Rattle.watch_set.specs.Checks.{AnswersLook, HasChecked, KeepsHeld, OnlyLooks, with_until};

@@ -1,5 +1,6 @@
 //! Sets of watches.
-ghost use Rattle.std.specs.Prelude.{◌≡◌, ◌<◌, [], IfOk, IfSome, OnErr, OnOk, false, length, not, option_copied, option_map, slice_get};
+ghost use Rattle.std.specs.Prelude.{◌≡◌, ◌<◌, [], IfOk, IfSome, OnErr, OnOk, false, length, not};
+ghost use Rattle.std.specs.Prelude.{option_copied, option_map, slice_get};
 ghost use Rattle.mem_txn.specs.Checked.{IsHeldBy};
 ghost use Rattle.mem_txn.specs.Database.{Caller, HasSeen, IsOf};
 ghost use Rattle.watch_set.specs.Checks.{AnswersLook, AnswersWait, HasChecked, KeepsHeld, OnlyLooks, with_until};
@@ -63,8 +64,8 @@ impl WatchSet {
 
     /// Adds a watch under a name, at the end, unless a member has its cell already; tells whether
     /// it was added. It looks at each member, and takes memory for a copy of the name and for the
-    /// member, only where it adds one. It is refused for want of memory, or of room to count one
-    /// more owner of the watch; then the set is as before.
+    /// member, only where it adds one. `AllocError` comes for want of memory, or where the kit's
+    /// `Arc` refuses one more owner of the watch; then the set is as before.
     #[tactic(auto, using(crate::proofs::CellsDiffer::distinct_after, crate::proofs::CellsDiffer::held_after))]
     pub fn add(&mut self, name: &Text, held: &Held) -> Result<bool, AllocError>
         ensures added { IfOk result (λ b. b ≡ not (has_cell (cell_name held.now) self.old)) }
@@ -115,8 +116,8 @@ impl WatchSet {
 
     /// Checks each member in order, and then what cancels, up to the first that isn't quiet, and
     /// tells which; nothing where each is quiet. It takes time in the number of members, and may
-    /// wait as [`Db::check`] does. It is refused only for want of room to count one more owner of
-    /// the state; the pass may have seen more by then.
+    /// wait as [`Db::check`] does. It takes no memory. `AllocError` comes where the state can't get
+    /// one more owner, and the pass may have seen more by then.
     pub fn look_once<R: Wait>(
         &self,
         rt: &R,

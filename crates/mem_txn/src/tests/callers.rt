@@ -3,7 +3,7 @@ ghost use Rattle.std.specs.Prelude.{◌≡◌, [], IfOk, Some};
 ghost use Rattle.mem_txn.specs.Database.{Caller, IsCaller, IsOf};
 ghost use Rattle.mem_txn.specs.Transactions.{changes_of};
 
-use super::{Told, Txn, committed, schema_of};
+use super::{Told, Txn, ended, schema_of};
 use crate::{BeginRefused, Db, Pass, Passes, ReadTxn, Snapshot, Tried};
 use mdb_datum::{Datum, Row};
 use mdb_schema::{Answer, Ask, AskError, Rows};
@@ -64,6 +64,26 @@ fn insert_own(alloc: Global, txn: &mut Txn, letter: char, own: u64) -> Result<()
     }
 }
 
+/// Inserts the row of a caller in its transaction, and ends that.
+fn run_own<R: Wait>(
+    rt: &R,
+    alloc: Global,
+    db: &Db,
+    txn: Txn,
+    letter: char,
+    own: u64,
+    commits: bool,
+) -> (Pass, Result<(), AllocError>)
+    requires own { IsOf db.now (changes_of txn).caller }
+    ensures { IsCaller db.now (changes_of txn).caller.number result.0 }
+{
+    let mut txn = txn;
+    match insert_own(alloc, &mut txn, letter, own) {
+        Ok(()) => ended(rt, db, txn, commits),
+        Err(AllocError) => (txn.abort(db), Err(AllocError)),
+    }
+}
+
 /// One transaction of a caller.
 fn one_txn<R: Wait>(
     rt: &R,
@@ -77,16 +97,10 @@ fn one_txn<R: Wait>(
     requires own { IsOf db.now pass }
     ensures { IsCaller db.now pass.number result.0 }
 {
-    let mut txn = match db.write(rt, pass) {
-        Ok(txn) => txn,
-        Err(BeginRefused { pass, cause: _ }) => return (pass, Err(AllocError)),
-    };
-    let done = insert_own(alloc, &mut txn, letter, own);
-    if done.is_err() || !commits {
-        return (txn.abort(db), done);
+    match db.write(rt, pass) {
+        Ok(txn) => run_own(rt, alloc, db, txn, letter, own, commits),
+        Err(BeginRefused { pass, cause: _ }) => (pass, Err(AllocError)),
     }
-    let (pass, receipt) = committed(rt, db, txn);
-    (pass, receipt.and(Ok(())))
 }
 
 /// Transactions of a caller, one after the other.
@@ -199,6 +213,19 @@ fn is_first_alone(first: Told, second: Told) -> Told {
 }
 
 /// While one caller's transaction is open, a try of the other finds it taken; then it begins one.
+fn try_beside<R: Wait>(rt: &R, db: &Db, txn: Txn, two: Pass) -> (Pass, Pass, Told)
+    requires one { IsOf db.now (changes_of txn).caller }
+    requires two { IsOf db.now two }
+    ensures one { IsCaller db.now (changes_of txn).caller.number result.0 }
+    ensures two { IsCaller db.now two.number result.1 }
+{
+    let (two, first) = is_taken(rt, db, two);
+    let one = txn.abort(db);
+    let (two, next) = is_taken(rt, db, two);
+    (one, two, is_first_alone(first, next))
+}
+
+/// The same of two who have none yet.
 fn try_twice<R: Wait>(rt: &R, db: &Db, one: Pass, two: Pass) -> (Pass, Pass, Told)
     requires one { IsOf db.now one }
     requires two { IsOf db.now two }
@@ -206,12 +233,7 @@ fn try_twice<R: Wait>(rt: &R, db: &Db, one: Pass, two: Pass) -> (Pass, Pass, Tol
     ensures two { IsCaller db.now two.number result.1 }
 {
     match db.try_write::<u8, R>(rt, one) {
-        Ok(Tried::Begun(txn)) => {
-            let (two, first) = is_taken(rt, db, two);
-            let one = txn.abort(db);
-            let (two, next) = is_taken(rt, db, two);
-            (one, two, is_first_alone(first, next))
-        }
+        Ok(Tried::Begun(txn)) => try_beside(rt, db, txn, two),
         Ok(Tried::Taken(one)) => (one, two, Ok(false)),
         Err(
             BeginRefused {
@@ -272,27 +294,50 @@ fn snapshot_of<R: Wait>(rt: &R, db: &Db, pass: &mut Pass) -> Result<ReadTxn, All
     db.read(rt, pass)?.snapshot()
 }
 
-/// The same of the first caller's snapshot, and the number of commits at the end.
-fn kept_long<R: Threads + Wait + Sync>(rt: &R, alloc: Global) -> Result<(bool, u64), AllocError> {
-    let (db, passes, mut one, two) = pair(alloc)?;
-    let read = snapshot_of(rt, &db, &mut one);
-    let mut two = Some(two);
-    let kept = match &read {
-        Ok(read) => is_kept(rt, alloc, &db, read, &mut two),
-        Err(AllocError) => Err(AllocError),
+/// The same of the first caller's snapshot.
+fn is_snapshot_kept<R: Threads + Wait + Sync>(
+    rt: &R,
+    alloc: Global,
+    db: &Db,
+    one: &mut Pass,
+    two: &mut Option<Pass>,
+) -> Told
+    requires one { IsCaller db.now 1 one.old }
+    requires two { (p : Caller) × (two.old ≡ Some p) × IsCaller db.now 2 p }
+    ensures one { IsCaller db.now 1 one.new }
+    ensures two { (p : Caller) × (two.new ≡ Some p) × IsCaller db.now 2 p }
+{
+    let read = snapshot_of(rt, db, one)?;
+    is_kept(rt, alloc, db, &read, two)
+}
+
+/// The number of commits when both passes are back.
+fn count_of<R: Wait>(rt: &R, db: Db, passes: Passes, one: Pass, two: Option<Pass>) -> u64
+    requires one { IsCaller db 1 one }
+    requires two { (p : Caller) × (two ≡ Some p) × IsCaller db 2 p }
+    requires both { db.callers ≡ 2 }
+    requires rest { passes ≡ record { passes = []; made = 2 } }
+{
+    let Some(two) = two else { unreachable!() };
+    let last = closed(rt, db, passes, one, two);
+    last.number()
+}
+
+/// The same in a new database, and the number of commits at the end.
+fn kept_long<R: Threads + Wait + Sync>(rt: &R, alloc: Global) -> (Told, u64) {
+    let (db, passes, mut one, two) = match pair(alloc) {
+        Ok(made) => made,
+        Err(_) => return (Err(AllocError), 0),
     };
-    match two {
-        Some(two) => {
-            let last = closed(rt, db, passes, one, two);
-            Ok((kept?, last.number()))
-        }
-        None => unreachable!(),
-    }
+    let mut two = Some(two);
+    let kept = is_snapshot_kept(rt, alloc, &db, &mut one, &mut two);
+    (kept, count_of(rt, db, passes, one, two))
 }
 
 #[test]
 fn a_snapshot_outlives_a_hundred_commits(rt: HostRuntime) -> Result<(), Fail> {
-    assert!(rt; kept_long(&rt, rt.alloc())? == (true, 100));
+    let (kept, count) = kept_long(&rt, rt.alloc());
+    assert!(rt; kept? && count == 100);
     Ok(())
 }
 

@@ -26,20 +26,16 @@ fn defer_all(alloc: Global, txn: &mut WriteTxn<String>) -> bool
     true
 }
 
-/// The items of a transaction that is committed.
-fn commit_all<R: Wait>(
+/// Defers the items in a transaction, and commits it.
+fn commit_begun<R: Wait>(
     rt: &R,
     alloc: Global,
     db: &Db,
-    pass: Pass,
+    txn: WriteTxn<String>,
 ) -> (Pass, Result<DeferredList<String>, AllocError>)
-    requires own { IsCaller db.now 1 pass }
+    requires own { IsCaller db.now 1 (changes_of txn).caller }
     ensures { IsCaller db.now 1 result.0 }
 {
-    let txn = match db.write(rt, pass) {
-        Ok(txn) => txn,
-        Err(BeginRefused { pass, cause: _ }) => return (pass, Err(AllocError)),
-    };
     let mut txn = txn;
     if !defer_all(alloc, &mut txn) {
         return (txn.abort(db), Err(AllocError));
@@ -50,23 +46,53 @@ fn commit_all<R: Wait>(
     }
 }
 
+/// The items of a transaction that is committed.
+fn commit_all<R: Wait>(
+    rt: &R,
+    alloc: Global,
+    db: &Db,
+    pass: Pass,
+) -> (Pass, Result<DeferredList<String>, AllocError>)
+    requires own { IsCaller db.now 1 pass }
+    ensures { IsCaller db.now 1 result.0 }
+{
+    match db.write(rt, pass) {
+        Ok(txn) => commit_begun(rt, alloc, db, txn),
+        Err(BeginRefused { pass, cause: _ }) => (pass, Err(AllocError)),
+    }
+}
+
+/// Whether an item was taken, and is this one.
+fn is_item(taken: Option<String>, expected: &str) -> bool {
+    match taken {
+        Some(item) => item.as_str() == expected,
+        None => false,
+    }
+}
+
 /// Takes the items out, and tells whether they are these, last first.
 fn are_taken(items: &mut DeferredList<String>) -> bool {
     for item in ITEMS.iter().rev() {
-        match items.take() {
-            Some(taken) if taken.as_str() == *item => {}
-            _ => return false,
+        if !is_item(items.take(), item) {
+            return false;
         }
     }
     items.take().is_none() && items.len() == 0
 }
 
+/// Whether the item at a place is this one.
+fn is_placed(items: &DeferredList<String>, at: usize, expected: &str) -> bool {
+    match items.get(at) {
+        Some(item) => item.as_str() == expected,
+        None => false,
+    }
+}
+
 /// Whether the items are found by their places, last first.
 fn are_placed(items: &DeferredList<String>) -> bool {
     for (at, item) in ITEMS.iter().rev().enumerate() {
-        match items.get(at) {
-            Some(found) if found.as_str() == *item => {}
-            _ => return false,
+        if !is_placed(items, at, item) {
+            return false;
         }
     }
     items.get(4).is_none() && items.len() == 4

@@ -45,6 +45,27 @@ impl Drawn {
             plain: [None; 12],
         }
     }
+
+    /// A drawn row of a drawn place, which is there afterwards or not.
+    pub fn write(&mut self, is_there: bool) -> Write {
+        let place = self.random.place();
+        let row = self.random.row(place);
+        let held = self.plain[place];
+        self.plain[place] = if is_there { Some(row) } else { None };
+        Write {
+            table: table_of(place),
+            text: text_of(row),
+            held,
+        }
+    }
+}
+
+/// A row that is written: its table, its text, and the row of its name that was there.
+#[derive(Clone, Copy)]
+pub struct Write {
+    pub table: &'static str,
+    pub text: &'static str,
+    pub held: Option<usize>,
 }
 
 /// A question for all rows, or for the users of an age: its table, its index, its arguments, and

@@ -5,10 +5,10 @@ ghost use Rattle.std.specs.Prelude.{◌≡◌};
 ghost use Rattle.mem_txn.specs.Database.{IsCaller};
 ghost use Rattle.mem_txn.specs.Transactions.{changes_of};
 
-use super::drawn::{Drawn, Plain, QUESTIONS, Question, is_alike, table_of, text_of, wipe_plain};
+use super::drawn::{Drawn, Plain, QUESTIONS, Question, is_alike, text_of, wipe_plain};
 use super::watches::watched_of;
 use super::worked::commit_all;
-use super::{Told, Txn, closed, committed, lines_of, opened, query_of, row_of};
+use super::{Told, Txn, closed, ended, lines_of, opened, query_of, row_of};
 use crate::{BeginRefused, Db, Held, Pass, ReadTxn, Snapshot, TxnWriteError};
 use mdb_datum::Row;
 use mdb_schema::{Answer, Ask, AskError, Query, WriteError};
@@ -22,12 +22,9 @@ use watch_word::Front;
 fn insert_both(alloc: Global, drawn: &mut Drawn, txn: &mut Txn) -> Told
     ensures { (changes_of txn.new).caller ≡ (changes_of txn.old).caller }
 {
-    let place = drawn.random.place();
-    let row = drawn.random.row(place);
-    let held = drawn.plain[place];
-    drawn.plain[place] = Some(row);
-    match txn.insert(table_of(place), &row_of(alloc, text_of(row))?) {
-        Ok(replaced) => Ok(replaced == held.is_some()),
+    let put = drawn.write(true);
+    match txn.insert(put.table, &row_of(alloc, put.text)?) {
+        Ok(replaced) => Ok(replaced == put.held.is_some()),
         Err(_) => Err(AllocError),
     }
 }
@@ -38,19 +35,22 @@ fn is_held(row: &Row, held: Option<usize>) -> Told {
     Ok(row.doc()?.as_slice() == text.as_bytes())
 }
 
-/// Whether a delete is answered alike.
-fn delete_both(alloc: Global, drawn: &mut Drawn, txn: &mut Txn) -> Told
-    ensures { (changes_of txn.new).caller ≡ (changes_of txn.old).caller }
-{
-    let place = drawn.random.place();
-    let row = drawn.random.row(place);
-    let held = drawn.plain[place];
-    drawn.plain[place] = None;
-    match txn.delete(table_of(place), &row_of(alloc, text_of(row))?) {
+/// Whether a delete is answered so, where this row was held.
+fn is_deleted(answer: Result<Row, TxnWriteError>, held: Option<usize>) -> Told {
+    match answer {
         Ok(old) => is_held(&old, held),
         Err(TxnWriteError::Refused(WriteError::NotFound)) => Ok(held.is_none()),
         Err(_) => Err(AllocError),
     }
+}
+
+/// Whether a delete is answered alike.
+fn delete_both(alloc: Global, drawn: &mut Drawn, txn: &mut Txn) -> Told
+    ensures { (changes_of txn.new).caller ≡ (changes_of txn.old).caller }
+{
+    let gone = drawn.write(false);
+    let row = row_of(alloc, gone.text)?;
+    is_deleted(txn.delete(gone.table, &row), gone.held)
 }
 
 fn asked(alloc: Global, question: &Question) -> Result<Query, AllocError> {
@@ -154,10 +154,7 @@ fn end<R: Wait>(rt: &R, db: &Db, txn: Txn, commits: bool) -> (Pass, Told)
     ensures own { IsCaller db.now 1 result.0 }
     ensures same { let pass = result.0 in pass.book ≡ (changes_of txn).caller.book }
 {
-    if !commits {
-        return (txn.abort(db), Ok(true));
-    }
-    let (pass, done) = committed(rt, db, txn);
+    let (pass, done) = ended(rt, db, txn, commits);
     (pass, done.and(Ok(true)))
 }
 
@@ -292,15 +289,20 @@ fn is_right(kept: &Kept, next: &Kept) -> bool {
         && (fired || next.told.as_slice() == kept.told.as_slice())
 }
 
+/// Holds the next watch of a question, where it has another cell or where that is said.
+fn hold_next(kept: &mut Kept, next: Kept, anew: bool) {
+    if anew || next.held.id() != kept.held.id() {
+        *kept = next;
+    }
+}
+
 /// Whether a watch is right. One that has fired is held anew, and so is another where that is said.
 fn is_right_now(alloc: Global, kept: &mut Kept, read: &ReadTxn, log: &Front, anew: bool) -> Told
     requires { log.now.book ≡ read.now.book }
 {
     let next = watch_of(alloc, read, log, kept.held.query())?;
     let right = is_right(kept, &next);
-    if anew || next.held.id() != kept.held.id() {
-        *kept = next;
-    }
+    hold_next(kept, next, anew);
     Ok(right)
 }
 

@@ -1,10 +1,10 @@
 //! Two callers who write at the same time, each on a thread of its own.
-ghost use Rattle.std.specs.Prelude.{◌≡◌, Some};
+ghost use Rattle.std.specs.Prelude.{◌≡◌, [], Some};
 ghost use Rattle.mem_txn.specs.Database.{Caller, IsCaller};
 
 use super::Told;
 use super::callers::{are_in_order, closed, pair, some_borrowed};
-use crate::{Db, Pass, ReadTxn};
+use crate::{Db, Pass, Passes, ReadTxn};
 use std::alloc::{AllocError, Global};
 use std::sync::Wait;
 use std::test::Fail;
@@ -39,6 +39,25 @@ fn side_by_side<R: Threads + Wait + Sync>(
     first.and(second)
 }
 
+/// The last state, when both passes are back.
+fn closed_lent<R: Wait>(
+    rt: &R,
+    db: Db,
+    passes: Passes,
+    one: Option<Pass>,
+    two: Option<Pass>,
+) -> ReadTxn
+    requires one { (p : Caller) × (one ≡ Some p) × IsCaller db 1 p }
+    requires two { (p : Caller) × (two ≡ Some p) × IsCaller db 2 p }
+    requires both { db.callers ≡ 2 }
+    requires rest { passes ≡ record { passes = []; made = 2 } }
+{
+    match (one, two) {
+        (Some(one), Some(two)) => closed(rt, db, passes, one, two),
+        _ => unreachable!(),
+    }
+}
+
 /// The last state, after both callers' transactions.
 fn last_after<R: Threads + Wait + Sync>(
     rt: &R,
@@ -49,14 +68,8 @@ fn last_after<R: Threads + Wait + Sync>(
     let mut one = Some(one);
     let mut two = Some(two);
     let done = side_by_side(rt, alloc, &db, &mut one, &mut two, commits);
-    match (one, two) {
-        (Some(one), Some(two)) => {
-            let last = closed(rt, db, passes, one, two);
-            done?;
-            Ok(last)
-        }
-        _ => unreachable!(),
-    }
+    let last = closed_lent(rt, db, passes, one, two);
+    done.and(Ok(last))
 }
 
 /// Whether the state after both callers' transactions has so many users of each, in order.

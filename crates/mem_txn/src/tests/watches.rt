@@ -7,7 +7,7 @@ ghost use Rattle.mem_txn.specs.Database.{IsCaller};
 ghost use Rattle.mem_txn.specs.Held.{IsHeldOf};
 
 use super::callers::{closed, pair};
-use super::worked::{Asked, Done, IDS, Step, commit_all, query_as};
+use super::worked::{Asked, IDS, Step, query_as, write_all};
 use super::{Told, is_told};
 use crate::pass_laws::{asked_watches_are_held, held_watches_outlast_commits};
 use crate::{Db, Held, Look, Pass, ReadTxn};
@@ -153,7 +153,7 @@ fn write_one<R: Wait>(
     two: Pass,
     steps: &[Step],
     own: bool,
-) -> (Pass, Pass, Done)
+) -> (Pass, Pass, Result<(), AllocError>)
     requires one { IsCaller db.now 1 one }
     requires two { IsCaller db.now 2 two }
     ensures one { IsCaller db.now 1 result.0 }
@@ -161,10 +161,10 @@ fn write_one<R: Wait>(
     ensures more { IsBeginning one result.0 }
 {
     if own {
-        let (one, done) = commit_all(rt, alloc, db, one, steps);
+        let (one, done) = write_all(rt, alloc, db, one, steps);
         (one, two, done)
     } else {
-        let (two, done) = commit_all(rt, alloc, db, two, steps);
+        let (two, done) = write_all(rt, alloc, db, two, steps);
         (one, two, done)
     }
 }
@@ -195,6 +195,28 @@ fn fires_after<R: Wait>(
     (one, two, told)
 }
 
+/// The first caller's watch of a question behind the first commit, which it makes.
+fn hold_behind<R: Wait>(
+    rt: &R,
+    alloc: Global,
+    db: &Db,
+    pass: Pass,
+    asked: &Asked,
+) -> (Pass, Result<Held, AllocError>)
+    requires own { IsCaller db.now 1 pass }
+    ensures own { IsCaller db.now 1 result.0 }
+    ensures held { let after = result.0 in IfOk result.1 (λ h. IsHeldBy after h) }
+{
+    let (mut pass, done) = write_all(rt, alloc, db, pass, &FIRST);
+    match done {
+        Ok(()) => {
+            let held = hold(rt, alloc, db, &mut pass, asked);
+            (pass, held)
+        }
+        Err(_) => (pass, Err(AllocError)),
+    }
+}
+
 /// The same of the watch that it holds behind the first commit.
 fn fires_behind<R: Wait>(
     rt: &R,
@@ -210,11 +232,8 @@ fn fires_behind<R: Wait>(
     ensures one { IsCaller db.now 1 result.0 }
     ensures two { IsCaller db.now 2 result.1 }
 {
-    let (mut one, done) = commit_all(rt, alloc, db, one, &FIRST);
-    if done.is_err() {
-        return (one, two, Err(AllocError));
-    }
-    match hold(rt, alloc, db, &mut one, &case.2) {
+    let (one, held) = hold_behind(rt, alloc, db, one, &case.2);
+    match held {
         Ok(held) => fires_after(rt, alloc, db, one, two, case, own, &held),
         Err(_) => (one, two, Err(AllocError)),
     }

@@ -13,14 +13,21 @@ use std::alloc::{AllocError, Global};
 use std::sync::Wait;
 use std::test::Fail;
 
+/// Whether the insert of a row finds memory.
+fn is_put(alloc: Global, txn: &mut Txn, table: &str, text: &str) -> Told
+    ensures { (changes_of txn.new).caller ≡ (changes_of txn.old).caller }
+{
+    let row = row_of(alloc, text)?;
+    Ok(txn.insert(table, &row).is_ok())
+}
+
 /// Inserts some rows, and tells whether one found no memory. Then the transaction is spoiled.
 fn insert_some(alloc: Global, drawn: &mut Drawn, txn: &mut Txn) -> Told
     ensures { (changes_of txn.new).caller ≡ (changes_of txn.old).caller }
 {
     for place in 4..8 {
         let row = drawn.random.row(place);
-        let row_put = row_of(alloc, text_of(row))?;
-        if txn.insert(table_of(place), &row_put).is_err() {
+        if !is_put(alloc, txn, table_of(place), text_of(row))? {
             return Ok(true);
         }
         drawn.plain[place] = Some(row);

@@ -181,6 +181,22 @@ pub fn commit_all<R: Wait>(
     }
 }
 
+/// The same, where the receipt isn't looked at.
+pub fn write_all<R: Wait>(
+    rt: &R,
+    alloc: Global,
+    db: &Db,
+    pass: Pass,
+    steps: &[Step],
+) -> (Pass, Result<(), AllocError>)
+    requires own { IsOf db.now pass }
+    ensures own { IsCaller db.now pass.number result.0 }
+    ensures more { IsBeginning pass result.0 }
+{
+    let (pass, done) = commit_all(rt, alloc, db, pass, steps);
+    (pass, done.and(Ok(())))
+}
+
 /// Whether these steps are answered so in a transaction that is aborted.
 fn abort_all<R: Wait>(rt: &R, alloc: Global, db: &Db, pass: Pass, steps: &[Step]) -> (Pass, Told)
     requires own { IsCaller db.now 1 pass }
@@ -213,7 +229,7 @@ fn play_next<R: Wait>(rt: &R, alloc: Global, db: &Db, pass: Pass, script: &Scrip
     if !script.commits {
         return abort_all(rt, alloc, db, pass, script.next);
     }
-    let (pass, done) = commit_all(rt, alloc, db, pass, script.next);
+    let (pass, done) = write_all(rt, alloc, db, pass, script.next);
     (pass, done.and(Ok(true)))
 }
 
@@ -222,9 +238,9 @@ fn play<R: Wait>(rt: &R, alloc: Global, db: &Db, pass: Pass, script: &Script) ->
     requires own { IsCaller db.now 1 pass }
     ensures { IsCaller db.now 1 result.0 }
 {
-    let (pass, done) = commit_all(rt, alloc, db, pass, script.first);
+    let (pass, done) = write_all(rt, alloc, db, pass, script.first);
     match done {
-        Ok(_) => play_next(rt, alloc, db, pass, script),
+        Ok(()) => play_next(rt, alloc, db, pass, script),
         Err(_) => (pass, Err(AllocError)),
     }
 }
@@ -252,6 +268,22 @@ fn are_read(alloc: Global, read: &ReadTxn, number: u64, questions: &[Asked]) -> 
     Ok(read.number() == number)
 }
 
+/// Whether a caller reads this commit, which answers each question so.
+fn reads_so<R: Wait>(
+    rt: &R,
+    alloc: Global,
+    db: &Db,
+    pass: &mut Pass,
+    number: u64,
+    questions: &[Asked],
+) -> Told
+    requires own { IsCaller db.now 1 pass.old }
+    ensures { IsCaller db.now 1 pass.new }
+{
+    let read = db.read(rt, pass)?;
+    are_read(alloc, &read, number, questions)
+}
+
 /// Whether a script is answered so, and then what is read.
 fn is_played_on<R: Wait>(
     rt: &R,
@@ -265,10 +297,9 @@ fn is_played_on<R: Wait>(
 {
     let (mut pass, told) = play(rt, alloc, db, pass, script);
     let number = if script.commits { 2 } else { 1 };
-    let read = db.read(rt, &mut pass);
-    let told = match (told, read) {
-        (Ok(true), Ok(read)) => are_read(alloc, &read, number, script.questions),
-        (told, _) => told,
+    let told = match told {
+        Ok(true) => reads_so(rt, alloc, db, &mut pass, number, script.questions),
+        told => told,
     };
     (pass, told)
 }
