@@ -24,7 +24,7 @@ use Rattle.client_session.specs.Steps.{HasStayedQuiet}
 use Rattle.client_session.specs.declared.reply.Reply as own
 use Rattle.client_session.specs.declared.watching.Watching.{Watching}
 use Rattle.client_session.specs.inner.ReplyOf.{reply_of}
-use Rattle.client_session.specs.inner.SetsKept.{RepliesWoken, awaited_in, beside}
+use Rattle.client_session.specs.inner.SetsKept.{IsThere, RepliesWoken, awaited_in, beside}
 use Rattle.client_session.specs.inner.WatchingView.{Holds, IsSet, Knows, MayLook, TellsLook, member_of, wait_for, watch_of}
 use Rattle.client_session.proofs.CellsOfSets.{member_held}
 use Rattle.client_session.proofs.CellsTold.{fired_moved}
@@ -281,3 +281,8 @@ pub look_told : (g : Watching) (set : Bytes) (old new : Caller) (ms : List Membe
     → HasChecked old new (with_until (watches_of ms) u) → MovesAreTouches (cells_seen new) → AreComplete (cells_seen new) → AnswersWoken old new ms u w → RepliesWoken ms w r → TellsLook g (wait_for set until) old new (reply_of old.schema r)
 look_told g set old new ms until u w r there holds checked law complete told is =
     woken_told g set old old new holds (follows_itself old) (checked_begins old new (with_until (watches_of ms) u) checked) law complete ms until u w r there told is
+
+-- the member that a wait tells is there
+pub woken_there : (old new : Caller) (ms : List Member) (until : Option HeldWatch) (w : Woken) → AnswersWait old new ms until w → IsThere ms w
+woken_there old new ms until (woken.Fired place at) (looks, last, quiet, told) = (told.0, told.1)
+woken_there old new ms until (woken.Stopped at) a = tt

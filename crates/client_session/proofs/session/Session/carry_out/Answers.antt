@@ -1,6 +1,11 @@
 use Rattle.std.proofs.Common.{rules}
-use Rattle.client_session.proofs.SessionSteps.{answered_ok, stopped_on_err}
+use Rattle.client_session.proofs.SessionSteps.{answered_ok, some_told, stopped_on_err}
 use Rattle.client_session.proofs.session.Session.carry_out.Goals as goal
+
+pub returns-clause-told : goal.returns-clause-told
+returns-clause-told g c =
+    let f = c.self.inside in
+    some_told c.args.self.now f.client f.script f.desk c.replace-gone.new.self f.answered f.text.items f.failed c.self.view_is c.in-Some.desk c.carry_out-desk.result.0 c.carry_out-desk.result.1 c.carry_out-desk.new.text.items c.is_err-self-inside.result (search (rules)) (search (rules)) c.carry_out-desk.ensures.told
 
 pub returns-clause-answered : goal.returns-clause-answered
 returns-clause-answered g c =

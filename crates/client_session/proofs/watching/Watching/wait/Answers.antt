@@ -3,12 +3,16 @@ use Rattle.std.specs.Prelude.{option_copied}
 use Rattle.std.proofs.lemmas.Result.{IfOk-weaker}
 use Rattle.client_session.specs.inner.SetsKept.{RepliesWoken}
 use Rattle.client_session.proofs.LooksTold.{begins}
-use Rattle.client_session.proofs.WaitsTold.{awaited_held, wait_told}
+use Rattle.client_session.proofs.WaitsTold.{awaited_held, wait_told, woken_there}
 use Rattle.client_session.proofs.watching.Watching.wait.Goals as goal
 
 pub wait-requires-clause-held : goal.wait-requires-clause-held
 wait-requires-clause-held g c =
     awaited_held c.args.pass.now c.args.self.now c.args.set.now (option_copied c.args.until) c.in-Some.members.now (option_copied c.in-Some.until) c.requires.holds (sym c.in-Some.ensures)
+
+pub woken_reply-requires : goal.woken_reply-requires
+woken_reply-requires g c =
+    woken_there c.args.pass.now c.wait.new.pass c.in-Some.members.now (option_copied c.in-Some.until) c.in_ok-woken.woken c.in_ok-woken.ensures.woken
 
 pub returns-clause-told : goal.returns-clause-told
 returns-clause-told g c =
