@@ -5,7 +5,7 @@ use Rattle.mdb_datum.specs.Bytes.{Bytes}
 use Rattle.mdb_ports.specs.Faults.{Rose}
 use Rattle.mdb_schema.specs.Broken.{Broken}
 use Rattle.memdb.specs.Causes.{Finds, Reaches, CallsFor, no_command, too_large, broken, broken_script, lawful, IsOneOf}
-use Rattle.memdb.specs.Words.{Named, files_named}
+use Rattle.memdb.specs.Words.{Named, files_named, numbers_named}
 use Rattle.run_io.specs.Causes.{HasNoExcuse}
 use Rattle.run_io.specs.Inputs.{schema_error}
 use Rattle.run_io.specs.Observed.{Observed, IsTooLarge}
@@ -13,8 +13,8 @@ use Rattle.run_io.specs.declared.inputs.Inputs.{Inputs}
 use Rattle.run_io.specs.declared.load_error.LoadError.TheVariants.{Schema, Script}
 
 module _ (words : List Bytes) (seen : Observed) (result : ℕ) (comes : (status : ℕ) → CallsFor words seen status → IsOneOf (status ∷ 4 ∷ 6 ∷ []) result) where
-  usage_comes : files_named words ≡ None → IsOneOf (1 ∷ 4 ∷ 6 ∷ []) result
-  usage_comes none = comes 1 (no_command refl none)
+  usage_comes : files_named words ≡ None → numbers_named words ≡ None → IsOneOf (1 ∷ 4 ∷ 6 ∷ []) result
+  usage_comes none no_make = comes 1 (no_command refl none no_make)
 
   too_large_comes : (named : Named) (name : Bytes) → Reaches words seen named name → IsTooLarge seen.told name → HasNoExcuse seen → IsOneOf (7 ∷ 4 ∷ 6 ∷ []) result
   too_large_comes named name r l plain = comes 7 (too_large refl named name r l plain)

@@ -1,15 +1,20 @@
 -- Where a cause is there, no other status is answered.
-use Rattle.std.proofs.Common.{◌≡◌, ◌∙◌, refl, sym, subst, ℕ, List, ◌∷◌, Option, Some, None, Ok, Err}
+use Rattle.std.proofs.Common.{◌≡◌, ◌∙◌, refl, sym, subst, ℕ, Bool, cond, true, false, List, [], ◌∷◌, Option, Some, None, Ok, Err, codes}
+use Rattle.std.proofs.lemmas.Slice.Eq.{bytes_eq-Decides}
+use Rattle.std.specs.List.{list_all}
+use Rattle.std.specs.Str.{bytes_eq}
 use Rattle.std.specs.Prelude.{IsSome, Result}
 use Rattle.client_script.specs.Legal.{Legal}
 use Rattle.client_script.specs.declared.script_error.ScriptError.{ScriptError}
 use Rattle.mdb_datum.specs.Bytes.{Bytes}
 use Rattle.mdb_ports.specs.Files.{Contents}
 use Rattle.mdb_schema.specs.Broken.{Broken}
+use Rattle.memdb.specs.Causes as cause
 use Rattle.memdb.specs.Causes.{Finds, Reaches, CallsFor, no_command, absent, too_large, broken, broken_script, lawful}
-use Rattle.memdb.specs.Outcome.{HasRead, IsAnswer, done, usage, broken_schema, cannot_read}
+use Rattle.memdb.specs.Outcome.{HasRead, IsAnswer, done, made, usage, broken_schema, cannot_read}
 use Rattle.memdb.specs.Outcome as outcome
-use Rattle.memdb.specs.Words.{Named, files_named, in_order}
+use Rattle.memdb.specs.Made.{Numbers}
+use Rattle.memdb.specs.Words.{Named, files_behind, files_named, in_order, make_of, may_name_a_file, numbers_behind, numbers_named, run_of}
 use Rattle.memdb.specs.inner.ReadAnswer.{IsAnswerTo, inputs_read, schema_broken, script_broken}
 use Rattle.run_io.specs.Causes.{HasNoExcuse}
 use Rattle.run_io.specs.Inputs.{schema_error}
@@ -28,6 +33,28 @@ named_once words a b e f = let h : Some a ≡ Some b = sym e ∙ f in cc
 
 never_named : (words : List Bytes) (named : Named) → files_named words ≡ None → files_named words ≡ Some named → ⊥
 never_named words named e f = let h : None ≡ Some named = sym e ∙ f in cc
+
+numbers_once : (words : List Bytes) (n : Numbers) → numbers_named words ≡ None → numbers_named words ≡ Some n → ⊥
+numbers_once words n e f = let h : None ≡ Some n = sym e ∙ f in cc
+
+-- words aren't both commands
+one_command : (words : List Bytes) (named : Named) (n : Numbers) → files_named words ≡ Some named → numbers_named words ≡ Some n → ⊥
+one_command words named n run make = by_test (list_all may_name_a_file words) run make
+  where
+    by_word : (word : Bytes) (rest : List Bytes) (b : Bool) → bytes_eq (codes "run") word ≡ b → cond b (files_behind rest) None ≡ Some named → make_of (word ∷ rest) ≡ Some n → ⊥
+    by_word word rest true is e f =
+        let run_word : codes "run" ≡ word = (bytes_eq-Decides (codes "run") word).0 is in
+        let h : None ≡ Some n = subst (λ w. make_of (w ∷ rest) ≡ Some n) (sym run_word) f in
+        cc
+    by_word word rest false is e f = cc
+
+    by_words : (ws : List Bytes) → run_of ws ≡ Some named → make_of ws ≡ Some n → ⊥
+    by_words [] e f = cc
+    by_words (word ∷ rest) e f = by_word word rest (bytes_eq (codes "run") word) refl e f
+
+    by_test : (b : Bool) → cond b (run_of words) None ≡ Some named → cond b (make_of words) None ≡ Some n → ⊥
+    by_test true e f = by_words words e f
+    by_test false e f = cc
 
 -- ---- the files
 
@@ -69,7 +96,8 @@ read_answered words seen status text named read a f plain = by_answer a
     by_answer (done is d) =
         let same = same_read words seen d.named named (Ok d.inputs) read plain d.read f in
         inputs_read is d.inputs (sym same.reads) (subst (λ (n : Named). Legal d.inputs.schema n.clients d.inputs.scripts text) same.names d.legal)
-    by_answer (usage is u) = absurd (never_named words named u.no_command f.command)
+    by_answer (made is m) = absurd (one_command words named m.numbers f.command m.command)
+    by_answer (usage is u) = absurd (never_named words named u.no_run f.command)
     by_answer (broken_schema is b) = schema_broken is b.rule (sym (same_read words seen b.named named (Err (Schema (schema_error b.rule))) read plain b.read f).reads) b.says
     by_answer (outcome.broken_script is b) = script_broken is b.client b.rule (sym (same_read words seen b.named named (Err (Script b.client b.rule)) read plain b.read f).reads) b.says
     by_answer (cannot_read is r) =
@@ -105,18 +133,30 @@ answered_last names read status text inputs (script_broken is k w e says) f = ab
 
 -- ---- each cause
 
-no_command_usage : (words : List Bytes) (seen : Observed) (status : ℕ) (text : Bytes) → IsAnswer words seen status text → files_named words ≡ None → status ≡ 1
-no_command_usage words seen status text (done is d) none = absurd (never_named words d.named none d.read.command)
-no_command_usage words seen status text (usage is u) none = is
-no_command_usage words seen status text (broken_schema is b) none = absurd (never_named words b.named none b.read.command)
-no_command_usage words seen status text (outcome.broken_script is b) none = absurd (never_named words b.named none b.read.command)
-no_command_usage words seen status text (cannot_read is r) none = absurd (never_named words r.named none r.command)
-no_command_usage words seen status text (outcome.too_large is l) none = absurd (never_named words l.named none l.command)
+no_command_usage : (words : List Bytes) (seen : Observed) (status : ℕ) (text : Bytes) → IsAnswer words seen status text → files_named words ≡ None → numbers_named words ≡ None → status ≡ 1
+no_command_usage words seen status text (done is d) none no_make = absurd (never_named words d.named none d.read.command)
+no_command_usage words seen status text (made is m) none no_make = absurd (numbers_once words m.numbers no_make m.command)
+no_command_usage words seen status text (usage is u) none no_make = is
+no_command_usage words seen status text (broken_schema is b) none no_make = absurd (never_named words b.named none b.read.command)
+no_command_usage words seen status text (outcome.broken_script is b) none no_make = absurd (never_named words b.named none b.read.command)
+no_command_usage words seen status text (cannot_read is r) none no_make = absurd (never_named words r.named none r.command)
+no_command_usage words seen status text (outcome.too_large is l) none no_make = absurd (never_named words l.named none l.command)
+
+-- words that are a `make` are answered by it
+made_answered : (words : List Bytes) (seen : Observed) (status : ℕ) (text : Bytes) (n : Numbers) → IsAnswer words seen status text → numbers_named words ≡ Some n → status ≡ 0
+made_answered words seen status text n (done is d) make = is
+made_answered words seen status text n (made is m) make = is
+made_answered words seen status text n (usage is u) make = absurd (numbers_once words n u.no_make make)
+made_answered words seen status text n (broken_schema is b) make = absurd (one_command words b.named n b.read.command make)
+made_answered words seen status text n (outcome.broken_script is b) make = absurd (one_command words b.named n b.read.command make)
+made_answered words seen status text n (cannot_read is r) make = absurd (one_command words r.named n r.command make)
+made_answered words seen status text n (outcome.too_large is l) make = absurd (one_command words l.named n l.command make)
 
 absent_unread : (words : List Bytes) (seen : Observed) (status : ℕ) (text : Bytes) (named : Named) (name : Bytes) →
     IsAnswer words seen status text → Reaches words seen named name → IsAbsent seen.told name → status ≡ 5
 absent_unread words seen status text named name (done is d) r a = absurd (read_through words seen d.named named (Ok d.inputs) name d.read r (absent_not_whole seen.told name a))
-absent_unread words seen status text named name (usage is u) r a = absurd (never_named words named u.no_command r.command)
+absent_unread words seen status text named name (made is m) r a = absurd (one_command words named m.numbers r.command m.command)
+absent_unread words seen status text named name (usage is u) r a = absurd (never_named words named u.no_run r.command)
 absent_unread words seen status text named name (broken_schema is b) r a = absurd (read_through words seen b.named named _ name b.read r (absent_not_whole seen.told name a))
 absent_unread words seen status text named name (outcome.broken_script is b) r a = absurd (read_through words seen b.named named _ name b.read r (absent_not_whole seen.told name a))
 absent_unread words seen status text named name (cannot_read is c) r a = is
@@ -130,7 +170,8 @@ absent_unread words seen status text named name (outcome.too_large is l) r a =
 large_refused : (words : List Bytes) (seen : Observed) (status : ℕ) (text : Bytes) (named : Named) (name : Bytes) →
     IsAnswer words seen status text → Reaches words seen named name → IsTooLarge seen.told name → HasNoExcuse seen → status ≡ 7
 large_refused words seen status text named name (done is d) r l plain = absurd (read_through words seen d.named named _ name d.read r (large_not_whole seen.told name plain.tells l))
-large_refused words seen status text named name (usage is u) r l plain = absurd (never_named words named u.no_command r.command)
+large_refused words seen status text named name (made is m) r l plain = absurd (one_command words named m.numbers r.command m.command)
+large_refused words seen status text named name (usage is u) r l plain = absurd (never_named words named u.no_run r.command)
 large_refused words seen status text named name (broken_schema is b) r l plain = absurd (read_through words seen b.named named _ name b.read r (large_not_whole seen.told name plain.tells l))
 large_refused words seen status text named name (outcome.broken_script is b) r l plain = absurd (read_through words seen b.named named _ name b.read r (large_not_whole seen.told name plain.tells l))
 large_refused words seen status text named name (cannot_read is c) r l plain =
@@ -144,7 +185,8 @@ large_refused words seen status text named name (outcome.too_large is m) r l pla
 -- ---- all together
 
 pub called_for : (words : List Bytes) (seen : Observed) (status called : ℕ) (text : Bytes) → IsAnswer words seen status text → CallsFor words seen called → status ≡ called
-called_for words seen status called text a (no_command is none) = no_command_usage words seen status text a none ∙ sym is
+called_for words seen status called text a (no_command is none no_make) = no_command_usage words seen status text a none no_make ∙ sym is
+called_for words seen status called text a (cause.made is n make) = made_answered words seen status text n a make ∙ sym is
 called_for words seen status called text a (absent is named name r gone) = absent_unread words seen status text named name a r gone ∙ sym is
 called_for words seen status called text a (too_large is named name r l plain) = large_refused words seen status text named name a r l plain ∙ sym is
 called_for words seen status called text a (broken is named rule f plain) =

@@ -1,5 +1,5 @@
 -- The sessions of all clients of a database have made its whole history.
-use Rattle.std.proofs.Common.{arith, ◌≡◌, refl, ap, sym, ◌∙◌, subst, inl, inr, ℕ, zero, suc, ◌+◌, ◌-◌, ◌<◌, ◌≤◌, List, ◌∷◌, [], ◌++◌, length, map, take, drop, take_all, Option, Some, Result, Ok, Err, IfOk, IsPermutation, slice_get}
+use Rattle.std.proofs.Common.{arith, ◌≡◌, refl, ap, sym, ◌∙◌, subst, inl, inr, ℕ, zero, suc, ◌+◌, ◌-◌, ◌<◌, ◌≤◌, List, ◌∷◌, [], ◌++◌, length, map, take, drop, take_all, Option, Some, Result, Ok, Err, IfOk, OnOk, IsPermutation, slice_get}
 use Rattle.std.specs.Prelude.{◌==◌}
 use Rattle.std.specs.List.{enumerate_from}
 use Rattle.std.proofs.lemmas.List.{append-nil, length-append}
@@ -10,7 +10,7 @@ use native.Mathlib.Decide.{dec_le}
 use Rattle.mdb_datum.specs.Bytes.{Bytes}
 use Rattle.mdb_schema.specs.History.{Commit, History}
 use Rattle.mdb_schema.specs.Schema.{DbSchema}
-use Rattle.mem_txn.specs.Database.{AreAll, AreIn, AreNamed, AreOf, Caller, Callers, Database, HasPass, IsWhole, Opening, commits_by, new_callers, new_pass, new_passes}
+use Rattle.mem_txn.specs.Database.{AreAll, AreIn, AreNamed, AreOf, Caller, Callers, Database, HasPass, IsWhole, Opening, View, commits_by, new_callers, new_pass, new_passes, view_after}
 use Rattle.client_script.proofs.LongerHistory.{session_longer}
 use Rattle.client_script.specs.Legal.{Legal, all_printed, callers, printed}
 use Rattle.client_script.specs.Reply.{Reply, heading, lines_text, output_text}
@@ -19,6 +19,8 @@ use Rattle.client_script.specs.declared.line.Line.{Line}
 use Rattle.client_session.specs.Answered.{AreRising, commit_at}
 use Rattle.client_session.proofs.FromTheStart.{HasToldAll, told_from_new}
 use Rattle.client_session.specs.Progress.{Progress}
+use Rattle.memdb.specs.inner.LastState.{IsLast}
+use Rattle.memdb.specs.inner.MadeHistory.{TellOwn}
 use Rattle.memdb.specs.inner.Sessions.{AreLater, AreReady, HaveAnswered, begun, callers_back, headed}
 use Rattle.memdb.proofs.PlacesByCaller.{AreAmong, all_counted, by_callers, places, places_are}
 
@@ -150,6 +152,16 @@ same_commits H more low (m ∷ ms) r =
 abbrev pub caller_of : Commit → ℕ
 caller_of c = c.caller
 
+-- the commits that it tells are the client's own in the whole history
+own_told : (db : Database) (opening : Opening) (H : History) (k : ℕ) (t : Progress) (script : List Line) → commits_by t.caller.number H ≡ t.caller.own → IsPrefix t.caller.seen H → t.caller.number ≡ k
+    → (h : HasToldAll script (new_pass db opening k) t) → map (commit_at H) (printed h.replies) ≡ map Some (commits_by k H)
+own_told db opening H k t script own seen number h =
+    let p = t.caller in
+    let ms = printed h.replies in
+    let wider : map (commit_at H) ms ≡ map (commit_at p.seen) ms = subst (λ (G : History). map (commit_at G) ms ≡ map (commit_at p.seen) ms) seen.1 (same_commits p.seen seen.0 0 ms h.rising) in
+    let made : h.made ≡ commits_by k H = sym h.own ∙ sym own ∙ ap (λ (n : ℕ). commits_by n H) number in
+    wider ∙ h.told ∙ ap (λ (cs : List Commit). map Some cs) made
+
 -- they are the numbers of the client's commits in the whole history
 numbers_are : (db : Database) (opening : Opening) (H : History) (k : ℕ) (t : Progress) (script : List Line) → commits_by t.caller.number H ≡ t.caller.own → IsPrefix t.caller.seen H → t.caller.number ≡ k
     → (h : HasToldAll script (new_pass db opening k) t) → printed h.replies ≡ places (λ (c : Commit). caller_of c == k) 1 H
@@ -159,9 +171,7 @@ numbers_are db opening H k t script own seen number h =
     let long = length-append p.seen seen.0 in
     let all = ap length seen.1 in
     let rising : AreRising 0 ms (length H) = rising_more 0 (length p.seen) (length H) ms (omega (arith, long, all)) h.rising in
-    let wider : map (commit_at H) ms ≡ map (commit_at p.seen) ms = subst (λ (G : History). map (commit_at G) ms ≡ map (commit_at p.seen) ms) seen.1 (same_commits p.seen seen.0 0 ms h.rising) in
-    let made : h.made ≡ commits_by k H = sym h.own ∙ sym own ∙ ap (λ (n : ℕ). commits_by n H) number in
-    places_are (λ (c : Commit). caller_of c == k) H ms rising (wider ∙ h.told ∙ ap (λ (cs : List Commit). map Some cs) made)
+    places_are (λ (c : Commit). caller_of c == k) H ms rising (own_told db opening H k t script own seen number h)
 
 -- ---- the whole output
 
@@ -171,6 +181,7 @@ pub record Told (schema : DbSchema) (H : History) (k : ℕ) (scripts : List (Lis
   pub sessions : Sessions schema H k scripts replies
   pub written : (names : List Bytes) → headed k names ts ≡ output_text k names scripts replies
   pub numbers : all_printed k replies ≡ by_callers caller_of k (length scripts) 1 H
+  pub own : TellOwn H k replies
 
 no_names : (k : ℕ) (names : List Bytes) → headed k names [] ≡ output_text k names [] []
 no_names k [] = refl
@@ -178,7 +189,7 @@ no_names k (w ∷ ws) = refl
 
 tell : (db : Database) (opening : Opening) (H : History) (k : ℕ) (scripts : List (List Line)) (ts : List Progress) → HaveAnswered (begun_from db opening k scripts) ts → AreLater (begun_from db opening k scripts) ts → HaveMade H ts
     → Told db.schema H k scripts ts
-tell db opening H k [] [] answered later made = record { replies = []; sessions = tt; written = no_names k; numbers = refl }
+tell db opening H k [] [] answered later made = record { replies = []; sessions = tt; written = no_names k; numbers = refl; own = tt }
 tell db opening H k [] (t ∷ ts) answered later made = absurd answered
 tell db opening H k (s ∷ ss) [] answered later made = absurd answered
 tell db opening H k (s ∷ ss) (t ∷ ts) answered later made =
@@ -190,6 +201,7 @@ tell db opening H k (s ∷ ss) (t ∷ ts) answered later made =
       sessions = (subst (λ (G : History). Session db.schema G k s h.replies) made.1.1 (session_longer db.schema t.caller.seen made.1.0 k s h.replies h.session), rest.sessions);
       written = both h.replies rest.replies h.written rest.written;
       numbers = λ i. let r : List (ℕ × ℕ) = map (λ m. (m, k)) (numbers i) ++ rest.numbers i in r;
+      own = (own_told db opening H k t s made.0 made.1 later.0.number h, rest.own);
     }
   where
     both : (rs : List Reply) (rss : List (List Reply)) → t.text ≡ lines_text s rs → ((names : List Bytes) → headed (k + 1) names ts ≡ output_text (k + 1) names ss rss) → (names : List Bytes) → headed k names (t ∷ ts) ≡ output_text k names (s ∷ ss) (rs ∷ rss)
@@ -265,6 +277,24 @@ module _ (db : Database) (opening : Opening) (scripts : List (List Line)) (passe
               numbers = subst (IsPermutation (enumerate_from 1 (callers H))) (sym told.numbers) (all_counted caller_of 1 (length scripts) 1 H within);
               sessions = told.sessions;
             }
+
+        last : (H : History) (view : View) → db.callers ≡ length scripts → IsWhole db given.passes H → HaveAnswered items ts → view ≡ view_after db.schema H → IsLast db.schema scripts view
+        last H view callers_are whole answered is =
+            let own : AreIn H (callers_back ts) = subst (AreIn H) given_are whole.own in
+            let told = tell db opening H 1 scripts ts (subst (λ (ss : List Progress). HaveAnswered ss ts) items_are answered) later_from (have_made H ts own) in
+            record {
+              history = H;
+              named = subst (λ (n : ℕ). AreNamed n H) callers_are whole.named;
+              replies = told.replies;
+              sessions = told.sessions;
+              own = told.own;
+              view = is;
+            }
+
+        pub all_last : {A E : Type 0} (r : Result A E) (view : View) (H : History) → db.callers ≡ length scripts → IsWhole db given.passes H → OnOk r (HaveAnswered items ts) → view ≡ view_after db.schema H
+            → OnOk r (IsLast db.schema scripts view)
+        all_last (Ok a) view H callers_are whole answered is = last H view callers_are whole answered is
+        all_last (Err e) view H callers_are whole answered is = tt
 
         pub all_legal : {A E : Type 0} (text_of : A → Bytes) (r : Result A E) (names : List Bytes) (H : History) → length names ≡ length scripts → db.callers ≡ length scripts → IsWhole db given.passes H
             → IfOk r (λ _. HaveAnswered items ts) → IfOk r (λ out. text_of out ≡ headed 1 names ts) → IfOk r (λ out. Legal db.schema names scripts (text_of out))

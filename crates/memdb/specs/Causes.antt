@@ -4,7 +4,8 @@ use Rattle.std.specs.Prelude.{◌≡◌, ◌⊎◌, ℕ, List, [], ◌∷◌, So
 use Rattle.client_script.specs.declared.script_error.ScriptError.{ScriptError}
 use Rattle.mdb_datum.specs.Bytes.{Bytes}
 use Rattle.mdb_schema.specs.Broken.{Broken}
-use Rattle.memdb.specs.Words.{Named, files_named, in_order}
+use Rattle.memdb.specs.Made.{Numbers}
+use Rattle.memdb.specs.Words.{Named, files_named, in_order, numbers_named}
 use Rattle.run_io.specs.Causes.{HasNoExcuse}
 use Rattle.run_io.specs.Inputs.{inputs_in, schema_error}
 use Rattle.run_io.specs.Observed.{Observed, AreWhole, IsReached, IsTooLarge, IsAbsent}
@@ -32,7 +33,8 @@ pub record Reaches (words : List Bytes) (seen : Observed) (named : Named) (name 
 -- what calls for a status
 pub data CallsFor (words : List Bytes) (seen : Observed) (status : ℕ) : Type 0 where
   -- the words are no command
-  no_command : status ≡ 1 → files_named words ≡ None → CallsFor words seen status
+  no_command : status ≡ 1 → files_named words ≡ None → numbers_named words ≡ None
+      → CallsFor words seen status
   -- a file isn't there
   absent : status ≡ 5 → (named : Named) (name : Bytes) → Reaches words seen named name
       → IsAbsent seen.told name → CallsFor words seen status
@@ -46,6 +48,9 @@ pub data CallsFor (words : List Bytes) (seen : Observed) (status : ℕ) : Type 0
   -- the schema is lawful, and a script breaks a rule
   broken_script : status ≡ 3 → (named : Named) (client : ℕ) (rule : ScriptError)
       → Finds words seen named (Err (Script client rule)) → HasNoExcuse seen
+      → CallsFor words seen status
+  -- clients are made from the numbers that the words are
+  made : status ≡ 0 → (numbers : Numbers) → numbers_named words ≡ Some numbers
       → CallsFor words seen status
   -- the schema and the scripts are lawful
   lawful : status ≡ 0 → (named : Named) (inputs : Inputs)

@@ -1,4 +1,5 @@
 pub mod Causes
+pub mod Made
 pub mod Outcome
 pub mod Words
 pub mod inner

@@ -1,5 +1,5 @@
 -- What a run may answer, and what it then writes: a text for each status, with its cause.
-use Rattle.std.specs.Prelude.{◌≡◌, ◌<◌, ℕ, List, [], ◌∷◌, ◌++◌, length, take, Option, Some, None, Result, Ok, Err, codes, decimal}
+use Rattle.std.specs.Prelude.{◌≡◌, ◌⊎◌, ◌<◌, ℕ, List, [], ◌∷◌, ◌++◌, length, take, Option, Some, None, Result, Ok, Err, codes, decimal}
 use Rattle.client_script.specs.Legal.{Legal}
 use Rattle.client_script.specs.Refusal.{error_word, error_line}
 use Rattle.client_script.specs.declared.script_error.ScriptError.{ScriptError}
@@ -9,7 +9,8 @@ use Rattle.mdb_datum.specs.Written.{compact}
 use Rattle.mdb_ports.specs.Sink.{Grows}
 use Rattle.mdb_schema.specs.Broken.{Broken}
 use Rattle.mdb_schema.specs.RuleWord.{rule_word}
-use Rattle.memdb.specs.Words.{Named, files_named, in_order, usage_text}
+use Rattle.memdb.specs.Made.{Numbers, summary}
+use Rattle.memdb.specs.Words.{Named, files_named, in_order, numbers_named, usage_text}
 use Rattle.run_io.specs.Inputs.{schema_error}
 use Rattle.run_io.specs.Loads as load
 use Rattle.run_io.specs.Loads.{IsRead}
@@ -54,16 +55,24 @@ pub record HasRead (words : List Bytes) (seen : Observed) (named : Named)
   pub command : files_named words ≡ Some named
   pub reads : IsRead seen (in_order named) read
 
--- status 0: the text is a legal output for the inputs, where the clients' files have these names
+-- status 0 of `run`: the text is a legal output for the inputs, where the clients' files have these
+-- names
 pub record Done (words : List Bytes) (seen : Observed) (text : Bytes) : Type 0 where
   pub named : Named
   pub inputs : Inputs
   pub read : HasRead words seen named (Ok inputs)
   pub legal : Legal inputs.schema named.clients inputs.scripts text
 
+-- status 0 of `make`: the text is the summary of what clients leave that are made from the numbers
+pub record Made (words : List Bytes) (text : Bytes) : Type 0 where
+  pub numbers : Numbers
+  pub command : numbers_named words ≡ Some numbers
+  pub says : text ≡ summary numbers
+
 -- status 1: the words are no command, and no call of the files failed
 pub record Usage (words : List Bytes) (seen : Observed) (text : Bytes) : Type 0 where
-  pub no_command : files_named words ≡ None
+  pub no_run : files_named words ≡ None
+  pub no_make : numbers_named words ≡ None
   pub no_fault : seen.now ≡ seen.before
   pub says : text ≡ usage_text
 
@@ -103,6 +112,7 @@ pub record TooLarge (words : List Bytes) (seen : Observed) (text : Bytes) : Type
 -- a status, and the text that is written under it
 pub data IsAnswer (words : List Bytes) (seen : Observed) (status : ℕ) (text : Bytes) : Type 0 where
   done : status ≡ 0 → Done words seen text → IsAnswer words seen status text
+  made : status ≡ 0 → Made words text → IsAnswer words seen status text
   usage : status ≡ 1 → Usage words seen text → IsAnswer words seen status text
   broken_schema : status ≡ 2 → BrokenSchema words seen text → IsAnswer words seen status text
   broken_script : status ≡ 3 → BrokenScript words seen text → IsAnswer words seen status text

@@ -1,7 +1,10 @@
--- The words of the command line: `run SCHEMA CLIENT..`.
-use Rattle.std.specs.Prelude.{◌&&◌, ◌==◌, List, [], ◌∷◌, ◌++◌, length, nat_lt, Bool, false, not, if◌then◌else◌, Option, Some, None, codes}
+-- The words of the command line: `run SCHEMA CLIENT..` and `make NUMBER CLIENTS COUNT`.
+use Rattle.std.specs.Prelude.{◌&&◌, ◌==◌, ℕ, List, [], ◌∷◌, ◌++◌, length, nat_lt, nat_le, Bool, false, not, if◌then◌else◌, Option, Some, None, codes}
+use Rattle.std.specs.Char.{is_ascii_digit}
 use Rattle.std.specs.List.{list_any, list_all}
 use Rattle.std.specs.Str.{bytes_eq}
+use Rattle.std.specs.Str.Parse.{digits_value}
+use Rattle.memdb.specs.Made.{Numbers}
 use Rattle.mdb_datum.specs.Bytes.{Bytes}
 
 -- a file's name isn't empty, doesn't begin with `-` and holds no line feed
@@ -34,6 +37,46 @@ run_of (word ∷ rest) = if bytes_eq (codes "run") word then files_behind rest e
 -- the same where each word may name a file
 abbrev pub files_named : List Bytes → Option Named
 files_named words = if list_all may_name_a_file words then run_of words else None
+
+-- ---- `make NUMBER CLIENTS COUNT`
+
+-- 1 to 5 decimal digits, and the number that they write
+abbrev pub is_number : Bytes → Bool
+is_number word =
+    nat_lt 0 (length word) && nat_le (length word) 5 && list_all is_ascii_digit word
+
+abbrev pub number_in : Bytes → Option ℕ
+number_in word = if is_number word then Some (digits_value 10 word) else None
+
+-- the test of `AreInRange`, and numbers that pass it
+abbrev pub are_in_range : Numbers → Bool
+are_in_range n = nat_le n.number 65536
+    && ((nat_le 1 n.clients && nat_le n.clients 64) && (nat_le 1 n.count && nat_le n.count 1000))
+
+abbrev pub in_range : Numbers → Option Numbers
+in_range n = if are_in_range n then Some n else None
+
+-- three numbers, where each is there and in range
+abbrev pub numbers_of : Option ℕ → Option ℕ → Option ℕ → Option Numbers
+numbers_of (Some number) (Some clients) (Some count) =
+    in_range (record { number = number; clients = clients; count = count })
+numbers_of number clients count = None
+
+abbrev pub numbers_behind : List Bytes → Option Numbers
+numbers_behind (number ∷ clients ∷ count ∷ []) =
+    numbers_of (number_in number) (number_in clients) (number_in count)
+numbers_behind words = None
+
+-- `make NUMBER CLIENTS COUNT`
+abbrev pub make_of : List Bytes → Option Numbers
+make_of [] = None
+make_of (word ∷ rest) = if bytes_eq (codes "make") word then numbers_behind rest else None
+
+-- the same where each word may name a file
+abbrev pub numbers_named : List Bytes → Option Numbers
+numbers_named words = if list_all may_name_a_file words then make_of words else None
+
+-- ---- what is told of other words
 
 -- two lines
 abbrev pub usage_text : Bytes

@@ -1,6 +1,11 @@
 pub mod CommandLine
-pub mod FilesOf
-pub mod NamedOf
+pub mod CommandOf
+pub mod LastState
+pub mod MadeHistory
+pub mod MadeInputs
+pub mod MadeItem
+pub mod MadeLeft
+pub mod MadeText
 pub mod ReadAnswer
 pub mod Sessions
 pub mod ToldOf

@@ -9,6 +9,7 @@
 #![tactic(auto)]
 
 mod answers;
+mod made;
 mod outcome;
 mod output;
 mod run;

@@ -1,16 +1,18 @@
 //! From the words and the files to what a run writes.
-ghost use Rattle.std.specs.Prelude.{◌≡◌, ◌≤◌, None, Some, IfOk, List, length, option_map};
+ghost use Rattle.std.specs.Prelude.{◌≡◌, ◌≤◌, None, Some, IfOk, List, length};
 ghost use Rattle.client_script.specs.Legal.{Legal};
 ghost use Rattle.mdb_datum.specs.Bytes.{Bytes};
+ghost use Rattle.memdb.specs.Made.{summary};
 ghost use Rattle.memdb.specs.Outcome.{IsAnswer};
 ghost use Rattle.memdb.specs.Words.{files_named, in_order};
-ghost use Rattle.memdb.specs.inner.NamedOf.{named_of};
+ghost use Rattle.memdb.specs.inner.CommandOf.{IsCommandOf, named_of};
 ghost use Rattle.memdb.specs.inner.ToldOf.{NamesFile, Tells};
 ghost use Rattle.run_io.specs.Observed.{observed, Stays};
 
 use crate::answers::answers;
+use crate::made::made_summary;
 use crate::output::{Output, broken_schema, broken_script, cannot_read, too_large, usage};
-use crate::words::Named;
+use crate::words::{Command, Named, Numbers};
 use mdb_datum::Text;
 use mdb_ports::{Files, Gate};
 use mdb_schema::SchemaError;
@@ -36,15 +38,15 @@ pub fn outcome<R: Threads + Wait + Sync, F: Files, G: Gate + Sync>(
         IfOk result (λ output. IsAnswer words.now seen output.status output.text.items) }
     ensures untouched { files_named words.now ≡ None → files.new ≡ files.old }
 {
-    let named = Named::of(alloc, words)?;
-    answered(rt, alloc, named, files, gate)
+    let command = Command::of(alloc, words)?;
+    answered(rt, alloc, command, files, gate)
 }
 
 /// The output for a command, or for words that are none.
 fn answered<R: Threads + Wait + Sync, F: Files, G: Gate + Sync>(
     rt: &R,
     alloc: Global,
-    named: Option<Named>,
+    command: Option<Command>,
     files: &mut F,
     gate: &G,
 ) -> Result<Output, AllocError>
@@ -54,14 +56,30 @@ fn answered<R: Threads + Wait + Sync, F: Files, G: Gate + Sync>(
     ensures answer { let seen = observed (F.told files.old) (F.reliable files.old)
         (F.faults files.old) (F.faults files.new) in
         IfOk result (λ output. (words : List Bytes)
-        → files_named words ≡ option_map named_of named
+        → IsCommandOf words command
         → IsAnswer words seen output.status output.text.items) }
-    ensures untouched { named ≡ None → files.new ≡ files.old }
+    ensures untouched { (words : List Bytes) → IsCommandOf words command
+        → files_named words ≡ None → files.new ≡ files.old }
 {
-    match named {
-        Some(named) => loaded(rt, alloc, &named, files, gate),
+    match command {
+        Some(Command::Run(named)) => loaded(rt, alloc, &named, files, gate),
+        Some(Command::Make(numbers)) => summed_up(rt, alloc, gate, &numbers),
         None => usage(alloc),
     }
+}
+
+/// The output of clients that are made from three numbers.
+fn summed_up<R: Threads + Wait + Sync, G: Gate + Sync>(
+    rt: &R,
+    alloc: Global,
+    gate: &G,
+    numbers: &Numbers,
+) -> Result<Output, AllocError>
+    ensures { IfOk result (λ output. (output.status ≡ 0)
+        × (output.text.items ≡ summary numbers.now)) }
+{
+    let text = made_summary(rt, alloc, gate, numbers)?;
+    Ok(Output { status: 0, text })
 }
 
 /// The output for the files that a command names.

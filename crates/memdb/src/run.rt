@@ -1,8 +1,8 @@
 //! The top call.
-ghost use Rattle.std.specs.Prelude.{◌≡◌, ◌≢◌, ◌≤◌, ◌∷◌, [], ℕ, None};
+ghost use Rattle.std.specs.Prelude.{◌≡◌, ◌≢◌, ◌≤◌, ◌⊎◌, ◌∷◌, [], ℕ, None};
 ghost use Rattle.mdb_ports.specs.Faults.{Rose};
 ghost use Rattle.memdb.specs.Causes.{CallsFor, IsOneOf};
-ghost use Rattle.memdb.specs.Outcome.{Wrote, Done, Usage, BrokenSchema, BrokenScript, CannotRead, TooLarge, CutShort};
+ghost use Rattle.memdb.specs.Outcome.{Wrote, Done, Made, Usage, BrokenSchema, BrokenScript, CannotRead, TooLarge, CutShort};
 ghost use Rattle.memdb.specs.Words.{files_named};
 ghost use Rattle.run_io.specs.Observed.{observed, Stays};
 
@@ -17,7 +17,7 @@ use std::thread::Threads;
 /// Runs the command that the words are, over these files, and writes its text to the sink. It
 /// answers the status:
 ///
-/// - 0: the answers were written, which are answers in one history;
+/// - 0: the answers were written, which are answers in one history; or, of `make`, the summary;
 /// - 1: the words are no command, and the usage was written;
 /// - 2: the schema breaks a rule, and `schema RULE` was written, with the names of the table and
 ///   the index where the rule has them;
@@ -28,8 +28,8 @@ use std::thread::Threads;
 /// - 6: the sink failed, and the beginning of a text was written;
 /// - 7: a file has more than 1,048,576 bytes, and `too large NAME` was written.
 ///
-/// Each client is run on a thread of its own. The gate is passed at each line of its script. The call
-/// returns once all clients are done: never, where one waits for what nobody does.
+/// Each client is run on a thread of its own. The gate is passed at each line of its script. The
+/// call returns once all clients are done: never, where one waits for what nobody does.
 pub fn run<R: Threads + Wait + Sync, F: Files, S: Sink, G: Gate + Sync>(
     rt: &R,
     alloc: Global,
@@ -41,7 +41,8 @@ pub fn run<R: Threads + Wait + Sync, F: Files, S: Sink, G: Gate + Sync>(
     // What was written, and why.
     ensures answered { let seen = observed (F.told files.old) (F.reliable files.old)
         (F.faults files.old) (F.faults files.new) in
-        result ≡ 0 → Wrote (S.told out.old) (S.told out.new) (Done words.now seen) }
+        result ≡ 0 → Wrote (S.told out.old) (S.told out.new)
+        (λ text. Done words.now seen text ⊎ Made words.now text) }
     ensures usage { let seen = observed (F.told files.old) (F.reliable files.old)
         (F.faults files.old) (F.faults files.new) in
         result ≡ 1 → Wrote (S.told out.old) (S.told out.new) (Usage words.now seen) }

@@ -10,6 +10,7 @@ use std::thread::Threads;
 mod catalogue;
 mod clients;
 mod held;
+mod made;
 mod sessions;
 mod watches;
 

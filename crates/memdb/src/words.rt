@@ -7,11 +7,38 @@ use mdb_datum::Text;
 use run_io::Texts;
 use std::alloc::{AllocError, Global};
 
-mod command;
+mod numbers;
+mod parsing;
 #[cfg(test)]
 mod tests;
 
-use self::command::read_command;
+pub use self::numbers::Numbers;
+use self::parsing::read_command;
+
+/// What the words ask for.
+#[derive(Drop)]
+pub enum Command {
+    /// `run SCHEMA CLIENT..`: to run the clients' scripts.
+    Run(Named),
+    /// `make NUMBER CLIENTS COUNT`: to make inputs.
+    Make(Numbers),
+}
+
+impl Command {
+    ghost use Rattle.memdb.specs.inner.CommandOf.{IsCommandOf};
+
+    /// The command that words are: `None` where they are neither `run SCHEMA CLIENT..` nor `make
+    /// NUMBER CLIENTS COUNT`. `clap` reads them, after the test that each word may name a file: it
+    /// isn't empty, doesn't begin with `-` and holds no line feed. It takes memory for the names.
+    pub fn of(alloc: Global, words: &[Text]) -> Result<Option<Command>, AllocError>
+        ensures { IfOk result (λ command. IsCommandOf words.now command) }
+    {
+        if !may_name_files(words) {
+            return Ok(None);
+        }
+        read_command(alloc, words)
+    }
+}
 
 /// The files that a command names: its schema, and the scripts of its 1 to 64 clients in order.
 #[derive(Drop)]
@@ -23,26 +50,8 @@ pub struct Named {
 }
 
 impl Named {
-    ghost use Rattle.memdb.specs.Words.{files_named, in_order};
-    ghost use Rattle.memdb.specs.inner.NamedOf.{named_of};
-
-    /// The files that words name: `None` where they aren't `run SCHEMA CLIENT..`. `clap` reads
-    /// them, after the test that each word may name a file: it isn't empty, doesn't begin with `-`
-    /// and holds no line feed. It takes memory for the names.
-    pub fn of(alloc: Global, words: &[Text]) -> Result<Option<Named>, AllocError>
-        ensures { IfOk result (λ named. option_map named_of named ≡ files_named words.now) }
-    {
-        if !may_name_files(words) {
-            return Ok(None);
-        }
-        match read_command(alloc, words)? {
-            Some(files) => Ok(Some(Named {
-                schema: files.schema,
-                clients: files.clients,
-            })),
-            None => Ok(None),
-        }
-    }
+    ghost use Rattle.memdb.specs.Words.{in_order};
+    ghost use Rattle.memdb.specs.inner.CommandOf.{named_of};
 
     /// The names of the clients' files, in order.
     pub fn names(&self) -> &[Text]

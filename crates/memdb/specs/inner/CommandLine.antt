@@ -1,5 +1,6 @@
 -- The command line as `clap` is told it, and what it gives of it.
-use Rattle.std.specs.Prelude.{◌≡◌, false, true, List, [], ◌∷◌, Option, Some, None, codes, option_map, option_and_then}
+use Rattle.std.specs.Prelude.{◌≡◌, ◌≤◌, ℕ, false, true, List, [], ◌∷◌, length, if◌then◌else◌, Option, Some, None, codes, option_map, option_and_then, ⊤}
+use Rattle.std.specs.Str.{bytes_eq}
 use Rattle.clap.specs.Words.{App, Row, Rule, Text, all_of, first_of, new_app, new_rule, subcommand_rows_of, with_rule, with_subcommand}
 use Rattle.clap.specs.Simple.{on_top}
 use Rattle.clap.specs.declared.builder.command.Command.{Command}
@@ -7,16 +8,24 @@ use Rattle.clap.specs.declared.builder.command.Command.TheViews.{out-Command}
 use Rattle.clap.specs.declared.builder.value_parser.Reading.TheVariants as reading
 use Rattle.clap.specs.declared.parser.matches.ValueSource.TheVariants.{CommandLine}
 use Rattle.clap.specs.declared.parser.matches.ArgMatches.{ArgMatches}
-use Rattle.memdb.specs.Words.{Named, run_of}
+use Rattle.memdb.specs.Made.{Numbers}
+use Rattle.memdb.specs.Words.{Named, make_of, number_in, numbers_of, run_of}
 
-abbrev pub schema_rule : Rule
-schema_rule = record (new_rule (codes "schema")) { required = true }
+-- ---- what `clap` is told
+
+-- a word that has to be there
+abbrev pub word_rule : Text → Rule
+word_rule id = record (new_rule id) { required = true }
 
 abbrev pub clients_rule : Rule
-clients_rule = record (new_rule (codes "clients")) { required = true; range = Some (record { start_inclusive = 1; end_inclusive = 64 }) }
+clients_rule = record (word_rule (codes "clients")) { range = Some (record { start_inclusive = 1; end_inclusive = 64 }) }
 
 abbrev pub run_app : App
-run_app = with_rule (with_rule (new_app (codes "run")) schema_rule) clients_rule
+run_app = with_rule (with_rule (new_app (codes "run")) (word_rule (codes "schema"))) clients_rule
+
+abbrev pub make_app : App
+make_app =
+    with_rule (with_rule (with_rule (new_app (codes "make")) (word_rule (codes "number"))) (word_rule (codes "clients"))) (word_rule (codes "count"))
 
 -- no word of a command goes to its subcommands as well
 abbrev pub IsLocal : Command → Type 0
@@ -26,25 +35,67 @@ abbrev pub bare : App
 bare = on_top (λ s. record s { no_binary_name = true; disable_help_flag = true; disable_help_subcommand = true; subcommand_required = true }) (new_app (codes "memdb"))
 
 abbrev pub program : App
-program = with_subcommand bare run_app.top
+program = with_subcommand (with_subcommand bare run_app.top) make_app.top
+
+-- ---- what it gives
 
 abbrev pub row : Text → List Text → Row
 row id values = record { id = id; values = values; count = None; source = Some CommandLine; reading = reading.AsWritten }
 
-abbrev pub rows : Text → List Text → List Row
-rows s cs = row (codes "schema") (s ∷ []) ∷ row (codes "clients") cs ∷ []
+abbrev pub run_rows : Text → List Text → List Row
+run_rows s cs = row (codes "schema") (s ∷ []) ∷ row (codes "clients") cs ∷ []
+
+abbrev pub make_rows : Text → Text → Text → List Row
+make_rows a b c =
+    row (codes "number") (a ∷ []) ∷ row (codes "clients") (b ∷ []) ∷ row (codes "count") (c ∷ []) ∷ []
+
+-- ---- what is read of that
 
 -- the files of a command
 abbrev pub files : Text → List Text → Named
 files s cs = record { schema = s; clients = cs }
 
--- what is read of the rows of a subcommand
 abbrev pub files_in : List Row → Option Named
 files_in rs = option_and_then (λ s. option_map (files s) (all_of (codes "clients") rs)) (first_of (codes "schema") rs)
 
-abbrev pub files_of_matches : ArgMatches → Option Named
-files_of_matches m = option_and_then files_in (option_map (λ p. p.1) (subcommand_rows_of m))
+abbrev pub number_at : Text → List Row → Option ℕ
+number_at id rs = option_and_then number_in (first_of id rs)
+
+abbrev pub numbers_in : List Row → Option Numbers
+numbers_in rs = numbers_of (number_at (codes "number") rs) (number_at (codes "clients") rs) (number_at (codes "count") rs)
+
+-- ---- what is asked for
+
+-- one of the two commands
+pub data Asked : Type 0 where
+  to_run : Named → Asked
+  to_make : Numbers → Asked
+
+-- by the name of a subcommand and its rows
+abbrev pub asked_in : Text → List Row → Option Asked
+asked_in name rs = if bytes_eq name (codes "run") then option_map to_run (files_in rs) else (
+    if bytes_eq name (codes "make") then option_map to_make (numbers_in rs) else None)
+
+abbrev pub asked_at : Option (Text × List Row) → Option Asked
+asked_at = option_and_then (λ p. asked_in p.0 p.1)
+
+abbrev pub asked_of_matches : ArgMatches → Option Asked
+asked_of_matches m = asked_at (subcommand_rows_of m)
+
+-- by words that may each name a file
+abbrev pub either : Option Named → Option Numbers → Option Asked
+either (Some named) numbers = Some (to_run named)
+either None numbers = option_map to_make numbers
+
+abbrev pub asked_by : List Text → Option Asked
+asked_by words = either (run_of words) (make_of words)
 
 -- what a parse gave is what the words say
 abbrev pub AreRead : List Text → Option ArgMatches → Type 0
-AreRead ws found = option_and_then files_of_matches found ≡ run_of ws
+AreRead words found = option_and_then asked_of_matches found ≡ asked_by words
+
+-- 1 to 64 clients, where any are run
+abbrev pub HasClients : Option Asked → Type 0
+HasClients (Some (to_run named)) = (1 ≤ length named.clients) × (length named.clients ≤ 64)
+HasClients (Some (to_make numbers)) = ⊤
+HasClients None = ⊤

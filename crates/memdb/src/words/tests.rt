@@ -3,10 +3,8 @@ use super::*;
 use std::alloc::{AllocError, Global};
 use std::test::Fail;
 
-/// The words, parted by bars, and whether they are a command.
-type Case = (&'static str, bool);
-
-static CASES: [Case; 19] = [
+/// The words, parted by bars, and whether they are `run`.
+const RUNS: [(&str, bool); 19] = [
     ("run|s.json|c1", true),
     ("run|c1|c1", true),
     ("run|a-b|c 1", true),
@@ -28,6 +26,28 @@ static CASES: [Case; 19] = [
     ("Run|s.json|c1", false),
 ];
 
+/// The words, parted by bars, and the numbers where they are `make`.
+const MAKES: [(&str, Option<(u32, u32, u32)>); 18] = [
+    ("make|1|2|3", Some((1, 2, 3))),
+    ("make|00001|64|1000", Some((1, 64, 1000))),
+    ("make|65536|1|1", Some((65536, 1, 1))),
+    ("make|0|1|00001", Some((0, 1, 1))),
+    ("make|1|65|3", None),
+    ("make|1|0|3", None),
+    ("make|1|2|0", None),
+    ("make|1|2|1001", None),
+    ("make|65537|1|1", None),
+    ("make|1|2", None),
+    ("make|1|2|3|4", None),
+    ("make|+1|2|3", None),
+    ("make|1|2|000003", None),
+    ("make||2|3", None),
+    ("make|1|-2|3", None),
+    ("make|x|2|3", None),
+    ("make|1 |2|3", None),
+    ("Make|1|2|3", None),
+];
+
 fn push_word(alloc: Global, words: &mut Vec<Text>, word: &str) -> Result<(), AllocError> {
     words.push(Text::of(alloc, word)?)?;
     Ok(())
@@ -42,26 +62,37 @@ fn words_in(alloc: Global, text: &str) -> Result<Vec<Text>, AllocError> {
     Ok(words)
 }
 
-fn is_command(alloc: Global, text: &str) -> Result<bool, AllocError> {
-    let words = words_in(alloc, text)?;
-    Ok(Named::of(alloc, &words)?.is_some())
+/// The command that stands in a text.
+fn command_in(alloc: Global, text: &str) -> Result<Option<Command>, AllocError> {
+    Command::of(alloc, &words_in(alloc, text)?)
 }
 
-/// How many words are what they should be before the first that aren't.
-fn count_held(alloc: Global, cases: &[Case]) -> Result<usize, AllocError> {
-    for at in 0..cases.len() {
-        let (text, want) = cases[at];
-        if is_command(alloc, text)? != want {
-            return Ok(at);
-        }
-    }
-    Ok(cases.len())
+fn is_run(alloc: Global, text: &str) -> Result<bool, AllocError> {
+    Ok(matches!(command_in(alloc, text)?, Some(Command::Run(_))))
 }
 
 #[test]
 fn run_names_a_schema_and_clients(rt: HostRuntime) -> Result<(), Fail> {
-    let count = count_held(rt.alloc(), &CASES)?;
-    assert!(rt; count == CASES.len(), "after {count}");
+    for (text, want) in &RUNS {
+        assert!(rt; is_run(rt.alloc(), text)? == *want, "{text}");
+    }
+    Ok(())
+}
+
+/// The numbers that a text asks to make inputs of.
+fn numbers_in(alloc: Global, text: &str) -> Result<Option<(u32, u32, u32)>, AllocError> {
+    match command_in(alloc, text)? {
+        Some(Command::Make(made)) => Ok(Some((made.number(), made.clients(), made.count()))),
+        Some(Command::Run(_named)) => Ok(None),
+        None => Ok(None),
+    }
+}
+
+#[test]
+fn make_has_three_numbers_in_range(rt: HostRuntime) -> Result<(), Fail> {
+    for (text, want) in &MAKES {
+        assert!(rt; numbers_in(rt.alloc(), text)? == *want, "{text}");
+    }
     Ok(())
 }
 
@@ -76,7 +107,7 @@ fn run_of(alloc: Global, clients: usize) -> Result<String, AllocError> {
 
 /// Whether they are a command.
 fn may_be_so_many(alloc: Global, clients: usize) -> Result<bool, AllocError> {
-    is_command(alloc, &run_of(alloc, clients)?)
+    is_run(alloc, &run_of(alloc, clients)?)
 }
 
 #[test]

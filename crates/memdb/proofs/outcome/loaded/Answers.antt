@@ -7,7 +7,7 @@ use Rattle.mdb_datum.specs.Bytes.{Bytes}
 use Rattle.memdb.specs.Outcome.{IsAnswer}
 use Rattle.memdb.specs.Words.{files_named, in_order}
 use Rattle.memdb.specs.declared.output.Output.{Output}
-use Rattle.memdb.specs.inner.NamedOf.{named_of}
+use Rattle.memdb.specs.inner.CommandOf.{named_of}
 use Rattle.memdb.specs.inner.ToldOf.{Tells}
 use Rattle.run_io.specs.Loads.{Loads}
 use Rattle.run_io.specs.Observed.{observed}
