@@ -55,8 +55,8 @@ impl TableDef {
         })
     }
 
-    /// A second owner of the same definition. It takes no memory. `AllocError` comes where the kit's
-    /// `Arc` refuses one more owner.
+    /// A second owner of the same definition. It takes no memory. `AllocError` comes where `Arc`
+    /// refuses one more owner.
     pub fn share(&self) -> Result<TableDef, AllocError>
         ensures { IfOk result (λ t. t ≡ self.now) }
     {
