@@ -1,14 +1,12 @@
 //! The open transaction of a session.
-ghost use Rattle.std.specs.Prelude.{◌≡◌, IfOk, MatchResult, OnErr, Ok, Err, option_map};
-ghost use Rattle.mdb_schema.specs.Answer.{Asked};
-ghost use Rattle.mdb_schema.specs.Refusals.{AnswersAsk};
+ghost use Rattle.std.specs.Prelude.{◌≡◌, IfOk, OnErr, Ok, Err, option_map};
 ghost use Rattle.mem_txn.specs.Checked.{IdsTellCells};
 ghost use Rattle.mem_txn.specs.Database.{IsOf};
 ghost use Rattle.client_session.specs.Answered.{IsLater};
 ghost use Rattle.client_script.specs.declared.command.Command.TheVariants as command;
 ghost use Rattle.client_session.specs.declared.open.Open.TheVariants as opens;
 ghost use Rattle.client_session.specs.declared.reply.Reply.TheVariants as replies;
-ghost use Rattle.client_session.specs.inner.OpenView.{caller_of, transaction_of, BeginsOrEnds, LooksAndTurns, Stands, TriesWrite, TurnsTo};
+ghost use Rattle.client_session.specs.inner.OpenView.{caller_of, BeginsOrEnds, LooksAndTurns, Stands, TriesWrite, TurnsTo};
 ghost use Rattle.client_session.specs.inner.ReplyOf.{reply_of};
 
 use crate::reply::Reply;

@@ -1,5 +1,5 @@
 //! The rules that a line may break, and their names.
-ghost use Rattle.std.specs.Prelude.{◌≡◌, ◌++◌, OnOk, option_map, codes};
+ghost use Rattle.std.specs.Prelude.{◌≡◌, ◌++◌, OnOk, option_map};
 ghost use Rattle.mdb_schema.specs.Schema.{DbSchema};
 ghost use Rattle.client_session.specs.inner.RuleName.{IsSessions, index_at, rule_name, question_name, write_name, write_place, index_part_at};
 

@@ -1,5 +1,5 @@
 //! Whole sessions: scripts with the text of their answers, worked from the format of both.
-ghost use Rattle.std.specs.Prelude.{◌≡◌, ◌∷◌, [], IfOk, IsTrue};
+ghost use Rattle.std.specs.Prelude.{◌≡◌, [], IfOk};
 ghost use Rattle.mem_txn.specs.Database.{IsCaller, IsOf, Opening, new_callers};
 
 use crate::Session;

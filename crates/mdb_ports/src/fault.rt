@@ -1,5 +1,5 @@
 //! The count of faults.
-ghost use Rattle.std.specs.Prelude.{◌≡◌, ◌↔◌, Ok, IsErr, IfOk};
+ghost use Rattle.std.specs.Prelude.{◌≡◌, Ok, IsErr, IfOk};
 ghost use Rattle.mdb_ports.specs.Faults.{HasCause};
 
 use crate::Failed;

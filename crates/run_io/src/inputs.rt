@@ -1,5 +1,5 @@
 //! A schema and scripts, from the bytes of their files.
-ghost use Rattle.std.specs.Prelude.{◌≡◌, ◌<◌, ◌^◌, length, map};
+ghost use Rattle.std.specs.Prelude.{◌<◌, ◌^◌, length};
 ghost use Rattle.client_script.specs.Script.{script_in};
 ghost use Rattle.mdb_datum.specs.Reading.{reading};
 ghost use Rattle.mdb_schema.specs.Reading.{schema_of};

@@ -1,5 +1,4 @@
 //! Sessions that are carried out step by step.
-ghost use Rattle.std.specs.Prelude.{◌≡◌, IfOk};
 ghost use Rattle.mem_txn.specs.Database.{IsCaller, IsOf};
 
 use super::{Case, close, opened, tells, users};

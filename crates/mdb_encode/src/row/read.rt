@@ -1,5 +1,5 @@
 //! What a row's members put into a key, read and tested before any memory is taken.
-ghost use Rattle.std.specs.Prelude.{◌≡◌, option_map};
+ghost use Rattle.std.specs.Prelude.{◌≡◌};
 ghost use Rattle.mdb_datum.specs.Datum.{doc_of, items_of, members_of};
 ghost use Rattle.mdb_datum.specs.Doc.{list, object, doc_list, field_list};
 ghost use Rattle.mdb_encode.specs.Keys.{str_keys, uint_keys, sint_keys, truth_keys, uuid_keys, is_blank, same_scalar};

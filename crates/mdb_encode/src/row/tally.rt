@@ -1,5 +1,5 @@
 //! Counting the keys of a row before they are written.
-ghost use Rattle.std.specs.Prelude.{◌≡◌, ◌++◌, ◌<◌, [], List, Ok};
+ghost use Rattle.std.specs.Prelude.{◌++◌, ◌<◌, [], List, Ok};
 ghost use Rattle.mdb_encode.specs.Bytes.{Bytes};
 ghost use Rattle.mdb_encode.specs.Keys.{limited};
 ghost use Rattle.mdb_encode.specs.inner.RowReading.{piece_keys};

@@ -1,4 +1,4 @@
-use Rattle.std.proofs.Common.{◌≡◌, ℕ, List, ap, ◌∙◌, sym, subst, length}
+use Rattle.std.proofs.Common.{ℕ, List, ap, ◌∙◌, sym, subst, length}
 use Rattle.db_front.specs.Passes.{Known, AreAll}
 use Rattle.db_front.proofs.AllPasses.{fresh_all}
 use Rattle.db_front.proofs.FreshPasses.{fresh_length, made_idle}

@@ -1,4 +1,4 @@
-use Rattle.std.proofs.Common.{◌∙◌, ◌++◌, ◌∷◌, [], append_assoc, ap, map, refl, sym, take}
+use Rattle.std.proofs.Common.{◌∙◌, ◌++◌, ◌∷◌, [], append_assoc, ap, refl, sym, take}
 use Rattle.mdb_schema.specs.Wipe.{removals}
 use Rattle.mdb_schema.specs.Write.{remove}
 use Rattle.mem_txn.proofs.ListLoops.{gathered_more}

@@ -1,4 +1,4 @@
-use Rattle.std.proofs.Common.{◌≡◌, ◌∙◌, ◌++◌, ◌∷◌, [], ap, sym, subst}
+use Rattle.std.proofs.Common.{◌∙◌, ◌++◌, ◌∷◌, [], ap, sym, subst}
 use Rattle.mem_txn.specs.Database.{AreAll, Callers}
 use Rattle.mem_txn.proofs.AllBack.{two_back}
 use Rattle.watch_set.proofs.tests.closed.Goals as goal
