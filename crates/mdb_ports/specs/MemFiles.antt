@@ -2,7 +2,7 @@
 use Rattle.std.specs.Prelude.{ℕ, List, [], ◌∷◌, Option, Some, None, if◌then◌else◌, Result, Ok, Err}
 use Rattle.std.specs.Str.{bytes_eq}
 use Rattle.mdb_ports.specs.declared.failed.Failed.{Failed}
-use Rattle.mdb_ports.specs.Script.{next_call, next_fault}
+use Rattle.mdb_ports.specs.Faults.{one_more}
 
 -- a name and the bytes under it
 abbrev pub NamedBytes : Type 0
@@ -23,5 +23,5 @@ pub record FileScript : Type 0 where
 
 -- a call counts itself, and its failure; nothing else changes
 abbrev pub after_fetch : FileScript → Result ℕ Failed → FileScript
-after_fetch s (Ok n) = record s { calls = next_call s.calls }
-after_fetch s (Err e) = record s { calls = next_call s.calls; faults = next_fault s.faults }
+after_fetch s (Ok n) = record s { calls = one_more s.calls }
+after_fetch s (Err e) = record s { calls = one_more s.calls; faults = one_more s.faults }

@@ -13,7 +13,9 @@ pub trait Gate {
 pub struct OpenGate;
 
 impl Gate for OpenGate {
+    /// It returns at once.
     fn before(&self, _client: u32, _line: u32) {}
 
+    /// It returns at once.
     fn after(&self, _client: u32, _line: u32) {}
 }

@@ -84,12 +84,14 @@ impl HoldGate {
 }
 
 impl Gate for HoldGate {
+    /// Waits at a line that is held. Where it gives up, the gate has expired.
     fn before(&self, client: u32, line: u32) {
         if !self.first.pass(client, line) || !self.second.pass(client, line) {
             self.expired.store(true, Ordering::Release);
         }
     }
 
+    /// Lets go of a line that waits for this one.
     fn after(&self, client: u32, line: u32) {
         self.first.answered(client, line);
         self.second.answered(client, line);
