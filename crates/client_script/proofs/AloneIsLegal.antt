@@ -14,7 +14,7 @@ use Rattle.client_script.specs.Session.{AreKnown, IsEntry, of_rows, Runs}
 use Rattle.client_script.specs.Spent.{by_turn}
 use Rattle.client_script.specs.Turn.{turn, outcome, is_of_watches}
 use Rattle.client_script.specs.declared.line.Line.{Line}
-use Rattle.client_script.specs.Within.{IsWithin}
+use Rattle.client_script.specs.inner.Within.{IsWithin}
 use Rattle.client_script.proofs.LongerHistory.{no_entry, next_within, turn_longer, start_within}
 use Rattle.client_script.proofs.OneClient.{IsOn, StandsOn, Keeps, same, commits, keeps, within_up}
 

@@ -27,7 +27,7 @@ use Rattle.client_script.specs.Turn.{Turn, turn, write_turn, wipe_turn, question
 use Rattle.client_script.specs.declared.command.Command.{Command}
 use Rattle.client_script.specs.declared.command.Command.TheVariants as command
 use Rattle.client_script.specs.declared.line.Line.{Line}
-use Rattle.client_script.specs.Within.{IsWithin}
+use Rattle.client_script.specs.inner.Within.{IsWithin}
 use Rattle.client_script.proofs.LongerHistory.{next_within, start_within}
 use Rattle.client_script.proofs.OneClient.{AreTurns, IsOn, Keeps, same, commits, keeps, StandsOn, Prints, told_here, later, later_commit, next_commit, within_history, within_up, told_each, as_many, printed_few, one_session, self_le, writing_is, rows_told}
 use Rattle.client_script.proofs.RowCounts.{rows_in, rows_in-empty, put_count, remove_count, wipe_count, wipe_by_prefix_count, after_both}

@@ -21,7 +21,7 @@ use Rattle.client_script.specs.Turn.{Turn, insert_reply, turn, write_turn, wipe_
 use Rattle.client_script.specs.Legal.{number_printed}
 use Rattle.client_script.specs.Session.{IsCommit, IsEntry, IsAnswered, of_rows, of_watches, Answers, Runs, Session}
 use Rattle.client_script.specs.Spent.{IsSpent, IsTold, by_turn, without_ids}
-use Rattle.client_script.specs.Within.{AllWithin, IsWithin, StandsWithin}
+use Rattle.client_script.specs.inner.Within.{AllWithin, IsWithin, StandsWithin}
 use Rattle.client_script.specs.Watching.{IsWatchTold, asked_watched, watch_turn, with_watch}
 use Rattle.client_script.proofs.SpentIds.{told_so}
 use Rattle.client_script.proofs.WatchLines.{IsAside, aside, watch_line_longer}

@@ -33,7 +33,7 @@ use Rattle.client_script.specs.Turn.{Turn, turn, write_turn, wipe_turn, question
 use Rattle.client_script.specs.declared.command.Command.{Command}
 use Rattle.client_script.specs.declared.command.Command.TheVariants as command
 use Rattle.client_script.specs.declared.line.Line.{Line}
-use Rattle.client_script.specs.Within.{AllWithin, IsWithin, StandsWithin}
+use Rattle.client_script.specs.inner.Within.{AllWithin, IsWithin, StandsWithin}
 use Rattle.client_script.proofs.LongerHistory.{next_within, turn_longer, start_within}
 
 -- ---- the open transaction stands on the last number that was told

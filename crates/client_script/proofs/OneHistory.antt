@@ -18,7 +18,7 @@ use Rattle.mdb_schema.specs.Write.{Write, put, remove, step}
 use Rattle.mdb_schema.specs.History.{Commit, History}
 use Rattle.mdb_schema.specs.Schema.{DbSchema}
 use Rattle.mdb_schema.specs.Tests.{◌>>=◌, needed, passed}
-use Rattle.client_script.specs.Within.{IsWithin}
+use Rattle.client_script.specs.inner.Within.{IsWithin}
 use Rattle.client_script.proofs.LongerHistory.{aside_within, next_within, turn_longer, start_within}
 use Rattle.client_script.proofs.OneClient.{insert_prints, snapshot_prints, writing_is, StandsFrom, all_rise, above_each, answered_rises, Rises, numbered, self_le}
 use Rattle.client_script.specs.Client.{Sight, Writing, Transaction, reading, writing, Client, at_start, state_seen, snapshot_named, none_open, some_open, read_open, write_open, sight_of, Judged}

@@ -14,5 +14,4 @@ pub mod Session
 pub mod Spent
 pub mod Turn
 pub mod Watching
-pub mod Within
 pub mod worked

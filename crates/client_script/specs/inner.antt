@@ -5,4 +5,5 @@ pub mod LineAnswer
 pub mod LineDoc
 pub mod ScriptAnswer
 pub mod StoredScript
+pub mod Within
 pub mod WordView

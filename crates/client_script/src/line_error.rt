@@ -19,6 +19,7 @@ pub(crate) enum LineError {
 impl From<AllocError> for LineError {
     ghost from_gives = { λ _ e. e ≡ line_error.Memory };
 
+    /// Want of memory.
     fn from(_: AllocError) -> Self {
         LineError::Memory
     }
@@ -27,6 +28,7 @@ impl From<AllocError> for LineError {
 impl From<LineRule> for LineError {
     ghost from_gives = { λ r e. e ≡ line_error.Broken r };
 
+    /// The error that tells the rule.
     fn from(rule: LineRule) -> Self {
         LineError::Broken(rule)
     }

@@ -28,6 +28,7 @@ pub enum ScriptError {
 impl From<AllocError> for ScriptError {
     ghost from_gives = { λ _ e. e ≡ script_error.Memory };
 
+    /// Want of memory.
     fn from(_: AllocError) -> Self {
         ScriptError::Memory
     }
@@ -36,6 +37,7 @@ impl From<AllocError> for ScriptError {
 impl<T: Drop> From<AllocFailed<T>> for ScriptError {
     ghost from_gives = { λ _ e. e ≡ script_error.Memory };
 
+    /// Want of memory.
     fn from(_: AllocFailed<T>) -> Self {
         ScriptError::Memory
     }

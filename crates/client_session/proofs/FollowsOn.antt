@@ -11,7 +11,7 @@ use Rattle.mdb_schema.specs.State.{empty_state}
 use Rattle.mem_txn.proofs.SeenBegins.{begins_twice}
 use Rattle.mem_txn.specs.Checked.{IsBeginning}
 use Rattle.mem_txn.specs.Database.{Caller, Reading, View}
-use Rattle.client_script.specs.Within.{AllWithin, IsWithin, StandsWithin}
+use Rattle.client_script.specs.inner.Within.{AllWithin, IsWithin, StandsWithin}
 use Rattle.client_script.specs.Client.{Client, Sight, Snapshot, Transaction, closed, reading, snapshot_named, state_seen, writing}
 use Rattle.client_session.proofs.HeldOn.{holds_longer, knows_longer}
 use Rattle.client_session.proofs.OpenTurns.{beginning_later}

@@ -4,7 +4,7 @@ use Rattle.std.specs.BTreeMap.{get_by_text}
 use Rattle.mdb_datum.specs.Bytes.{Bytes}
 use Rattle.mem_txn.specs.Database.{Caller, View, cells_seen}
 use Rattle.mem_txn.specs.Transactions.{HasLost}
-use Rattle.client_script.specs.Within.{IsWithin}
+use Rattle.client_script.specs.inner.Within.{IsWithin}
 use Rattle.client_session.specs.Cells.{TellsCells}
 use Rattle.client_session.specs.Counts.{AreAmong, count_told}
 use Rattle.client_script.specs.Client.{Client, Sight, snapshot_named, some_open, state_seen}
