@@ -4,7 +4,8 @@ ghost use Rattle.std.specs.Prelude.{option_copied, option_map, slice_get};
 ghost use Rattle.mem_txn.specs.Checked.{IsHeldBy};
 ghost use Rattle.mem_txn.specs.Database.{Caller, HasSeen, IsOf};
 ghost use Rattle.watch_set.specs.Checks.{AnswersLook, AnswersWait, HasChecked, KeepsHeld, OnlyLooks, with_until};
-ghost use Rattle.watch_set.specs.Members.{AreHeldBy, cell_name, chosen, has_cell, watches_of, with_watch};
+ghost use Rattle.watch_set.specs.Members.{AreDistinct, AreHeldBy, cell_name, chosen, has_cell};
+ghost use Rattle.watch_set.specs.Members.{watches_of, with_watch};
 
 use crate::look::{look_at, look_until};
 use crate::member::{Member, are_watching};
@@ -45,9 +46,10 @@ impl WatchSet {
         }
     }
 
-    /// The number of members.
+    /// The number of members, of which each watches another cell.
     pub fn len(&self) -> usize
-        ensures { result ≡ length self.now }
+        ensures count { result ≡ length self.now }
+        ensures distinct { AreDistinct self.now }
     {
         self.members.len()
     }

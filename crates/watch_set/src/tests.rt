@@ -43,6 +43,7 @@ fn failed<T>() -> Result<T, Fail> {
     Err(Fail::from("no memory"))
 }
 
+/// The schema that a text is.
 fn schema_of(alloc: Global) -> Result<Schema, Fail> {
     match read_schema(alloc, SCHEMA.as_bytes()) {
         Ok(schema) => Ok(schema),
@@ -58,6 +59,7 @@ fn row_of(alloc: Global, text: &str) -> Result<Row, AllocError> {
     }
 }
 
+/// A question of the table.
 fn query_of(alloc: Global, asked: &Asked) -> Result<Query, Fail> {
     let Datum::Items(args) = read_doc(alloc, asked.2.as_bytes())? else {
         return failed();
@@ -93,6 +95,7 @@ fn closed<R: Wait>(rt: &R, db: Db, mut passes: Passes, one: Pass, two: Pass) -> 
     db.close(rt, passes)
 }
 
+/// Puts the row of a line in.
 fn insert_row(alloc: Global, txn: &mut WriteTxn<u8>, line: &Line) -> Result<(), AllocError>
     ensures { (changes_of txn.new).caller ≡ (changes_of txn.old).caller }
 {
