@@ -414,8 +414,10 @@ fn sixty_four_callers_commit_in_turn(rt: HostRuntime) -> Result<(), Fail> {
     Ok(())
 }
 
+/// Takes what may be sent to a thread.
 fn may_be_sent<T: Send>(_value: &T) {}
 
+/// Takes what may be sent and shared.
 fn may_be_shared<T: Send + Sync>(_value: &T) {}
 
 /// Callers on threads need no more than that the value may be shared among threads.

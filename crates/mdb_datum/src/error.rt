@@ -21,6 +21,7 @@ pub enum DocError {
 impl From<AllocError> for DocError {
     ghost from_gives = { λ _ e. e ≡ Memory };
 
+    /// Want of memory.
     fn from(_: AllocError) -> Self {
         DocError::Memory
     }
@@ -29,6 +30,7 @@ impl From<AllocError> for DocError {
 impl<T: Drop> From<AllocFailed<T>> for DocError {
     ghost from_gives = { λ _ e. e ≡ Memory };
 
+    /// Want of memory.
     fn from(_: AllocFailed<T>) -> Self {
         DocError::Memory
     }

@@ -36,6 +36,7 @@ pub enum AskError {
 impl From<AllocError> for AskError {
     ghost from_gives = { λ _ e. e ≡ Memory };
 
+    /// Want of memory.
     fn from(_: AllocError) -> Self {
         AskError::Memory
     }
@@ -44,6 +45,7 @@ impl From<AllocError> for AskError {
 impl<T: Drop> From<AllocFailed<T>> for AskError {
     ghost from_gives = { λ _ e. e ≡ Memory };
 
+    /// Want of memory.
     fn from(_: AllocFailed<T>) -> Self {
         AskError::Memory
     }

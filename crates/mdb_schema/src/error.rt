@@ -24,6 +24,7 @@ pub enum SchemaError {
 impl From<AllocError> for SchemaError {
     ghost from_gives = { λ _ e. e ≡ schema_error.Memory };
 
+    /// Want of memory.
     fn from(_: AllocError) -> Self {
         SchemaError::Memory
     }
@@ -32,6 +33,7 @@ impl From<AllocError> for SchemaError {
 impl<T: Drop> From<AllocFailed<T>> for SchemaError {
     ghost from_gives = { λ _ e. e ≡ schema_error.Memory };
 
+    /// Want of memory.
     fn from(_: AllocFailed<T>) -> Self {
         SchemaError::Memory
     }
@@ -49,6 +51,7 @@ pub(crate) enum IndexerError {
 impl From<AllocError> for IndexerError {
     ghost from_gives = { λ _ e. e ≡ indexer_error.Memory };
 
+    /// Want of memory.
     fn from(_: AllocError) -> Self {
         IndexerError::Memory
     }
@@ -57,6 +60,7 @@ impl From<AllocError> for IndexerError {
 impl From<SchemaRule> for IndexerError {
     ghost from_gives = { λ r e. e ≡ indexer_error.Broken r };
 
+    /// The error that tells the rule.
     fn from(rule: SchemaRule) -> Self {
         IndexerError::Broken(rule)
     }

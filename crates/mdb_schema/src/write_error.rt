@@ -35,6 +35,7 @@ pub enum WriteError {
 impl From<AllocError> for WriteError {
     ghost from_gives = { λ _ e. e ≡ Memory };
 
+    /// Want of memory.
     fn from(_: AllocError) -> Self {
         WriteError::Memory
     }
@@ -43,6 +44,7 @@ impl From<AllocError> for WriteError {
 impl<T: Drop> From<AllocFailed<T>> for WriteError {
     ghost from_gives = { λ _ e. e ≡ Memory };
 
+    /// Want of memory.
     fn from(_: AllocFailed<T>) -> Self {
         WriteError::Memory
     }

@@ -187,6 +187,7 @@ fn parted(alloc: Global, text: &str) -> Result<Vec<Text>, AllocError> {
     Ok(words)
 }
 
+/// Adds a word of the command line.
 fn push_word(alloc: Global, words: &mut Vec<Text>, word: &str) -> Result<(), AllocError> {
     words.push(Text::of(alloc, word)?)?;
     Ok(())

@@ -15,6 +15,7 @@ use watch_word::{Front, Watch, open_book};
 
 mod run;
 
+/// A row without members.
 #[tactic(auto, using(mdb_datum::proofs::Variants::doc_of_members))]
 fn members(alloc: Global) -> Result<Members, Fail>
     ensures { IfOk result (λ m. IsCanonicalRow (of.members_of m)) }
@@ -115,6 +116,7 @@ fn fired(notice: &Notice, front: &Front) -> Result<usize, Fail>
     Ok(count)
 }
 
+/// Whether a notice has the cell of this id.
 fn has(notice: &Notice, id: u64) -> bool {
     for at in 0..notice.len() {
         if notice.cell(at).is_some_and(|cell| cell.id() == id) {

@@ -24,6 +24,7 @@ pub trait Edit {
 impl Edit for Tree {
     ghost nodes = { λ t. t };
 
+    /// A transaction on two owners of the nodes.
     fn txn(&self) -> Result<TreeTxn, AllocError> {
         Ok(TreeTxn::of(self.share()?, self.share()?))
     }

@@ -25,6 +25,7 @@ pub enum LoadError {
 impl From<AllocError> for LoadError {
     ghost from_gives = { λ _ e. e ≡ Memory };
 
+    /// Want of memory.
     fn from(_: AllocError) -> Self {
         LoadError::Memory
     }
@@ -33,6 +34,7 @@ impl From<AllocError> for LoadError {
 impl<T: Drop> From<AllocFailed<T>> for LoadError {
     ghost from_gives = { λ _ e. e ≡ Memory };
 
+    /// Want of memory.
     fn from(_: AllocFailed<T>) -> Self {
         LoadError::Memory
     }

@@ -65,6 +65,7 @@ fn def_of(alloc: Global, schema: &str) -> Result<TableDef, AllocError> {
     }
 }
 
+/// What a schema says of its first table.
 fn first_def(schema: &Schema) -> Result<TableDef, AllocError> {
     match schema.table(0) {
         Some(def) => def.share(),

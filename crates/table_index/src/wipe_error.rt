@@ -19,6 +19,7 @@ pub enum WipeError {
 impl From<AllocError> for WipeError {
     ghost from_gives = { λ _ e. e ≡ Memory };
 
+    /// Want of memory.
     fn from(_: AllocError) -> Self {
         WipeError::Memory
     }
@@ -27,6 +28,7 @@ impl From<AllocError> for WipeError {
 impl<T: Drop> From<AllocFailed<T>> for WipeError {
     ghost from_gives = { λ _ e. e ≡ Memory };
 
+    /// Want of memory.
     fn from(_: AllocFailed<T>) -> Self {
         WipeError::Memory
     }

@@ -14,8 +14,10 @@ struct Counter {
 }
 
 impl Gate for Counter {
+    /// It holds nobody.
     fn before(&self, _client: u32, _line: u32) {}
 
+    /// Counts the line.
     fn after(&self, _client: u32, _line: u32) {
         self.answered.fetch_add(1, Ordering::Relaxed);
     }

@@ -48,6 +48,7 @@ const MAKES: [(&str, Option<(u32, u32, u32)>); 18] = [
     ("Make|1|2|3", None),
 ];
 
+/// Adds a word of the command line.
 fn push_word(alloc: Global, words: &mut Vec<Text>, word: &str) -> Result<(), AllocError> {
     words.push(Text::of(alloc, word)?)?;
     Ok(())
@@ -67,6 +68,7 @@ fn command_in(alloc: Global, text: &str) -> Result<Option<Command>, AllocError> 
     Command::of(alloc, &words_in(alloc, text)?)
 }
 
+/// Whether a text is a command `run`.
 fn is_run(alloc: Global, text: &str) -> Result<bool, AllocError> {
     Ok(matches!(command_in(alloc, text)?, Some(Command::Run(_))))
 }

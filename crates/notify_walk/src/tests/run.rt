@@ -118,6 +118,7 @@ fn key_is_told(old: &Tree, new: &Tree, notice: &Notice, key: &[u8]) -> bool {
         && (was.0.id() != is.0.id() || was.1.is_some() == is.1.is_some())
 }
 
+/// Whether the watches of all keys are told.
 fn all_are_told(old: &Tree, new: &Tree, notice: &Notice) -> bool {
     for number in 0..KEYS {
         if !key_is_told(old, new, notice, key(number)) {
@@ -146,6 +147,7 @@ fn run_on(mut tree: Tree, front: &Front, mut ids: Ids, row: &Row) -> Result<bool
     Ok(true)
 }
 
+/// The same from an empty tree on.
 fn run(alloc: Global) -> Result<bool, Fail> {
     let row = Row::of(alloc, members(alloc)?)?;
     let (tree, front, ids) = empty(alloc)?;

@@ -59,6 +59,7 @@ fn word_of(found: &Result<Vec<u8>, LoadError>, bytes: &[u8]) -> Result<&'static 
     }
 }
 
+/// The word of bytes that were read.
 fn bytes_word(found: &[u8], bytes: &[u8]) -> &'static str {
     if found == bytes {
         "whole"
@@ -67,6 +68,7 @@ fn bytes_word(found: &[u8], bytes: &[u8]) -> &'static str {
     }
 }
 
+/// The word of an error. Want of memory ends a test.
 fn error_word(error: &LoadError) -> Result<&'static str, AllocError> {
     match error {
         LoadError::Memory => Err(AllocError),

@@ -82,6 +82,7 @@ fn word_of(found: &Result<Inputs, LoadError>) -> Result<(&'static str, u32), All
     }
 }
 
+/// The word of an error in a schema.
 fn schema_word(error: &SchemaError) -> &'static str {
     match error {
         SchemaError::Broken {
@@ -92,6 +93,7 @@ fn schema_word(error: &SchemaError) -> &'static str {
     }
 }
 
+/// The word of an error in a script.
 fn script_word(error: &ScriptError) -> &'static str {
     match error {
         ScriptError::BadDoc { line: 2 } => "bad-doc in line 2",

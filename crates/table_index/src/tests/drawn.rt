@@ -159,6 +159,7 @@ impl Random {
         texts.split_whitespace().nth(at).unwrap_or("-")
     }
 
+    /// A kind of question.
     fn ask(&mut self) -> Ask {
         ASKS[self.below(7) as usize]
     }

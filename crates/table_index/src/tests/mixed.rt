@@ -112,6 +112,7 @@ fn is_wiped_alike(told: Result<u64, WipeError>, expected: Result<u64, AskError>)
     }
 }
 
+/// Whether both answer a write the same.
 fn write_both(txn: &mut Work, plain: &mut PlainTable, alloc: Global, write: &Write) -> Told {
     match write {
         Write::Put(row) => is_put_alike(txn.put(row), plain.put(alloc, row)),

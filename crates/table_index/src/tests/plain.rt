@@ -162,6 +162,7 @@ impl PlainTable {
         sought.text(alloc, &entries)
     }
 
+    /// The `id` key of a row, or why it has none.
     fn id_key(&self, alloc: Global, row: &Row) -> Result<Vec<u8>, WriteError> {
         let Some(place) = self.def.find("id") else {
             return Err(WriteError::NoId);
@@ -206,6 +207,7 @@ impl PlainTable {
         None
     }
 
+    /// Whether another row has one of a row's full keys in the index at a place.
     fn is_taken(&self, place: usize, new: &PlainRow) -> bool {
         for held in &self.rows {
             if held.id != new.id && held.meets(place, new) {
@@ -269,6 +271,7 @@ fn first_key(
     }
 }
 
+/// The first of some keys.
 fn first_of(alloc: Global, keys: &Keys) -> Result<Vec<u8>, WriteError> {
     match keys.get(0) {
         Some(key) => Ok(key.bytes().to_vec(alloc)?),
@@ -290,6 +293,7 @@ fn keys_at(
     }
 }
 
+/// The full keys of some keys in an index, or that one is missing.
 fn full_keys_at(
     alloc: Global,
     place: u32,
@@ -314,6 +318,7 @@ fn full_keys(alloc: Global, keys: &Keys, rest: &[u8]) -> Result<Vec<Vec<u8>>, Al
     Ok(full)
 }
 
+/// Adds a key with these bytes behind it.
 fn push_full(
     alloc: Global,
     full: &mut Vec<Vec<u8>>,
@@ -324,6 +329,7 @@ fn push_full(
     Ok(())
 }
 
+/// A key with these bytes behind it.
 fn joined(alloc: Global, key: &[u8], rest: &[u8]) -> Result<Vec<u8>, AllocError> {
     let mut full = key.to_vec(alloc)?;
     full.extend_from_slice(rest)?;
@@ -343,6 +349,7 @@ fn add_entries(
     Ok(())
 }
 
+/// Adds a row under a key.
 fn add_entry(entries: &mut Entries, key: Vec<u8>, row: &Row) -> Result<(), AllocError> {
     entries.insert(key, row.share()?)?;
     Ok(())
@@ -367,6 +374,7 @@ fn sought_in(
     })
 }
 
+/// The first rule that a question breaks beside those of its argument.
 fn keeps_rules(ask: Ask, index: &IndexDef, query: &Query) -> Result<(), AskError> {
     if ask == Ask::Longest && !index.unique() {
         return Err(AskError::NotUnique);
@@ -390,6 +398,7 @@ fn key_asked(alloc: Global, index: &IndexDef, question: &Question) -> Result<Vec
     }
 }
 
+/// The bytes of an argument's key, or why there is none.
 fn bytes_of(alloc: Global, key: Result<Key, ArgError>) -> Result<Vec<u8>, AskError> {
     match key {
         Ok(key) => Ok(key.bytes().to_vec(alloc)?),
@@ -441,6 +450,7 @@ impl Sought {
     }
 }
 
+/// Adds a second owner of a row.
 fn push_shared(rows: &mut Vec<Row>, row: &Row) -> Result<(), AllocError> {
     rows.push(row.share()?)?;
     Ok(())

@@ -131,6 +131,7 @@ fn tell_write(txn: &mut Work, word: &str, row: &Row, out: &mut String) -> Result
     }
 }
 
+/// Adds what the put of a row answers.
 fn tell_insert(txn: &mut Work, row: &Row, out: &mut String) -> Result<(), AllocError> {
     match txn.put(row) {
         Ok(true) => out.push_str("replaced"),
@@ -139,6 +140,7 @@ fn tell_insert(txn: &mut Work, row: &Row, out: &mut String) -> Result<(), AllocE
     }
 }
 
+/// Adds what the removal of a row answers.
 fn tell_delete(txn: &mut Work, row: &Row, out: &mut String) -> Result<(), AllocError> {
     match txn.remove(row) {
         Ok(_) => out.push_str("deleted"),
@@ -170,6 +172,7 @@ fn tell_word(word: &str, out: &mut String) -> Result<(), AllocError> {
     out.push_str(word)
 }
 
+/// The name of the index at a place.
 fn index_name(txn: &Work, place: u32) -> &str {
     match txn.def().index(place as usize) {
         Some(index) => index.name().as_str(),
@@ -210,6 +213,7 @@ fn tell_query(
     }
 }
 
+/// Adds what a wipe answers that counts its rows.
 fn tell_wipe(answer: Result<u64, WipeError>, out: &mut String) -> Result<(), AllocError> {
     match answer {
         Ok(count) => tell_count("deleted", count, out),
@@ -217,6 +221,7 @@ fn tell_wipe(answer: Result<u64, WipeError>, out: &mut String) -> Result<(), All
     }
 }
 
+/// Adds what a wipe answers that gives its rows.
 fn tell_taken(answer: Result<Rows, WipeError>, out: &mut String) -> Result<(), AllocError> {
     match answer {
         Ok(rows) => tell_rows(&rows, out),
@@ -244,6 +249,7 @@ fn tell_one(row: Option<&Row>, out: &mut String) -> Result<(), AllocError> {
     }
 }
 
+/// Adds a word and a number.
 fn tell_count(word: &str, count: u64, out: &mut String) -> Result<(), AllocError> {
     Ok(write!(out, "{word} {count}")?)
 }

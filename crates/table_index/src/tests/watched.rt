@@ -44,6 +44,7 @@ static CASES: [Case; 11] = [
     ("get-reverse", "id", "[]", FOOP, true),
 ];
 
+/// What the schema says of a table.
 fn schema_of(table: &Table) -> &TableDef
     ensures { result.now ≡ table.now.schema }
 {

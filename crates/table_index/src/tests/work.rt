@@ -48,6 +48,7 @@ impl Base {
         Ok(Base { table, front, ids })
     }
 
+    /// A second owner of the table.
     pub fn share(&self) -> Result<Base, AllocError> {
         Ok(Base {
             table: self.table.share()?,
@@ -56,16 +57,19 @@ impl Base {
         })
     }
 
+    /// The table alone.
     pub fn table(&self) -> &Table
         ensures { result.now ≡ self.now }
     {
         &self.table
     }
 
+    /// The answer to a question.
     pub fn ask(&self, query: &Query) -> Result<Answer, AskError> {
         self.table.ask(query)
     }
 
+    /// A change of the table.
     pub fn txn(&self) -> Result<Work, AllocError> {
         Ok(Work {
             txn: self.table.txn()?,
@@ -100,14 +104,17 @@ impl Model for Work {
 }
 
 impl Work {
+    /// Whether an earlier write found no memory.
     pub fn spoiled(&self) -> bool {
         self.txn.spoiled()
     }
 
+    /// What the schema says of the table.
     pub fn def(&self) -> &TableDef {
         &self.txn.def
     }
 
+    /// Puts a row in; true where it replaces one.
     pub fn put(&mut self, row: &Row) -> Result<bool, WriteError> {
         if self.txn.spoiled() {
             return Err(WriteError::Memory);
@@ -115,6 +122,7 @@ impl Work {
         self.txn.put(&self.front, &mut self.ids, row)
     }
 
+    /// Takes out the row of another's `id` key.
     pub fn remove(&mut self, row: &Row) -> Result<Row, WriteError> {
         if self.txn.spoiled() {
             return Err(WriteError::Memory);
@@ -122,6 +130,7 @@ impl Work {
         self.txn.remove(&self.front, &mut self.ids, row)
     }
 
+    /// Takes out each row that a question lists, and gives them.
     pub fn take_all(&mut self, query: &Query) -> Result<Rows, WipeError> {
         if self.txn.spoiled() {
             return Err(WipeError::Memory);
@@ -129,6 +138,7 @@ impl Work {
         self.txn.take_all(&self.front, &mut self.ids, query)
     }
 
+    /// The same, where the question names a prefix form.
     pub fn take_prefix(&mut self, query: &Query) -> Result<Rows, WipeError> {
         if self.txn.spoiled() {
             return Err(WipeError::Memory);
@@ -136,6 +146,7 @@ impl Work {
         self.txn.take_prefix(&self.front, &mut self.ids, query)
     }
 
+    /// Takes out each row that a question lists, and gives their number.
     pub fn remove_all(&mut self, query: &Query) -> Result<u64, WipeError> {
         if self.txn.spoiled() {
             return Err(WipeError::Memory);
@@ -143,6 +154,7 @@ impl Work {
         self.txn.remove_all(&self.front, &mut self.ids, query)
     }
 
+    /// The same, where the question names a prefix form.
     pub fn remove_prefix(&mut self, query: &Query) -> Result<u64, WipeError> {
         if self.txn.spoiled() {
             return Err(WipeError::Memory);
@@ -150,6 +162,7 @@ impl Work {
         self.txn.remove_prefix(&self.front, &mut self.ids, query)
     }
 
+    /// The answer to a question.
     pub fn ask(&mut self, query: &Query) -> Result<Answer, AskError> {
         if self.txn.spoiled() {
             return Err(AskError::Memory);
@@ -169,6 +182,7 @@ impl Work {
         })
     }
 
+    /// The table at the end, and its notices.
     pub fn freeze(self) -> Result<(Table, Notices), AllocError> {
         let Work { txn, .. } = self;
         if txn.spoiled() {
