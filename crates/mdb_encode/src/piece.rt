@@ -1,5 +1,5 @@
 //! The pieces that keys are written from.
-ghost use Rattle.std.specs.Prelude.{◌≡◌, ◌++◌, ◌∷◌, [], ◌≤◌, length, min, IfOk, OnOk, true};
+ghost use Rattle.std.specs.Prelude.{◌≡◌, ◌++◌, ◌∷◌, [], ◌≤◌, length, min, take, IfOk, OnOk, true};
 ghost use Rattle.mdb_encode.specs.Keys.{folded, text_key, big_endian};
 ghost use Rattle.mdb_encode.specs.inner.Piece.{bytes_of};
 
@@ -29,8 +29,8 @@ pub(crate) enum Piece<'a> {
 impl Piece<'_> {
     /// How many bytes it puts into a key, or the greatest count that there is.
     #[tactic(auto, using(crate::proofs::BigEndian::length_big_endian))]
-    pub(crate) fn len(&self) -> usize
-        ensures { result ≡ min (length (bytes_of self.now)) usize.MAX }
+    pub(crate) fn len(self) -> usize
+        ensures { result ≡ min (length (bytes_of self.entry)) usize.MAX }
     {
         match self {
             Piece::Text(text, _) => text.len() + 1,
@@ -44,8 +44,8 @@ impl Piece<'_> {
     }
 
     /// A key of this piece alone, in memory for its bytes.
-    pub(crate) fn key(&self, alloc: Global) -> Result<Key, AllocError>
-        ensures { IfOk result (λ key. key ≡ bytes_of self.now) }
+    pub(crate) fn key(self, alloc: Global) -> Result<Key, AllocError>
+        ensures { IfOk result (λ key. key ≡ bytes_of self.entry) }
     {
         let mut bytes = Vec::with_capacity(alloc, self.len())?;
         self.write(&mut bytes)?;
@@ -53,19 +53,27 @@ impl Piece<'_> {
     }
 
     /// Puts its bytes behind those of `key`.
-    pub(crate) fn write(&self, key: &mut Vec<u8>) -> Result<(), AllocError>
-        ensures { OnOk result (key.new.items ≡ key.old.items ++ bytes_of self.now) }
+    pub(crate) fn write(self, key: &mut Vec<u8>) -> Result<(), AllocError>
+        ensures { OnOk result (key.new.items ≡ key.old.items ++ bytes_of self.entry) }
     {
         match self {
-            Piece::Text(text, lowercase) => write_ended(key, text, *lowercase),
-            Piece::Open(text, lowercase) => write_text(key, text, *lowercase),
-            Piece::Pair(name, text, lowercase) => write_pair(key, name, text, *lowercase),
+            Piece::Text(text, lowercase) => write_ended(key, text, lowercase),
+            Piece::Open(text, lowercase) => write_text(key, text, lowercase),
+            Piece::Pair(name, text, lowercase) => write_pair(key, name, text, lowercase),
             Piece::Number(number) => write_number(key, number.number, number.width),
-            Piece::Flag(value) => write_byte(key, u8::from(*value)),
+            Piece::Flag(value) => write_byte(key, u8::from(value)),
             Piece::Id(id) => key.extend_from_slice(&id.bytes),
-            Piece::Start(start) => key.extend_from_slice(&start.bytes[..start.len]),
+            Piece::Start(start) => write_start(key, &start),
         }
     }
+}
+
+/// Writes the bytes of a start that are meant.
+fn write_start(key: &mut Vec<u8>, start: &Start) -> Result<(), AllocError>
+    ensures { OnOk result (key.new.items
+        ≡ key.old.items ++ take start.now.len start.now.bytes) }
+{
+    key.extend_from_slice(&start.bytes[..start.len])
 }
 
 /// Writes one byte.

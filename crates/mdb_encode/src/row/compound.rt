@@ -43,10 +43,11 @@ fn compound_len(parts: &Kinds, allow_missing: bool, row: &Row) -> Result<Option<
 {
     let mut len: usize = 0;
     for part in parts.iter() {
-        match read_part(part, row)? {
-            Some(piece) => len = len.saturating_add(piece.len()),
-            None if allow_missing => return Ok(Some(len)),
-            None => return Ok(None),
+        match read_part(part, row) {
+            Ok(Some(piece)) => len = len.saturating_add(piece.len()),
+            Ok(None) if allow_missing => return Ok(Some(len)),
+            Ok(None) => return Ok(None),
+            Err(refusal) => return Err(refusal),
         }
     }
     Ok(Some(len))

@@ -70,13 +70,19 @@ fn arg_word(error: ArgError) -> &'static str {
     }
 }
 
+/// Adds the keys in hexadecimal, each before a semicolon.
+fn push_keys(text: &mut String, keys: &Keys) -> Result<(), AllocError> {
+    for key in keys.iter() {
+        push_hex(text, key)?;
+        text.push_str(";")?;
+    }
+    Ok(())
+}
+
 /// Whether these are the keys, each before a semicolon.
 fn are_keys(alloc: Global, keys: &Keys, want: &str) -> Result<bool, Fail> {
     let mut text = String::new(alloc);
-    for key in keys.iter() {
-        push_hex(&mut text, key)?;
-        text.push_str(";")?;
-    }
+    push_keys(&mut text, keys)?;
     Ok(text.as_str() == want)
 }
 
@@ -100,10 +106,10 @@ fn has_keys(alloc: Global, kind: &Kind, row: &Row, want: &str) -> Result<bool, F
 
 /// Whether the row has these keys in the index of a sample, or is refused so.
 fn is_indexed(alloc: Global, sample: Sample, row: &Row, want: &str) -> Result<bool, Fail> {
-    match kind_of(alloc, sample) {
-        Ok(kind) => has_keys(alloc, &kind, row, want),
-        Err(_) => Err(Fail::from("memory")),
-    }
+    let kind = kind_of(alloc, sample)?;
+    let found = has_keys(alloc, &kind, row, want);
+    drop(kind);
+    found
 }
 
 /// The same of a row that is read from its text.
@@ -152,8 +158,8 @@ pub(super) fn args_give(
     is_prefix: bool,
     want: &str,
 ) -> Result<bool, Fail> {
-    match kind_of(alloc, sample) {
-        Ok(kind) => makes_key(alloc, &kind, args, is_prefix, want),
-        Err(_) => Err(Fail::from("memory")),
-    }
+    let kind = kind_of(alloc, sample)?;
+    let found = makes_key(alloc, &kind, args, is_prefix, want);
+    drop(kind);
+    found
 }
