@@ -65,7 +65,8 @@ impl Files for MemFiles {
         ensures cause { HasCause self.old.faults self.new.faults result }
 
         ensures fails { IsErr result
-            ↔ (IsFailingCall self.old.fails self.old.calls ⊎ (listed self.old.files name.now ≡ None)) }
+            ↔ (IsFailingCall self.old.fails self.old.calls
+            ⊎ (listed self.old.files name.now ≡ None)) }
         ensures amount { IfOk result (λ n. IfSome (listed self.old.files name.now)
             (λ bytes. n ≡ min (length into.old) (length bytes - at))) }
         ensures after { self.new ≡ after_fetch self.old result }

@@ -89,12 +89,14 @@ impl Sink for MemSink {
     fn put(&mut self, piece: &[u8]) -> Result<usize, Failed>
         requires { 0 < length piece.now }
         ensures bound { IfOk result (λ n. (1 ≤ n) × (n ≤ length piece.now)) }
-        ensures grown { IfOk result (λ n. Grows (Some self.old.bytes) (Some self.new.bytes) (take n piece.now)) }
+        ensures grown { IfOk result (λ n.
+            Grows (Some self.old.bytes) (Some self.new.bytes) (take n piece.now)) }
         ensures kept { OnErr result (Some self.new.bytes ≡ Some self.old.bytes) }
         ensures cause { HasCause self.old.faults self.new.faults result }
 
         ensures fails { IsErr result
-            ↔ (IsFailingCall self.old.fails self.old.calls ⊎ (length self.old.bytes ≡ self.old.room)) }
+            ↔ (IsFailingCall self.old.fails self.old.calls
+            ⊎ (length self.old.bytes ≡ self.old.room)) }
         ensures amount { IfOk result (λ n. n ≡
             min self.old.most (min (length piece.now) (self.old.room - length self.old.bytes))) }
         ensures after { self.new ≡ after_put self.old piece.now result }

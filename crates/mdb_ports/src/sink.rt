@@ -17,7 +17,8 @@ pub trait Sink {
     fn put(&mut self, piece: &[u8]) -> Result<usize, Failed>
         requires { 0 < length piece.now }
         ensures bound { IfOk result (λ n. (1 ≤ n) × (n ≤ length piece.now)) }
-        ensures grown { IfOk result (λ n. Grows (told self.old) (told self.new) (take n piece.now)) }
+        ensures grown { IfOk result (λ n.
+            Grows (told self.old) (told self.new) (take n piece.now)) }
         ensures kept { OnErr result (told self.new ≡ told self.old) }
         ensures cause { HasCause (faults self.old) (faults self.new) result };
 }

@@ -4,10 +4,17 @@ use super::{fetch_first, gives, put_three};
 use crate::*;
 use std::fs;
 
+/// Writes a file.
 fn is_written(rt: &HostRuntime, name: &str, text: &str) -> bool {
     fs::write(rt, name, text).is_ok()
 }
 
+/// Writes two files, each with its text.
+fn are_written(rt: &HostRuntime, one: (&str, &str), two: (&str, &str)) -> bool {
+    is_written(rt, one.0, one.1) && is_written(rt, two.0, two.1)
+}
+
+/// Removes a file.
 fn is_removed(rt: &HostRuntime, name: &str) -> bool {
     fs::remove_file(rt, name).is_ok()
 }
@@ -17,14 +24,22 @@ fn is_renamed(rt: &HostRuntime, from: &str, to: &str) -> bool {
     fs::rename(rt, from, to).is_ok()
 }
 
+/// Whether a fetch from a file fails.
+fn is_missed<F: Files>(files: &mut F, name: &str) -> bool {
+    fetch_first(files, name) == Err(Failed)
+}
+
+/// A file gives the bytes behind its front, and then its front.
+fn goes_on<F: Files>(files: &mut F, name: &str) -> bool {
+    gives(files, name, 2, b"rs") && gives(files, name, 0, b"fi")
+}
+
 /// A file gives its own bytes also after another has come in its place.
 fn stays_one_version<F: Files>(rt: &HostRuntime, files: &mut F) -> bool {
-    is_written(rt, "old", "first")
-        && is_written(rt, "new", "2nd")
+    are_written(rt, ("old", "first"), ("new", "2nd"))
         && gives(files, "old", 0, b"fi")
         && is_renamed(rt, "new", "old")
-        && gives(files, "old", 2, b"rs")
-        && gives(files, "old", 0, b"fi")
+        && goes_on(files, "old")
         && is_removed(rt, "old")
 }
 
@@ -33,14 +48,17 @@ fn a_file_that_is_replaced_while_it_is_read_stays_one_version(rt: HostRuntime) {
     assert!(rt; stays_one_version(&rt, &mut DirFiles::new(&rt)));
 }
 
+/// Two files give their own bytes, one after the other.
+fn gives_each<F: Files>(files: &mut F) -> bool {
+    gives(files, "one", 1, b"st") && gives(files, "two", 0, b"2n")
+}
+
 /// A file that is gone is missed once another was read.
 fn misses_what_is_gone<F: Files>(rt: &HostRuntime, files: &mut F) -> bool {
-    is_written(rt, "one", "1st")
-        && is_written(rt, "two", "2nd")
-        && gives(files, "one", 1, b"st")
-        && gives(files, "two", 0, b"2n")
+    are_written(rt, ("one", "1st"), ("two", "2nd"))
+        && gives_each(files)
         && is_removed(rt, "one")
-        && fetch_first(files, "one") == Err(Failed)
+        && is_missed(files, "one")
         && is_removed(rt, "two")
 }
 
@@ -51,7 +69,7 @@ fn a_file_is_opened_anew_after_another_one(rt: HostRuntime) {
 
 /// A file is read that came after it was missed.
 fn reads_what_came_late<F: Files>(rt: &HostRuntime, files: &mut F) -> bool {
-    fetch_first(files, "late") == Err(Failed)
+    is_missed(files, "late")
         && is_written(rt, "late", "3rd")
         && gives(files, "late", 0, b"3r")
         && is_removed(rt, "late")
@@ -75,14 +93,29 @@ fn nothing_comes_at_the_end_of_a_file(rt: HostRuntime) {
     assert!(rt; ends(&rt, &mut DirFiles::new(&rt)));
 }
 
-#[test]
-fn a_folder_is_no_file(rt: HostRuntime) {
-    let is_there = fs::create_dir(&rt, "folder").is_ok();
-    let fails = fetch_first(&mut DirFiles::new(&rt), "folder") == Err(Failed);
-    let is_tidy = fs::remove_dir(&rt, "folder").is_ok();
-    assert!(rt; is_there && fails && is_tidy);
+/// Makes a folder.
+fn is_made(rt: &HostRuntime, name: &str) -> bool {
+    fs::create_dir(rt, name).is_ok()
 }
 
+/// Removes a folder.
+fn is_unmade(rt: &HostRuntime, name: &str) -> bool {
+    fs::remove_dir(rt, name).is_ok()
+}
+
+/// A folder is missed, and removed also where it was not.
+fn misses_a_folder<F: Files>(rt: &HostRuntime, files: &mut F) -> bool {
+    let is_there = is_made(rt, "folder");
+    let fails = is_missed(files, "folder");
+    is_unmade(rt, "folder") && is_there && fails
+}
+
+#[test]
+fn a_folder_is_no_file(rt: HostRuntime) {
+    assert!(rt; misses_a_folder(&rt, &mut DirFiles::new(&rt)));
+}
+
+/// Passes one line.
 fn pass<G: Gate>(gate: &G) {
     gate.before(1, 2);
     gate.after(1, 2);

@@ -48,7 +48,7 @@ impl Print for FakeOutput {
 
 /// Each row: how many calls are interrupted, how many bytes a call takes, and what a put of three
 /// bytes answers.
-const OUTPUTS: [(u32, Option<usize>, Result<usize, Failed>); 6] = [
+const OUTPUTS: &[(u32, Option<usize>, Result<usize, Failed>)] = &[
     (0, Some(9), Ok(3)),
     (0, Some(2), Ok(2)),
     (0, Some(0), Err(Failed)),
@@ -57,6 +57,7 @@ const OUTPUTS: [(u32, Option<usize>, Result<usize, Failed>); 6] = [
     (2, None, Err(Failed)),
 ];
 
+/// What a put of three bytes into such an output answers.
 fn put_into(interruptions: u32, takes: Option<usize>) -> Result<usize, Failed> {
     let output = FakeOutput {
         interruptions: Cell::new(interruptions),
@@ -67,7 +68,7 @@ fn put_into(interruptions: u32, takes: Option<usize>) -> Result<usize, Failed> {
 
 #[test]
 fn a_short_or_interrupted_write_is_told_as_it_was(rt: HostRuntime) {
-    for (interruptions, takes, want) in &OUTPUTS {
+    for (interruptions, takes, want) in OUTPUTS {
         assert!(rt;
             put_into(*interruptions, *takes) == *want,
             "{interruptions}, {takes:?}"
@@ -99,6 +100,7 @@ impl Seek for Pipe {
     }
 }
 
+/// Whether a read from an offset gives these bytes.
 fn reads(pipe: &mut NamedFile<Pipe>, at: u64, want: &[u8]) -> bool {
     let mut into = [0; 4];
     match pipe.read_from(at, &mut into) {
@@ -107,15 +109,26 @@ fn reads(pipe: &mut NamedFile<Pipe>, at: u64, want: &[u8]) -> bool {
     }
 }
 
-#[test]
-fn an_interrupted_pipe_is_read_in_order_and_in_no_other(rt: HostRuntime) {
+/// A pipe of three bytes whose first two reads are interrupted.
+fn interrupted_pipe() -> NamedFile<Pipe> {
     let pipe = Pipe {
         interruptions: Cell::new(2),
         left: b"abc",
     };
-    let mut pipe = NamedFile::at_front(ArrayString::new(), pipe);
-    assert!(rt;
-        reads(&mut pipe, 0, b"ab") && reads(&mut pipe, 2, b"c") && reads(&mut pipe, 3, b"")
-    );
-    assert!(rt; !reads(&mut pipe, 0, b""));
+    NamedFile::at_front(ArrayString::new(), pipe)
+}
+
+/// Whether the three bytes come in order, then nothing.
+fn comes_in_order(pipe: &mut NamedFile<Pipe>) -> bool {
+    reads(pipe, 0, b"ab") && reads(pipe, 2, b"c") && reads(pipe, 3, b"")
+}
+
+/// Whether they do, and the pipe is then not read from its front.
+fn comes_once(mut pipe: NamedFile<Pipe>) -> bool {
+    comes_in_order(&mut pipe) && !reads(&mut pipe, 0, b"")
+}
+
+#[test]
+fn an_interrupted_pipe_is_read_in_order_and_in_no_other(rt: HostRuntime) {
+    assert!(rt; comes_once(interrupted_pipe()));
 }

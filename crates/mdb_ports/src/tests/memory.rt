@@ -3,10 +3,11 @@ use super::{fetch_first, gives};
 use crate::*;
 use mdb_datum::Text;
 use std::alloc::{AllocError, Global};
+use std::process::Abort;
 use std::test::Fail;
 
 /// Each row: a name, an offset, what a fetch of three bytes answers, and the buffer after it.
-const FETCHES: [(&str, u64, Result<usize, Failed>, &[u8; 3]); 8] = [
+const FETCHES: &[(&str, u64, Result<usize, Failed>, &[u8; 3])] = &[
     ("a", 0, Ok(3), b"hel"),
     ("a", 1, Ok(3), b"ell"),
     ("a", 3, Ok(2), b"lo."),
@@ -17,47 +18,63 @@ const FETCHES: [(&str, u64, Result<usize, Failed>, &[u8; 3]); 8] = [
     ("c", 0, Err(Failed), b"..."),
 ];
 
-/// Each row: the call that fails, and what five puts of ten bytes answer, seven at most a call and
-/// 20 in all.
-const PUTS: [(u64, [Result<usize, Failed>; 5]); 4] = [
-    (1, [Err(Failed), Ok(7), Ok(7), Ok(6), Err(Failed)]),
-    (2, [Ok(7), Err(Failed), Ok(7), Ok(6), Err(Failed)]),
-    (3, [Ok(7), Ok(7), Err(Failed), Ok(6), Err(Failed)]),
-    (4, [Ok(7), Ok(7), Ok(6), Err(Failed), Err(Failed)]),
+/// The call that fails, and what puts of ten bytes answer, seven at most a call and 20 in all.
+type Puts = (u64, &'static [Result<usize, Failed>]);
+
+/// Five puts into a sink of which one of the first four calls fails.
+const PUTS: &[Puts] = &[
+    (1, &[Err(Failed), Ok(7), Ok(7), Ok(6), Err(Failed)]),
+    (2, &[Ok(7), Err(Failed), Ok(7), Ok(6), Err(Failed)]),
+    (3, &[Ok(7), Ok(7), Err(Failed), Ok(6), Err(Failed)]),
+    (4, &[Ok(7), Ok(7), Ok(6), Err(Failed), Err(Failed)]),
 ];
 
-fn add(alloc: Global, list: &mut FileList, name: &str, bytes: &[u8]) -> Result<(), AllocError> {
+/// Names and texts: two files of the name `a`, and an empty one of the name `b`.
+const FILES: &[(&str, &str)] = &[("a", "hello"), ("b", ""), ("a", "later")];
+
+/// Adds a file with this text.
+fn add(alloc: Global, list: &mut FileList, name: &str, text: &str) -> Result<(), AllocError> {
     let name = Text::of(alloc, name)?;
-    list.push((name, bytes.to_vec(alloc)?))
+    list.push((name, text.as_bytes().to_vec(alloc)?))
 }
 
-/// Two files of the name `a`, and an empty one of the name `b`.
+/// The three files.
 fn three_files(alloc: Global) -> Result<FileList, AllocError> {
     let mut list = FileList::new(alloc);
-    add(alloc, &mut list, "a", b"hello")?;
-    add(alloc, &mut list, "b", b"")?;
-    add(alloc, &mut list, "a", b"later")?;
+    for (name, text) in FILES {
+        add(alloc, &mut list, name, text)?;
+    }
     Ok(list)
 }
 
+/// The list of this call alone.
 fn only(alloc: Global, call: u64) -> Result<CallList, AllocError> {
     let mut calls = CallList::new(alloc);
     calls.push(call)?;
     Ok(calls)
 }
 
+/// The three files in memory, of which no call fails.
+fn sound_files(alloc: Global) -> Result<MemFiles, AllocError> {
+    Ok(MemFiles::of(three_files(alloc)?, CallList::new(alloc)))
+}
+
+/// Whether a fetch answers as its row says.
 fn fetches(files: &mut MemFiles, row: &(&str, u64, Result<usize, Failed>, &[u8; 3])) -> bool {
     let mut into = *b"...";
     files.fetch(row.0, row.1, &mut into) == row.2 && into == *row.3
 }
 
+/// Fetches from the same files row after row, each of which is answered as it says.
+fn check_fetches<R: Abort>(rt: &R, files: &mut MemFiles) {
+    for row in FETCHES {
+        assert!(rt; fetches(files, row), "{} from {}", row.0, row.1);
+    }
+}
+
 #[test]
 fn a_fetch_gives_the_bytes_from_an_offset(rt: HostRuntime) -> Result<(), Fail> {
-    let alloc = rt.alloc();
-    let mut files = MemFiles::of(three_files(alloc)?, CallList::new(alloc));
-    for row in &FETCHES {
-        assert!(rt; fetches(&mut files, row), "{} from {}", row.0, row.1);
-    }
+    check_fetches(&rt, &mut sound_files(rt.alloc())?);
     Ok(())
 }
 
@@ -71,15 +88,21 @@ fn just_one_fails(files: &mut MemFiles, fails: u64) -> bool {
     true
 }
 
+/// The three files in memory, of which this call fails.
 fn files_failing_at(alloc: Global, call: u64) -> Result<MemFiles, AllocError> {
     Ok(MemFiles::of(three_files(alloc)?, only(alloc, call)?))
 }
 
+/// Whether a call fails that is chosen, and no other.
+fn is_call_failing(alloc: Global, call: u64) -> Result<bool, AllocError> {
+    let mut files = files_failing_at(alloc, call)?;
+    Ok(just_one_fails(&mut files, call))
+}
+
 #[test]
 fn a_chosen_call_of_files_fails(rt: HostRuntime) -> Result<(), Fail> {
-    for fails in 1..=4u64 {
-        let mut files = files_failing_at(rt.alloc(), fails)?;
-        assert!(rt; just_one_fails(&mut files, fails), "call {fails}");
+    for call in 1..=4u64 {
+        assert!(rt; is_call_failing(rt.alloc(), call)?, "call {call}");
     }
     Ok(())
 }
@@ -91,7 +114,8 @@ fn an_absent_file_fails(rt: HostRuntime) {
     assert!(rt; fetch_first(&mut files, "a") == Err(Failed));
 }
 
-fn puts(sink: &mut MemSink, wants: &[Result<usize, Failed>; 5]) -> bool {
+/// Whether puts of ten bytes answer so, and the sink then has its 20 bytes.
+fn puts(sink: &mut MemSink, wants: &[Result<usize, Failed>]) -> bool {
     for want in wants {
         if sink.put(b"0123456789") != *want {
             return false;
@@ -100,15 +124,30 @@ fn puts(sink: &mut MemSink, wants: &[Result<usize, Failed>; 5]) -> bool {
     sink.bytes() == b"01234560123456012345".as_slice()
 }
 
+/// A sink of 20 bytes, seven at most a call, of which this call fails.
 fn sink_failing_at(alloc: Global, call: u64) -> Result<MemSink, AllocError> {
     MemSink::of(alloc, 20, 7, only(alloc, call)?)
 }
 
+/// Whether a sink of which this call fails answers the puts so.
+fn is_put_so(alloc: Global, row: &Puts) -> Result<bool, AllocError> {
+    let mut sink = sink_failing_at(alloc, row.0)?;
+    Ok(puts(&mut sink, row.1))
+}
+
+/// How many rows are answered as they say before the first that isn't.
+fn count_put_so(alloc: Global, rows: &[Puts]) -> Result<usize, AllocError> {
+    for at in 0..rows.len() {
+        if !is_put_so(alloc, &rows[at])? {
+            return Ok(at);
+        }
+    }
+    Ok(rows.len())
+}
+
 #[test]
 fn a_chosen_call_of_a_sink_fails_and_a_full_one_takes_nothing(rt: HostRuntime) -> Result<(), Fail> {
-    for (fails, wants) in &PUTS {
-        let mut sink = sink_failing_at(rt.alloc(), *fails)?;
-        assert!(rt; puts(&mut sink, wants), "call {fails} fails");
-    }
+    let count = count_put_so(rt.alloc(), PUTS)?;
+    assert!(rt; count == PUTS.len(), "after {count}");
     Ok(())
 }
