@@ -1,5 +1,5 @@
 //! From a text to a document: `serde_json` reads the value, and what it owns is moved out of it.
-ghost use Rattle.std.specs.Prelude.{◌≡◌, ◌⊎◌, Some, None, option_map, IfSome, IfOk, IfErr, IsErrOf, IsUtf8, nat_lt};
+ghost use Rattle.std.specs.Prelude.{◌≡◌, ◌⊎◌, ◌++◌, ◌∷◌, [], Some, None, option_map, IfSome, IfOk, IfErr, IsErr, IsErrOf, IsUtf8, is_ok, if◌then◌else◌, nat_lt, string_bytes};
 ghost use Rattle.serde_json.specs.Data.{depth, items_depth, members_depth};
 ghost use Rattle.serde_json.specs.Read.{read};
 ghost use Rattle.serde_json.specs.View.{view, number_view, items_view, members_view};
@@ -100,6 +100,35 @@ fn whole_from(number: &Number) -> Option<i128>
     Some(i128::from(n))
 }
 
+/// The document that a number is.
+fn number_from(number: &Number) -> Result<Datum, DocError>
+    ensures ok { IfOk result (λ d. whole_number (number_view number.now) ≡ Some (doc_of d)) }
+    ensures regular { IfOk result (λ d. IsRegular (doc_of d)) }
+    ensures not_whole { IsErr result → whole_number (number_view number.now) ≡ None }
+    ensures only { IfErr result (λ e. e ≡ DocError.NotWhole) }
+{
+    Ok(Datum::Whole(whole_from(number).ok_or(DocError::NotWhole)?))
+}
+
+/// Adds an item at the end.
+fn push_item(items: &mut Items, item: Datum) -> Result<(), DocError>
+    ensures pushed { items_of items.new
+        ≡ (if is_ok result then items_of items.old ++ doc_of item ∷ [] else items_of items.old) }
+    ensures only { IfErr result (λ e. e ≡ DocError.Memory) }
+{
+    Ok(items.push(item)?)
+}
+
+/// Adds a member at the end, whose name it takes over.
+fn push_member(members: &mut Members, name: String, value: Datum) -> Result<(), DocError>
+    ensures pushed { members_of members.new ≡ (if is_ok result
+        then members_of members.old ++ (string_bytes name, doc_of value) ∷ []
+        else members_of members.old) }
+    ensures only { IfErr result (λ e. e ≡ DocError.Memory) }
+{
+    Ok(members.push(Text::from_string(name), value)?)
+}
+
 /// The document that a value is, whose texts it takes over.
 #[cycle(datum_from)]
 fn datum_from(alloc: Global, value: Value) -> Result<Datum, DocError>
@@ -111,7 +140,7 @@ fn datum_from(alloc: Global, value: Value) -> Result<Datum, DocError>
     match value {
         Value::Null => Ok(Datum::Nil),
         Value::Bool(flag) => Ok(Datum::Flag(flag)),
-        Value::Number(number) => Ok(Datum::Whole(whole_from(&number).ok_or(DocError::NotWhole)?)),
+        Value::Number(number) => number_from(&number),
         Value::String(text) => Ok(Datum::Str(Text::from_string(text))),
         Value::Array(list) => Ok(Datum::Items(items_from(alloc, list)?)),
         Value::Object(map) => Ok(Datum::Members(members_from(alloc, map)?)),
@@ -130,7 +159,8 @@ fn items_from(alloc: Global, list: Vec<Value>) -> Result<Items, DocError>
 {
     let mut items = Items::new(alloc);
     for value in list {
-        items.push(datum_from(alloc, value)?)?;
+        let item = datum_from(alloc, value)?;
+        push_item(&mut items, item)?;
     }
     Ok(items)
 }
@@ -147,7 +177,8 @@ fn members_from(alloc: Global, map: Map<String, Value>) -> Result<Members, DocEr
 {
     let mut members = Members::new(alloc);
     for (name, value) in map {
-        members.push(Text::from_string(name), datum_from(alloc, value)?)?;
+        let value = datum_from(alloc, value)?;
+        push_member(&mut members, name, value)?;
     }
     Ok(members)
 }

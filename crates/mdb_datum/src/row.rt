@@ -65,7 +65,8 @@ impl Row {
     /// The compact text of the row's object. It takes memory for the text.
     pub fn doc(&self) -> Result<Vec<u8>, AllocError>
         ensures text { IfOk result (λ v. v.items ≡ row_text self.now) }
-        ensures reads_back { IfOk result (λ v. reading v.items ≡ read_as (object (field_list self.now))) }
+        ensures reads_back { IfOk result (λ v.
+            reading v.items ≡ read_as (object (field_list self.now))) }
     {
         write_members(&self.members)
     }

@@ -5,14 +5,22 @@ ghost use Rattle.mdb_datum.specs.Row.{IsCanonicalRow};
 
 use crate::{Datum, DocError, Items, Members, Row, Text, read_doc, write_doc};
 use std::alloc::{AllocError, AllocFailed, Global};
+use std::sync::Wait;
 use std::test::Fail;
-use std::thread;
+use std::thread::{Threads, join};
+
+/// Whether this is the compact text of a document.
+fn is_written(alloc: Global, document: &Datum, want: &str) -> Result<bool, AllocError> {
+    let found = write_doc(alloc, document)?;
+    Ok(found.as_slice() == want.as_bytes())
+}
 
 /// Whether a text reads as a document with this compact text.
 fn is_rewritten(alloc: Global, text: &str, want: &str) -> Result<bool, DocError> {
     let document = read_doc(alloc, text.as_bytes())?;
-    let found = write_doc(alloc, &document)?;
-    Ok(found.as_slice() == want.as_bytes())
+    let found = is_written(alloc, &document, want);
+    drop(document);
+    Ok(found?)
 }
 
 /// Whether bytes are refused for this cause, or read where there is none. Want of memory is an
@@ -185,18 +193,16 @@ fn nested(alloc: Global, depth: usize, scalar: &str) -> Result<Vec<u8>, AllocErr
     Ok(text)
 }
 
-/// Whether so many lists round a scalar are refused for this cause, or read where there is none.
-fn is_judged(
-    alloc: Global,
-    depth: usize,
-    scalar: &str,
-    cause: Option<DocError>,
-) -> Result<bool, DocError> {
-    let text = nested(alloc, depth, scalar)?;
-    is_refused(alloc, &text, cause)
+/// How many lists stand round a scalar, the scalar, and the cause for which they are refused.
+type Nested = (usize, &'static str, Option<DocError>);
+
+/// Whether the lists are refused for this cause, or read where there is none.
+fn is_judged(alloc: Global, case: &Nested) -> Result<bool, DocError> {
+    let text = nested(alloc, case.0, case.1)?;
+    is_refused(alloc, &text, case.2)
 }
 
-static NESTED: [(usize, &str, Option<DocError>); 11] = [
+static NESTED: [Nested; 11] = [
     (99, "1", None),
     (100, "1", None),
     (100, "", None),
@@ -212,19 +218,15 @@ static NESTED: [(usize, &str, Option<DocError>); 11] = [
 
 #[test]
 fn nesting_is_refused_past_its_limit(rt: HostRuntime) -> Result<(), Fail> {
-    for (depth, scalar, cause) in &NESTED {
+    for case in &NESTED {
         assert!(rt;
-            is_judged(rt.alloc(), *depth, scalar, *cause)?,
-            "{depth} around {scalar}"
+            is_judged(rt.alloc(), case)?,
+            "{} around {}",
+            case.0,
+            case.1
         );
     }
     Ok(())
-}
-
-/// Whether this is the compact text of a document.
-fn is_written(alloc: Global, document: &Datum, want: &str) -> Result<bool, AllocError> {
-    let found = write_doc(alloc, document)?;
-    Ok(found.as_slice() == want.as_bytes())
 }
 
 /// Whether a text is written so.
@@ -238,11 +240,18 @@ fn is_number_written(alloc: Global, number: i128, want: &str) -> Result<bool, Al
     is_written(alloc, &Datum::Whole(number), want)
 }
 
+/// Whether a text with escapes is, and the least number.
+fn are_scalars_written(alloc: Global) -> Result<bool, AllocError> {
+    let least = "-170141183460469231731687303715884105728";
+    Ok(
+        is_text_written(alloc, "a\n\"", "\"a\\n\\\"\"")?
+            && is_number_written(alloc, i128::MIN, least)?,
+    )
+}
+
 #[test]
 fn texts_and_numbers_are_written(rt: HostRuntime) -> Result<(), Fail> {
-    assert!(rt; is_text_written(rt.alloc(), "a\n\"", "\"a\\n\\\"\"")?);
-    let least = "-170141183460469231731687303715884105728";
-    assert!(rt; is_number_written(rt.alloc(), i128::MIN, least)?);
+    assert!(rt; are_scalars_written(rt.alloc())?);
     Ok(())
 }
 
@@ -261,11 +270,17 @@ fn are_two(items: &Items) -> bool {
     items.len() == 2 && items.get(2).is_none() && first && next
 }
 
+/// Whether a document has those items, and is written with them in order.
+fn has_two(alloc: Global, document: &Datum) -> Result<bool, AllocError> {
+    match document {
+        Datum::Items(items) => Ok(are_two(items) && is_written(alloc, document, "[null,true]")?),
+        _ => Ok(false),
+    }
+}
+
 /// Whether they are kept and written in order.
 fn are_items_kept(alloc: Global) -> Result<bool, AllocError> {
-    let items = two_items(alloc)?;
-    let kept = are_two(&items);
-    Ok(kept && is_written(alloc, &Datum::Items(items), "[null,true]")?)
+    has_two(alloc, &Datum::Items(two_items(alloc)?))
 }
 
 #[test]
@@ -282,12 +297,16 @@ fn is_named(members: &Members, at: usize, want: &str) -> bool {
     }
 }
 
+/// Whether there are two members.
+fn are_two_members(members: &Members) -> bool {
+    members.len() == 2 && members.pair(2).is_none() && members.iter().count() == 2
+}
+
 /// Whether members are an `age` of 7 and a `name`.
 fn are_age_and_name(members: &Members) -> bool {
     let age = matches!(members.get("age"), Some(Datum::Whole(7)));
     let both = is_named(members, 0, "age") && is_named(members, 1, "name");
-    let two = members.len() == 2 && members.pair(2).is_none() && members.iter().count() == 2;
-    age && both && two && members.get("nam").is_none()
+    age && both && are_two_members(members) && members.get("nam").is_none()
 }
 
 #[test]
@@ -341,10 +360,15 @@ fn a_member_of_a_row_is_found_by_name(rt: HostRuntime) -> Result<(), Fail> {
     Ok(())
 }
 
+/// Whether a row has no members.
+fn is_bare(row: &Row) -> bool {
+    row.get("").is_none() && row.members().len() == 0
+}
+
 #[test]
 fn a_row_without_members_has_none(rt: HostRuntime) -> Result<(), Fail> {
     let row = row_of(rt.alloc(), "{}")?;
-    assert!(rt; row.get("").is_none() && row.members().len() == 0);
+    assert!(rt; is_bare(&row));
     Ok(())
 }
 
@@ -356,11 +380,22 @@ fn written_twice(alloc: Global, row: &Row) -> Result<Vec<u8>, AllocError> {
     Ok(out)
 }
 
+/// Whether that is this text.
+fn is_written_twice(alloc: Global, row: &Row, want: &str) -> Result<bool, Fail> {
+    let out = written_twice(alloc, row)?;
+    Ok(out.as_slice() == want.as_bytes())
+}
+
+/// Whether it is for a row that is read.
+fn is_row_written(alloc: Global) -> Result<bool, Fail> {
+    let row = row_of(alloc, "{\"b\":[2],\"a\":null}")?;
+    let want = "row {\"a\":null,\"b\":[2]}{\"a\":null,\"b\":[2]}";
+    is_written_twice(alloc, &row, want)
+}
+
 #[test]
 fn a_row_is_written_behind_other_bytes(rt: HostRuntime) -> Result<(), Fail> {
-    let row = row_of(rt.alloc(), "{\"b\":[2],\"a\":null}")?;
-    let out = written_twice(rt.alloc(), &row)?;
-    assert!(rt; out.as_slice() == b"row {\"a\":null,\"b\":[2]}{\"a\":null,\"b\":[2]}".as_slice());
+    assert!(rt; is_row_written(rt.alloc())?);
     Ok(())
 }
 
@@ -369,12 +404,37 @@ fn is_doc(doc: Result<Vec<u8>, AllocError>) -> Result<bool, AllocError> {
     Ok(doc?.as_slice() == b"{\"a\":1,\"b\":2}".as_slice())
 }
 
+/// Whether both are.
+fn are_docs(
+    lent: Result<Vec<u8>, AllocError>,
+    moved: Result<Vec<u8>, AllocError>,
+) -> Result<bool, AllocError> {
+    Ok(is_doc(lent)? && is_doc(moved)?)
+}
+
+/// Whether two threads give the text of a row, one that borrows it and one with an owner of it.
+fn gives_docs<R: Threads + Wait + Sync>(
+    rt: &R,
+    row: &Row,
+    second: Row,
+) -> Result<bool, AllocError> {
+    let (lent, moved) = join(rt, || row.doc(), move || second.doc());
+    are_docs(lent, moved)
+}
+
+/// Whether they do with a second owner.
+fn is_shared<R: Threads + Wait + Sync>(rt: &R, row: &Row) -> Result<bool, Fail> {
+    Ok(gives_docs(rt, row, row.share()?)?)
+}
+
+/// Whether they do for a row that is read.
+fn is_row_shared<R: Threads + Wait + Sync>(rt: &R, alloc: Global) -> Result<bool, Fail> {
+    let row = row_of(alloc, "{\"b\":2,\"a\":1}")?;
+    is_shared(rt, &row)
+}
+
 #[test]
 fn a_row_is_shared_by_threads(rt: HostRuntime) -> Result<(), Fail> {
-    let row = row_of(rt.alloc(), "{\"b\":2,\"a\":1}")?;
-    let second = row.share()?;
-    let (lent, moved) = thread::join(&rt, || row.doc(), move || second.doc());
-    let both = is_doc(lent)? && is_doc(moved)?;
-    assert!(rt; both);
+    assert!(rt; is_row_shared(&rt, rt.alloc())?);
     Ok(())
 }

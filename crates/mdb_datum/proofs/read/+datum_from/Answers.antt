@@ -19,17 +19,17 @@ pub items_from-loop-value-preserved : goal.items_from-loop-value-preserved
 items_from-loop-value-preserved t c =
     let l = c.loop-value in
     let ds = items_of l.items in
-    let d = doc_of c.in_ok-datum_from.field-0 in
+    let d = doc_of c.in_ok-item.item in
     let rest = into_iter_items c.next.new.self in
     let step : into_iter_items l.value-iterator ≡ c.in-Some.value ∷ rest = search rules in
-    let pushed : items_of c.push.new.self ≡ ds ++ d ∷ [] = search rules in
+    let pushed : items_of c.push_item.new.items ≡ ds ++ d ∷ [] = search rules in
     record {
       can_next = tt;
       is_finite = tt;
       so_far = l.invariant.so_far ∙ ap (λ vs. option_map (docs_before ds) (whole_docs (items_view vs))) step
-          ∙ whole_docs-more ds d (view c.in-Some.value) (items_view rest) c.in_ok-datum_from.ensures.ok
+          ∙ whole_docs-more ds d (view c.in-Some.value) (items_view rest) c.in_ok-item.ensures.ok
           ∙ ap (λ xs. option_map (docs_before xs) (whole_docs (items_view rest))) (sym pushed);
-      regular = subst (λ xs. AreRegular (doc_list xs)) (sym pushed) (AreRegular-one_more ds d l.invariant.regular c.in_ok-datum_from.ensures.regular);
+      regular = subst (λ xs. AreRegular (doc_list xs)) (sym pushed) (AreRegular-one_more ds d l.invariant.regular c.in_ok-item.ensures.regular);
     }
 
 pub items_from-returns-clause-ok : goal.items_from-returns-clause-ok
@@ -43,17 +43,17 @@ members_from-loop-name-preserved t c =
     let l = c.loop-name in
     let fs = members_of l.members in
     let name = string_bytes c.in-Some.name in
-    let d = doc_of c.in_ok-datum_from.field-0 in
+    let d = doc_of c.in_ok-value.value in
     let rest = c.next.new.self in
     let step : l.name-iterator ≡ (c.in-Some.name, c.in-Some.value) ∷ rest = search rules in
-    let pushed : members_of c.push.new.self ≡ fs ++ (name, d) ∷ [] = search rules in
+    let pushed : members_of c.push_member.new.members ≡ fs ++ (name, d) ∷ [] = search rules in
     record {
       can_next = tt;
       is_finite = tt;
       so_far = l.invariant.so_far ∙ ap (λ es. option_map (fields_before fs) (whole_fields (members_view es))) step
-          ∙ whole_fields-more fs name d (view c.in-Some.value) (members_view rest) c.in_ok-datum_from.ensures.ok
+          ∙ whole_fields-more fs name d (view c.in-Some.value) (members_view rest) c.in_ok-value.ensures.ok
           ∙ ap (λ xs. option_map (fields_before xs) (whole_fields (members_view rest))) (sym pushed);
-      regular = subst (λ xs. HaveRegularMembers (field_list xs)) (sym pushed) (HaveRegularMembers-one_more fs name d l.invariant.regular (IsUtf8-had name c.in-Some.name.ok) c.in_ok-datum_from.ensures.regular);
+      regular = subst (λ xs. HaveRegularMembers (field_list xs)) (sym pushed) (HaveRegularMembers-one_more fs name d l.invariant.regular (IsUtf8-had name c.in-Some.name.ok) c.in_ok-value.ensures.regular);
       names = ap (λ xs. names_of xs ++ key_bytes rest) pushed ∙ names_of-one_more fs name d (key_bytes rest) ∙ ap (λ es. names_of fs ++ key_bytes es) (sym step) ∙ l.invariant.names;
     }
 
