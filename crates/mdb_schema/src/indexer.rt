@@ -53,7 +53,8 @@ fn kind_in(document: &Datum) -> Result<(KindName, &Members), SchemaRule>
 
 /// A copy of `field`, and `lowercase`.
 fn folded(alloc: Global, members: &Members) -> Result<(Text, bool), IndexerError>
-    ensures { Answers (λ p. p) (needed rule.BadShape (folded_shape (members_of members.now))) result }
+    ensures { Answers (λ p. p)
+        (needed rule.BadShape (folded_shape (members_of members.now))) result }
 {
     let Some((field, lowercase)) = folded_shape(members) else {
         return Err(IndexerError::Broken(SchemaRule::BadShape));
@@ -74,7 +75,8 @@ fn sized(alloc: Global, members: &Members) -> Result<(Text, u8), IndexerError>
 
 /// A copy of `field`.
 fn plain(alloc: Global, members: &Members) -> Result<Text, IndexerError>
-    ensures { Answers (λ s. s) (needed rule.BadShape (plain_shape (members_of members.now))) result }
+    ensures { Answers (λ s. s)
+        (needed rule.BadShape (plain_shape (members_of members.now))) result }
 {
     let Some(field) = plain_shape(members) else {
         return Err(IndexerError::Broken(SchemaRule::BadShape));

@@ -31,17 +31,17 @@ pub(crate) enum KindName {
 pub(crate) fn kind_named(word: &str) -> Option<KindName>
     ensures { result ≡ kind_named word.now }
 {
-    match word {
-        "text" => Some(KindName::Text),
-        "text_list" => Some(KindName::TextList),
-        "text_map" => Some(KindName::TextMap),
-        "uint" => Some(KindName::Uint),
-        "int" => Some(KindName::Int),
-        "bool" => Some(KindName::Bool),
-        "uuid" => Some(KindName::Uuid),
-        "field_set" => Some(KindName::FieldSet),
-        "conditional" => Some(KindName::Conditional),
-        "compound" => Some(KindName::Compound),
-        _ => None,
-    }
+    Some(match word {
+        "text" => KindName::Text,
+        "text_list" => KindName::TextList,
+        "text_map" => KindName::TextMap,
+        "uint" => KindName::Uint,
+        "int" => KindName::Int,
+        "bool" => KindName::Bool,
+        "uuid" => KindName::Uuid,
+        "field_set" => KindName::FieldSet,
+        "conditional" => KindName::Conditional,
+        "compound" => KindName::Compound,
+        _ => return None,
+    })
 }

@@ -255,7 +255,8 @@ fn is_version_one(number: i128) -> bool
 
 /// The members for the tables of a schema.
 fn table_list(document: &Datum) -> Result<&Members, SchemaRule>
-    ensures { result_map_both (λ m. members_of m.now) (λ r. r) result ≡ table_list (doc_of document.now) }
+    ensures { result_map_both (λ m. members_of m.now) (λ r. r) result
+        ≡ table_list (doc_of document.now) }
 {
     let Some(members) = object_in(document) else {
         return Err(SchemaRule::BadShape);

@@ -202,7 +202,8 @@ pub(crate) fn table_shape(members: &Members) -> Option<&Members>
 
 /// `indexer`, `unique` and `allow_missing` of an index.
 pub(crate) fn index_shape(members: &Members) -> Option<(&Datum, (bool, bool))>
-    ensures { option_map (λ p. (doc_of p.0.now, p.1)) result ≡ index_shape (members_of members.now) }
+    ensures { option_map (λ p. (doc_of p.0.now, p.1)) result
+        ≡ index_shape (members_of members.now) }
 {
     if !has_only(members, &INDEX_NAMES) {
         return None;
