@@ -1,7 +1,7 @@
 -- The ages of made rows are small, and so is their sum.
-use Rattle.std.proofs.Common.{arith, ◌≡◌, refl, ap, ℕ, zero, suc, ◌+◌, ◌-◌, ◌*◌, ◌%◌, ◌<◌, ◌≤◌, ◌^◌, Bool, true, false, List, [], ◌∷◌, ◌++◌, cond}
+use Rattle.std.proofs.Common.{arith, ◌≡◌, ℕ, zero, suc, ◌+◌, ◌-◌, ◌*◌, ◌%◌, ◌<◌, ◌≤◌, ◌^◌, Bool, true, false, List, [], ◌∷◌, ◌++◌, cond}
 use Rattle.std.proofs.Math.Nat.{mod-lt}
-use Rattle.memdb.specs.Made.{AreInRange, Item, Numbers, ages, all_items, drawn, is_named, item_of, items_behind, items_by, items_from, last_items}
+use Rattle.memdb.specs.Made.{AreInRange, Item, Numbers, ages, all_items, drawn, is_named, items_behind, items_by, items_from, last_items}
 
 -- the sum of two lists
 both_ages : (xs ys : List Item) → ages (xs ++ ys) ≡ ages xs + ages ys

@@ -14,7 +14,7 @@ use Rattle.memdb.specs.Causes.{Finds, Reaches, CallsFor, no_command, absent, too
 use Rattle.memdb.specs.Outcome.{HasRead, IsAnswer, done, made, usage, broken_schema, cannot_read}
 use Rattle.memdb.specs.Outcome as outcome
 use Rattle.memdb.specs.Made.{Numbers}
-use Rattle.memdb.specs.Words.{Named, files_behind, files_named, in_order, make_of, may_name_a_file, numbers_behind, numbers_named, run_of}
+use Rattle.memdb.specs.Words.{Named, files_behind, files_named, in_order, make_of, may_name_a_file, numbers_named, run_of}
 use Rattle.memdb.specs.inner.ReadAnswer.{IsAnswerTo, inputs_read, schema_broken, script_broken}
 use Rattle.run_io.specs.Causes.{HasNoExcuse}
 use Rattle.run_io.specs.Inputs.{schema_error}

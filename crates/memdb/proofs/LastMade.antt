@@ -1,6 +1,5 @@
 -- What made clients leave when all are done.
-use Rattle.std.proofs.Common.{◌≡◌, refl, ap, subst, ℕ, zero, suc, ◌+◌, ◌≤◌, List, length}
-use Rattle.mdb_schema.specs.History.{History}
+use Rattle.std.proofs.Common.{◌≡◌, refl, ap, subst, ℕ, zero, suc, ◌+◌, length}
 use Rattle.mem_txn.specs.Database.{AreNamed, View}
 use Rattle.memdb.specs.Made.{AreInRange, Numbers}
 use Rattle.memdb.specs.inner.LastState.{IsLast, IsLastMade}

@@ -4,7 +4,7 @@ pub mod ClientItems
 pub mod CommandWords
 pub mod CommittedItems
 pub mod Converses
-pub mod Drawn
+pub mod DrawnNumbers
 pub mod Exclusion
 pub mod ItemTotals
 pub mod LastMade

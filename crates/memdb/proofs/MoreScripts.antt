@@ -3,7 +3,7 @@ use Rattle.std.proofs.Common.{arith, ◌≡◌, ap, ap₂, sym, ◌∙◌, ℕ, 
 use Rattle.client_script.specs.declared.line.Line.{Line}
 use Rattle.memdb.specs.Made.{Numbers, drawn, items_behind}
 use Rattle.memdb.specs.inner.MadeInputs.{made_script, rounds_behind, scripts_from}
-use Rattle.memdb.proofs.Drawn.{drawn_on, items_on}
+use Rattle.memdb.proofs.DrawnNumbers.{drawn_on, items_on}
 
 -- the script of the last client stands at the end
 scripts_more : (n : Numbers) (k m : ℕ) → scripts_from n k (suc m) ≡ scripts_from n k m ++ made_script n (k + m) ∷ []

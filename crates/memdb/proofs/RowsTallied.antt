@@ -1,6 +1,5 @@
 -- What is counted of the state that made clients leave.
-use Rattle.std.proofs.Common.{◌≡◌, ◌∙◌, ap, sym, subst, ℕ, ◌*◌, List, [], length, Ok, Err}
-use Rattle.std.specs.Prelude.{Result}
+use Rattle.std.proofs.Common.{◌≡◌, ◌∙◌, ap, sym, ◌*◌, List, [], length, Ok, Err}
 use Rattle.mdb_datum.specs.Row.{Fields}
 use Rattle.mdb_schema.specs.Answer.{Asked, ask}
 use Rattle.mdb_schema.specs.declared.answer.Answer.{Answer}

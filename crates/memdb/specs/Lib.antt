@@ -3,3 +3,4 @@ pub mod Made
 pub mod Outcome
 pub mod Words
 pub mod inner
+pub mod worked

@@ -1,6 +1,6 @@
 -- The command `make NUMBER CLIENTS COUNT`: clients that are made from three numbers, and the
 -- summary of what they leave. Each client writes rows of its own, one in each of its rounds.
-use Rattle.std.specs.Prelude.{◌≡◌, ◌≤◌, ◌+◌, ◌-◌, ◌*◌, ◌%◌, ◌||◌, ◌++◌, ℕ, zero, suc, Bool, false, List, [], ◌∷◌, length, if◌then◌else◌, codes, decimal}
+use Rattle.std.specs.Prelude.{◌≤◌, ◌+◌, ◌-◌, ◌*◌, ◌%◌, ◌||◌, ◌++◌, ℕ, zero, suc, Bool, false, List, [], ◌∷◌, length, if◌then◌else◌, codes, decimal}
 use Rattle.std.specs.Str.{bytes_eq}
 use Rattle.mdb_datum.specs.Bytes.{Bytes}
 
@@ -79,7 +79,7 @@ four_lines clients commits rows sum =
     count_line (codes "clients ") clients ++ (count_line (codes "commits ") commits
     ++ (count_line (codes "rows ") rows ++ count_line (codes "ages ") sum))
 
--- how many clients there are and commits are made, how many rows are left, and the sum of their ages
+-- how many clients there are and commits are made, how many rows are left, and their ages summed
 abbrev pub summary : Numbers → Bytes
 summary n =
     let left = last_items (all_items n) in

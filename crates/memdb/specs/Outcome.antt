@@ -1,5 +1,5 @@
 -- What a run may answer, and what it then writes: a text for each status, with its cause.
-use Rattle.std.specs.Prelude.{◌≡◌, ◌⊎◌, ◌<◌, ℕ, List, [], ◌∷◌, ◌++◌, length, take, Option, Some, None, Result, Ok, Err, codes, decimal}
+use Rattle.std.specs.Prelude.{◌≡◌, ◌<◌, ℕ, List, [], ◌∷◌, ◌++◌, length, take, Option, Some, None, Result, Ok, Err, codes, decimal}
 use Rattle.client_script.specs.Legal.{Legal}
 use Rattle.client_script.specs.Refusal.{error_word, error_line}
 use Rattle.client_script.specs.declared.script_error.ScriptError.{ScriptError}

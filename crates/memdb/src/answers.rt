@@ -1,8 +1,7 @@
 //! What clients are answered: the text of their sessions on one database.
-ghost use Rattle.std.specs.Prelude.{◌≡◌, ◌++◌, ◌≤◌, [], IfOk, OnOk, length, vec_capacity, vec_len};
+ghost use Rattle.std.specs.Prelude.{◌≡◌, ◌++◌, ◌≤◌, [], IfOk, OnOk, length, vec_capacity};
 ghost use Rattle.client_script.specs.Legal.{Legal};
 ghost use Rattle.client_script.specs.Reply.{heading};
-ghost use Rattle.client_session.specs.Progress.{Progress};
 ghost use Rattle.mem_txn.specs.Database.{Opening, new_callers};
 ghost use Rattle.memdb.specs.inner.Sessions.{AreLater, AreReady, HaveAnswered, headed};
 

@@ -1,4 +1,4 @@
-//! The command `make`: clients that are made from three numbers, and the summary of what they leave.
+//! The command `make`: clients that are made from three numbers, and what they leave, summed up.
 //!
 //! Schema and scripts are made as texts, which are read as those of files are. Each client writes
 //! rows of its own, one in each of its rounds, drawn from the first number. So the summary of what

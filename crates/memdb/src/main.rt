@@ -27,6 +27,7 @@ use std::sync::Wait;
 use std::thread::Threads;
 use std::{env, io};
 
+/// Carries out the command of the words, and ends with its status.
 fn main(rt: HostRuntime) -> ExitCode {
     let alloc = rt.alloc();
     match command_line(&rt, alloc) {

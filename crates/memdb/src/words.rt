@@ -1,5 +1,5 @@
 //! The words of the command line.
-ghost use Rattle.std.specs.Prelude.{◌≡◌, ◌<◌, ◌≤◌, Some, IfOk, length, option_map, slice_get};
+ghost use Rattle.std.specs.Prelude.{◌≡◌, ◌<◌, ◌≤◌, Some, IfOk, length, slice_get};
 ghost use Rattle.std.specs.List.{list_all};
 ghost use Rattle.memdb.specs.Words.{may_name_a_file};
 
@@ -20,7 +20,7 @@ use self::parsing::read_command;
 pub enum Command {
     /// `run SCHEMA CLIENT..`: to run the clients' scripts.
     Run(Named),
-    /// `make NUMBER CLIENTS COUNT`: to make inputs.
+    /// `make NUMBER CLIENTS COUNT`: to run clients that are made, and to sum up what they leave.
     Make(Numbers),
 }
 

@@ -1,6 +1,6 @@
 -- What is known of a history that made clients leave, and that it then holds their rows.
-use Rattle.std.specs.Prelude.{◌≡◌, ◌<◌, ◌≤◌, ◌+◌, ◌-◌, ℕ, List, [], ◌∷◌, Option, Some, map, slice_get, ⊤}
-use Rattle.mdb_schema.specs.History.{Commit, History}
+use Rattle.std.specs.Prelude.{◌≡◌, ◌+◌, ◌-◌, ℕ, List, [], ◌∷◌, Some, map, ⊤}
+use Rattle.mdb_schema.specs.History.{History}
 use Rattle.client_script.specs.Legal.{printed}
 use Rattle.client_script.specs.Reply.{Reply}
 use Rattle.client_script.specs.Session.{Sessions}

@@ -1,13 +1,11 @@
 -- The inputs of `make`, as a schema and scripts, and what its clients commit.
-use Rattle.std.specs.Prelude.{◌≡◌, ◌≤◌, ◌+◌, ℕ, zero, suc, pos, false, true, List, [], ◌∷◌, ◌++◌, Option, Some, None, length, map, codes}
-use Rattle.mdb_datum.specs.Bytes.{Bytes}
+use Rattle.std.specs.Prelude.{◌≡◌, ◌≤◌, ◌+◌, ℕ, zero, suc, pos, false, true, List, [], ◌∷◌, ◌++◌, Option, Some, map, codes}
 use Rattle.mdb_datum.specs.Doc.{Doc, whole, text, member}
 use Rattle.mdb_datum.specs.Row.{Fields}
 use Rattle.mdb_encode.specs.Indexer.{str, uint}
-use Rattle.mdb_schema.specs.History.{Commit, History, state_at}
+use Rattle.mdb_schema.specs.History.{Commit, History}
 use Rattle.mdb_schema.specs.Query.{Query}
 use Rattle.mdb_schema.specs.Schema.{DbSchema}
-use Rattle.mdb_schema.specs.State.{State}
 use Rattle.mdb_schema.specs.Write.{put}
 use Rattle.mdb_schema.specs.declared.ask.Ask.TheVariants.{First, Get}
 use Rattle.client_script.specs.declared.command.Command.TheVariants as command

@@ -1,5 +1,5 @@
 -- What the clients leave: so many commits, and the rows that the summary counts.
-use Rattle.std.specs.Prelude.{◌≡◌, ◌<◌, ◌≤◌, ◌*◌, ℕ, List, [], ◌∷◌, length, Ok, ⊤}
+use Rattle.std.specs.Prelude.{◌≡◌, ◌*◌, List, length, Ok}
 use Rattle.mdb_datum.specs.Row.{Fields}
 use Rattle.mdb_schema.specs.Answer.{ask}
 use Rattle.mdb_schema.specs.History.{History, state_at}

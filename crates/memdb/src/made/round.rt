@@ -1,5 +1,5 @@
 //! The text of a client's rounds.
-ghost use Rattle.std.specs.Prelude.{◌≡◌, ◌≤◌, ◌<◌, ◌++◌, ◌∷◌, [], OnOk, codes, decimal};
+ghost use Rattle.std.specs.Prelude.{◌≡◌, ◌<◌, ◌++◌, ◌∷◌, [], OnOk, decimal};
 ghost use Rattle.memdb.specs.Made.{drawn, item_of, items_behind};
 ghost use Rattle.memdb.specs.inner.MadeText.{lines_text, insert_text, first_text, round_text, rounds_text};
 

@@ -1,6 +1,5 @@
 //! What is counted of the state that made clients leave.
-ghost use Rattle.std.specs.Prelude.{◌≡◌, ◌<◌, ◌+◌, ◌*◌, ◌^◌, IfOk, List, Ok, length};
-ghost use Rattle.mdb_datum.specs.Row.{Fields};
+ghost use Rattle.std.specs.Prelude.{◌≡◌, ◌<◌, ◌+◌, ◌*◌, ◌^◌, IfOk, Ok, length};
 ghost use Rattle.mdb_schema.specs.Answer.{ask};
 ghost use Rattle.mdb_schema.specs.declared.answer.Answer.TheVariants.{Many};
 ghost use Rattle.memdb.specs.Made.{Numbers, ages, all_items, last_items};

@@ -1,5 +1,5 @@
 -- The sessions end with all passes, and leave the state after one history.
-use Rattle.std.proofs.Common.{rules, ◌≡◌, ◌≤◌, ◌+◌, ◌++◌, ◌∙◌, ℕ, ap, subst, sym, length, List, OnOk, Result}
+use Rattle.std.proofs.Common.{rules, ◌≡◌, ◌≤◌, ◌+◌, ◌++◌, ◌∙◌, ap, subst, sym, length, List, OnOk, Result}
 use Rattle.std.specs.declared.alloc.AllocError.{AllocError}
 use Rattle.client_session.specs.Progress.{Progress}
 use Rattle.mem_txn.specs.Database.{AreOf, Callers}

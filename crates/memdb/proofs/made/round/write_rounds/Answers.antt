@@ -1,6 +1,6 @@
 use Rattle.std.proofs.Common.{arith, ◌≡◌, ap, ◌∙◌, suc, ◌+◌, ◌++◌}
 use Rattle.memdb.specs.Made.{drawn}
-use Rattle.memdb.proofs.Drawn.{round_more, text_of}
+use Rattle.memdb.proofs.DrawnNumbers.{round_more, text_of}
 use Rattle.memdb.proofs.made.round.write_rounds.Goals as goal
 
 pub loop-preserved : goal.loop-preserved

@@ -1,6 +1,6 @@
 use Rattle.std.proofs.Common.{◌≡◌, ◌++◌}
 use Rattle.memdb.specs.Made.{drawn}
-use Rattle.memdb.proofs.Drawn.{text_of}
+use Rattle.memdb.proofs.DrawnNumbers.{text_of}
 use Rattle.memdb.proofs.made.round.write_rounds.Given as goal
 
 -- so many rounds are written, each drawn in turn

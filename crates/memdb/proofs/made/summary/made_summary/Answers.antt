@@ -1,10 +1,10 @@
-use Rattle.std.proofs.Common.{arith, ◌≡◌, ◌∙◌, ap, subst, length, List, IfOk, ◌*◌}
+use Rattle.std.proofs.Common.{arith, ◌≡◌, ◌∙◌, ap, subst, length, List, IfOk}
 use Rattle.std.proofs.lemmas.Result.{IfOk-weaker}
 use Rattle.mdb_schema.specs.Schema.{DbSchema}
 use Rattle.client_script.specs.declared.line.Line.{Line}
-use Rattle.memdb.specs.Made.{Numbers, ages, all_items, four_lines, last_items, summary}
+use Rattle.memdb.specs.Made.{ages, four_lines, summary}
 use Rattle.memdb.specs.inner.LastState.{IsLast, IsLastMade}
-use Rattle.memdb.specs.inner.MadeInputs.{made_schema, made_scripts}
+use Rattle.memdb.specs.inner.MadeInputs.{made_scripts}
 use Rattle.memdb.proofs.LastMade.{as_many_scripts, last_made}
 use Rattle.memdb.proofs.made.summary.made_summary.Goals as goal
 

@@ -1,6 +1,4 @@
-use Rattle.std.proofs.Common.{◌≡◌, ◌<◌, ◌^◌, ◌∙◌, ap, sym, subst, List}
-use Rattle.mdb_datum.specs.Row.{Fields}
-use Rattle.memdb.specs.inner.MadeInputs.{ages_in}
+use Rattle.std.proofs.Common.{◌<◌, ◌^◌, ◌∙◌, sym, subst}
 use Rattle.memdb.proofs.AgesBounded.{ages_few}
 use Rattle.memdb.proofs.RowsTallied.{ages_told, commits_told, rows_told}
 use Rattle.memdb.proofs.made.tally.Tally.of.Goals as goal
