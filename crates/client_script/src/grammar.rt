@@ -1,8 +1,14 @@
 //! The command of a line, behind its first word.
 ghost use Rattle.std.specs.Prelude.{◌≡◌};
 ghost use Rattle.std.specs.Result.{result_map_both};
-ghost use Rattle.client_script.specs.Grammar.{alone, of_row, of_query, of_text, of_name, of_snapshot, watch_of, watch_in, of_watch, of_add, of_add_limit, wait_until, of_wait, command_of, command_in};
-ghost use Rattle.client_script.specs.inner.GrammarParts.{table_and_row, named_row, named_query, watch_kept, watch_by, asked_of, one_word, one_name, two_words, two_names, limit_words, words_behind, until_word};
+ghost use Rattle.client_script.specs.Grammar.{alone, of_row, of_query, of_text, of_name};
+ghost use Rattle.client_script.specs.Grammar.{of_snapshot, watch_of, watch_in, of_watch, of_add};
+ghost use Rattle.client_script.specs.Grammar.{of_add_limit, wait_until, of_wait, command_of};
+ghost use Rattle.client_script.specs.Grammar.{command_in};
+ghost use Rattle.client_script.specs.inner.GrammarParts.{table_and_row, named_row, named_query};
+ghost use Rattle.client_script.specs.inner.GrammarParts.{watch_kept, watch_by, asked_of, one_word};
+ghost use Rattle.client_script.specs.inner.GrammarParts.{one_name, two_words, two_names};
+ghost use Rattle.client_script.specs.inner.GrammarParts.{limit_words, words_behind, until_word};
 ghost use Rattle.client_script.specs.inner.LineAnswer.{Answers, rule_of};
 ghost use Rattle.client_script.specs.inner.WordView.{word_of, question_view, limit_words_view};
 ghost use Rattle.client_script.specs.declared.command.Command.TheVariants as commands;

@@ -1,7 +1,8 @@
 //! A script, from the bytes of its file.
 ghost use Rattle.std.specs.Prelude.{◌≡◌, ◌++◌, ◌≤◌, length, is_ok, if◌then◌else◌, option_to_list};
 ghost use Rattle.client_script.specs.Lines.{lines_of};
-ghost use Rattle.client_script.specs.Script.{line_limit, text_in, line_in, lines_in, script_in, AnswersScript};
+ghost use Rattle.client_script.specs.Script.{line_limit, text_in, line_in, lines_in, script_in};
+ghost use Rattle.client_script.specs.Script.{AnswersScript};
 ghost use Rattle.client_script.specs.inner.FirstLine.{is_silent};
 ghost use Rattle.client_script.specs.inner.ScriptAnswer.{Answers};
 

@@ -1,5 +1,6 @@
 //! A list of scripts.
-ghost use Rattle.std.specs.Prelude.{◌≡◌, ◌++◌, ◌∷◌, [], length, is_ok, if◌then◌else◌, option_to_list, slice_get, option_copied};
+ghost use Rattle.std.specs.Prelude.{◌≡◌, ◌++◌, ◌∷◌, [], length, is_ok, if◌then◌else◌};
+ghost use Rattle.std.specs.Prelude.{option_to_list, slice_get, option_copied};
 
 use crate::script::Script;
 use std::alloc::{AllocError, Global};

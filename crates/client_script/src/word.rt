@@ -1,7 +1,8 @@
 //! The words of a line.
 ghost use Rattle.std.specs.Prelude.{◌≡◌, reverse, not};
 ghost use Rattle.std.specs.List.{prefix_len};
-ghost use Rattle.client_script.specs.Lines.{is_blank, after_blanks, trimmed, without_return, first_word};
+ghost use Rattle.client_script.specs.Lines.{is_blank, after_blanks, trimmed, without_return};
+ghost use Rattle.client_script.specs.Lines.{first_word};
 ghost use Rattle.client_script.specs.inner.WordView.{word_of};
 
 /// A word, and what follows it without the blanks between.

@@ -1,5 +1,6 @@
 //! A list of passes.
-ghost use Rattle.std.specs.Prelude.{◌≡◌, ◌<◌, [], ◌∷◌, ◌++◌, length, IfOk, option_to_list, slice_get};
+ghost use Rattle.std.specs.Prelude.{◌≡◌, ◌<◌, [], ◌∷◌, ◌++◌, length, IfOk, option_to_list};
+ghost use Rattle.std.specs.Prelude.{slice_get};
 
 use crate::pass::Pass;
 use std::alloc::{AllocError, Global};

@@ -1,9 +1,11 @@
 //! What callers share, and the calls on it.
-ghost use Rattle.std.specs.Prelude.{IfOk, OnOk, OnErr, ◌≡◌, ◌+◌, ◌-◌, ◌<◌, ◌≤◌, ◌^◌, [], ◌∷◌, ◌++◌, length};
+ghost use Rattle.std.specs.Prelude.{IfOk, OnOk, OnErr, ◌≡◌, ◌+◌, ◌-◌, ◌<◌, ◌≤◌, ◌^◌, [], ◌∷◌, ◌++◌};
+ghost use Rattle.std.specs.Prelude.{length};
 ghost use Rattle.std.specs.Arc.{arc_value};
 ghost use mathlib.Core.List.{IsPrefix};
 ghost use Rattle.db_front.specs.Commits.{HasFirings, IsLastOf};
-ghost use Rattle.db_front.specs.Passes.{IsNumber, AllOrAllButLast, IfBegun, IfTaken, Won, WonAtLast, Lost};
+ghost use Rattle.db_front.specs.Passes.{IsNumber, AllOrAllButLast, IfBegun, IfTaken, Won};
+ghost use Rattle.db_front.specs.Passes.{WonAtLast, Lost};
 
 use crate::board::BoardTable;
 use crate::card::Card;

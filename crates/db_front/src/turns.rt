@@ -1,7 +1,9 @@
 //! Turns: taken, given back, and what is seen while one is held.
-ghost use Rattle.std.specs.Prelude.{IfOk, OnOk, OnErr, ◌≢◌, ◌≡◌, ◌+◌, ◌<◌, ◌≤◌, [], ◌∷◌, ◌++◌, None};
+ghost use Rattle.std.specs.Prelude.{IfOk, OnOk, OnErr, ◌≢◌, ◌≡◌, ◌+◌, ◌<◌, ◌≤◌, [], ◌∷◌, ◌++◌};
+ghost use Rattle.std.specs.Prelude.{None};
 ghost use Rattle.db_front.specs.Commits.{HasFirings};
-ghost use Rattle.db_front.specs.inner.Seats.{IsSized, IsFree, IsSame, Entered, Began, Sees, SeesBegun};
+ghost use Rattle.db_front.specs.inner.Seats.{IsSized, IsFree, IsSame, Entered, Began, Sees};
+ghost use Rattle.db_front.specs.inner.Seats.{SeesBegun};
 
 use crate::board::{Board, COUNT, DONE, Place, SHOWN, WRITER};
 use crate::card::Card;

@@ -1,5 +1,6 @@
 //! Documents as values.
-ghost use Rattle.std.specs.Prelude.{◌≡◌, ◌++◌, ◌∷◌, [], length, is_ok, if◌then◌else◌, slice_get, option_map, map};
+ghost use Rattle.std.specs.Prelude.{◌≡◌, ◌++◌, ◌∷◌, [], length, is_ok, if◌then◌else◌, slice_get};
+ghost use Rattle.std.specs.Prelude.{option_map, map};
 ghost use Rattle.std.specs.Slice.Iter.{iter_rest};
 ghost use Rattle.mdb_datum.specs.Canonical.{NamesRise};
 ghost use Rattle.mdb_datum.specs.Datum.{doc_of, field_of, items_of, members_of};

@@ -1,12 +1,15 @@
 //! From a text to a document: `serde_json` reads the value, and what it owns is moved out of it.
-ghost use Rattle.std.specs.Prelude.{◌≡◌, ◌⊎◌, ◌++◌, ◌∷◌, [], Some, None, option_map, IfSome, IfOk, IfErr, IsErr, IsErrOf, IsUtf8, is_ok, if◌then◌else◌, nat_lt, string_bytes};
+ghost use Rattle.std.specs.Prelude.{◌≡◌, ◌⊎◌, ◌++◌, ◌∷◌, [], Some, None, option_map, IfSome, IfOk};
+ghost use Rattle.std.specs.Prelude.{IfErr, IsErr, IsErrOf, IsUtf8, is_ok, if◌then◌else◌, nat_lt};
+ghost use Rattle.std.specs.Prelude.{string_bytes};
 ghost use Rattle.serde_json.specs.Data.{depth, items_depth, members_depth};
 ghost use Rattle.serde_json.specs.Read.{read};
 ghost use Rattle.serde_json.specs.View.{view, number_view, items_view, members_view};
 ghost use Rattle.mdb_datum.specs.Doc.{whole, object, doc_list, field_list};
 ghost use Rattle.mdb_datum.specs.Canonical.{FitsWord, IsRegular, AreRegular, IsCanonical};
 ghost use Rattle.mdb_datum.specs.Datum.{doc_of, items_of, members_of};
-ghost use Rattle.mdb_datum.specs.Reading.{reading, read_as, no_json, too_deep, not_whole, whole_number, whole_doc, whole_docs, whole_fields};
+ghost use Rattle.mdb_datum.specs.Reading.{reading, read_as, no_json, too_deep, not_whole};
+ghost use Rattle.mdb_datum.specs.Reading.{whole_number, whole_doc, whole_docs, whole_fields};
 
 use crate::{Datum, DocError, Items, Members, Text};
 use serde_json::{Map, Number, Value};

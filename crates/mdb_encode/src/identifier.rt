@@ -1,5 +1,6 @@
 //! Reading UUIDs (RFC 9562), and starts of them.
-ghost use Rattle.std.specs.Prelude.{◌≡◌, ◌+◌, ◌<◌, ◌≤◌, ◌∷◌, [], length, option_map, MatchOption, IfSome, None};
+ghost use Rattle.std.specs.Prelude.{◌≡◌, ◌+◌, ◌<◌, ◌≤◌, ◌∷◌, [], length, option_map, MatchOption};
+ghost use Rattle.std.specs.Prelude.{IfSome, None};
 ghost use Rattle.uuid.specs.Text.{parsed_hyphenated, hex_digit_value};
 ghost use Rattle.mdb_encode.specs.Arguments.{uuid_start, hex_bytes};
 ghost use Rattle.mdb_encode.specs.Bytes.{Bytes};

@@ -1,5 +1,6 @@
 //! Keys, and the keys of one row in one index.
-ghost use Rattle.std.specs.Prelude.{◌≡◌, ◌++◌, ◌∷◌, [], List, ℕ, length, is_ok, if◌then◌else◌, slice_get, option_map, IfOk};
+ghost use Rattle.std.specs.Prelude.{◌≡◌, ◌++◌, ◌∷◌, [], List, ℕ, length, is_ok, if◌then◌else◌};
+ghost use Rattle.std.specs.Prelude.{slice_get, option_map, IfOk};
 ghost use Rattle.std.specs.Slice.Iter.{iter_rest};
 
 use std::alloc::{AllocError, Global};

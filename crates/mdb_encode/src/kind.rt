@@ -1,5 +1,6 @@
 //! How an index makes its keys.
-ghost use Rattle.std.specs.Prelude.{◌≡◌, ◌++◌, ◌∷◌, ◌<◌, [], Some, length, is_ok, if◌then◌else◌, slice_get, option_map, map};
+ghost use Rattle.std.specs.Prelude.{◌≡◌, ◌++◌, ◌∷◌, ◌<◌, [], Some, length, is_ok, if◌then◌else◌};
+ghost use Rattle.std.specs.Prelude.{slice_get, option_map, map};
 ghost use Rattle.std.specs.Slice.Iter.{iter_rest};
 ghost use Rattle.mdb_encode.specs.Kind.{indexer_of, indexers_of};
 

@@ -3,7 +3,8 @@
 ghost use Rattle.std.specs.Prelude.{ℕ};
 ghost use Rattle.mdb_encode.specs.Indexer.{uint, sint, truth};
 ghost use Rattle.mdb_encode.specs.Keys.{unsigned_key, signed_key};
-ghost use Rattle.mdb_encode.specs.Laws.{KeepOrder, NoneInside, PrefixesBegin, TellsText, TellsMember, TellsUuid};
+ghost use Rattle.mdb_encode.specs.Laws.{KeepOrder, NoneInside, PrefixesBegin, TellsText};
+ghost use Rattle.mdb_encode.specs.Laws.{TellsMember, TellsUuid};
 
 /// Numbers of one width stand in the order of their keys, whether they have a sign or not.
 pub fn numbers_keep_their_order()

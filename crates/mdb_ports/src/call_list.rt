@@ -1,5 +1,6 @@
 //! The calls that are to fail.
-ghost use Rattle.std.specs.Prelude.{◌≡◌, ◌↔◌, [], ◌∷◌, ◌++◌, IsTrue, Contains, is_ok, if◌then◌else◌};
+ghost use Rattle.std.specs.Prelude.{◌≡◌, ◌↔◌, [], ◌∷◌, ◌++◌, IsTrue, Contains, is_ok};
+ghost use Rattle.std.specs.Prelude.{if◌then◌else◌};
 
 use std::alloc::{AllocError, Global};
 use std::marker::Model;

@@ -1,5 +1,6 @@
 //! The files of the host.
-ghost use Rattle.std.specs.Prelude.{◌≡◌, ◌<◌, ◌≤◌, ◌+◌, ◌-◌, ◌^◌, min, length, false, None, IfOk, IfSome, IsSomeAnd, OnErr};
+ghost use Rattle.std.specs.Prelude.{◌≡◌, ◌<◌, ◌≤◌, ◌+◌, ◌-◌, ◌^◌, min, length, false, None, IfOk};
+ghost use Rattle.std.specs.Prelude.{IfSome, IsSomeAnd, OnErr};
 ghost use Rattle.std.specs.Io.KnownBytes.{ReadConsumes};
 ghost use Rattle.mdb_ports.specs.Faults.{HasCause};
 ghost use Rattle.mdb_ports.specs.Files.{Fetches, IsAbsentIfReliable, untold};

@@ -1,5 +1,6 @@
 //! Files in memory.
-ghost use Rattle.std.specs.Prelude.{◌≡◌, ◌<◌, ◌≤◌, ◌-◌, ◌↔◌, ◌⊎◌, drop, min, length, IsErr, IfOk, IfSome, OnErr, None, Some};
+ghost use Rattle.std.specs.Prelude.{◌≡◌, ◌<◌, ◌≤◌, ◌-◌, ◌↔◌, ◌⊎◌, drop, min, length, IsErr, IfOk};
+ghost use Rattle.std.specs.Prelude.{IfSome, OnErr, None, Some};
 ghost use Rattle.mdb_ports.specs.Files.{Fetches, Fetched, IsAbsentIfReliable};
 ghost use Rattle.mdb_ports.specs.Faults.{HasCause};
 ghost use Rattle.mdb_ports.specs.Script.{IsFailingCall, is_empty};

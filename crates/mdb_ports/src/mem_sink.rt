@@ -1,5 +1,6 @@
 //! A sink in memory.
-ghost use Rattle.std.specs.Prelude.{◌≡◌, ◌<◌, ◌≤◌, ◌-◌, ◌↔◌, ◌⊎◌, [], min, length, take, IsErr, IfOk, OnErr, Some};
+ghost use Rattle.std.specs.Prelude.{◌≡◌, ◌<◌, ◌≤◌, ◌-◌, ◌↔◌, ◌⊎◌, [], min, length, take, IsErr};
+ghost use Rattle.std.specs.Prelude.{IfOk, OnErr, Some};
 ghost use Rattle.mdb_ports.specs.Sink.{Grows};
 ghost use Rattle.mdb_ports.specs.Faults.{HasCause};
 ghost use Rattle.mdb_ports.specs.Script.{IsFailingCall};

@@ -1,5 +1,6 @@
 //! The one file that is open, with its name.
-ghost use Rattle.std.specs.Prelude.{◌≡◌, ◌≢◌, ◌≤◌, ◌+◌, ◌-◌, ◌^◌, min, length, None, Ok, Some, IsOk, IsSomeAnd, IfOk, OnOk, OnErr, IfSome};
+ghost use Rattle.std.specs.Prelude.{◌≡◌, ◌≢◌, ◌≤◌, ◌+◌, ◌-◌, ◌^◌, min, length, None, Ok, Some};
+ghost use Rattle.std.specs.Prelude.{IsOk, IsSomeAnd, IfOk, OnOk, OnErr, IfSome};
 ghost use Rattle.std.specs.Io.KnownBytes.{ReadConsumes};
 ghost use Rattle.std.specs.Io.Seek.{MovesTo};
 

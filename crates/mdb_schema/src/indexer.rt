@@ -7,7 +7,9 @@ ghost use Rattle.mdb_encode.specs.Kind.{indexer_of, indexers_of};
 ghost use Rattle.mdb_encode.specs.Lawful.{IsLawful, IsScalar};
 ghost use Rattle.mdb_schema.specs.Broken.{needed, each};
 ghost use Rattle.mdb_schema.specs.inner.IndexerAnswer.{Answers};
-ghost use Rattle.mdb_schema.specs.Reading.{width_of, folded_indexer, sized, width_indexer, equals_indexer, kind_in, single_indexer, part_in, compound_indexer, whole_indexer, indexer_in};
+ghost use Rattle.mdb_schema.specs.Reading.{width_of, folded_indexer, sized, width_indexer};
+ghost use Rattle.mdb_schema.specs.Reading.{equals_indexer, kind_in, single_indexer, part_in};
+ghost use Rattle.mdb_schema.specs.Reading.{compound_indexer, whole_indexer, indexer_in};
 ghost use Rattle.mdb_schema.specs.Shapes.{folded_shape, plain_shape, equals_shape};
 ghost use Rattle.mdb_schema.specs.declared.schema_rule.SchemaRule.TheVariants as rule;
 

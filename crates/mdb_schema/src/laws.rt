@@ -1,6 +1,7 @@
 //! What is known of every state, as laws of the definitions. Each function does nothing: its
 //! contract is the law.
-ghost use Rattle.mdb_schema.specs.Laws.{StepKeeps, HistoryKeeps, EachKeyIsAnEntry, EachEntryIsAKey, EntriesRise, WipeLeaves, WipeOfNothing};
+ghost use Rattle.mdb_schema.specs.Laws.{StepKeeps, HistoryKeeps, EachKeyIsAnEntry, EachEntryIsAKey};
+ghost use Rattle.mdb_schema.specs.Laws.{EntriesRise, WipeLeaves, WipeOfNothing};
 
 /// A write that is accepted keeps a lawful state lawful, and so the state after any commits is
 /// lawful.

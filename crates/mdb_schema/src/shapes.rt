@@ -6,7 +6,10 @@ ghost use Rattle.std.specs.Str.{bytes_eq};
 ghost use Rattle.mdb_datum.specs.Doc.{member};
 ghost use Rattle.mdb_datum.specs.Datum.{doc_of, items_of, members_of};
 ghost use Rattle.mdb_schema.specs.Members.{object_fields, text_bytes};
-ghost use Rattle.mdb_schema.specs.Shapes.{has_only, flag_or_false, number_in, list_in, scalar_in, field_in, schema_shape, table_shape, index_shape, folded_shape, width_shape, plain_shape, equals_shape, compound_shape};
+ghost use Rattle.mdb_schema.specs.Shapes.{has_only, flag_or_false, number_in, list_in, scalar_in};
+ghost use Rattle.mdb_schema.specs.Shapes.{field_in, schema_shape, table_shape, index_shape};
+ghost use Rattle.mdb_schema.specs.Shapes.{folded_shape, width_shape, plain_shape, equals_shape};
+ghost use Rattle.mdb_schema.specs.Shapes.{compound_shape};
 
 use mdb_datum::{Datum, Items, Members, Text};
 

@@ -1,8 +1,10 @@
 //! The arguments of several parts, joined.
-ghost use Rattle.std.specs.Prelude.{◌≡◌, ◌++◌, ◌+◌, ◌<◌, ◌≤◌, ◌==◌, ◌≢◌, ◌&&◌, [], length, drop, ℕ, Ok, Err, OnOk};
+ghost use Rattle.std.specs.Prelude.{◌≡◌, ◌++◌, ◌+◌, ◌<◌, ◌≤◌, ◌==◌, ◌≢◌, ◌&&◌, [], length, drop, ℕ};
+ghost use Rattle.std.specs.Prelude.{Ok, Err, OnOk};
 ghost use Rattle.mdb_datum.specs.Datum.{items_of};
 ghost use Rattle.mdb_encode.specs.Answers.{AnswersKey};
-ghost use Rattle.mdb_encode.specs.inner.ArgReading.{arg_read, joined_form, exact_parts, prefix_parts, MeasuresArg, HasKey};
+ghost use Rattle.mdb_encode.specs.inner.ArgReading.{arg_read, joined_form, exact_parts};
+ghost use Rattle.mdb_encode.specs.inner.ArgReading.{prefix_parts, MeasuresArg, HasKey};
 ghost use Rattle.mdb_encode.specs.Arguments.{limited_arg, then_with};
 ghost use Rattle.mdb_encode.specs.Bytes.{Bytes};
 ghost use Rattle.mdb_encode.specs.Kind.{indexers_of, part_list};

@@ -2,7 +2,8 @@
 ghost use Rattle.std.specs.Prelude.{◌≡◌, ◌∷◌, [], if◌then◌else◌};
 ghost use Rattle.mdb_datum.specs.Datum.{doc_of};
 ghost use Rattle.mdb_encode.specs.inner.ArgReading.{arg_read};
-ghost use Rattle.mdb_encode.specs.Arguments.{text_arg, text_pre, uint_arg, sint_arg, truth_arg, uuid_arg, uuid_pre, raw_arg, raw_pre};
+ghost use Rattle.mdb_encode.specs.Arguments.{text_arg, text_pre, uint_arg, sint_arg, truth_arg};
+ghost use Rattle.mdb_encode.specs.Arguments.{uuid_arg, uuid_pre, raw_arg, raw_pre};
 ghost use Rattle.mdb_encode.specs.Kind.{indexer_of};
 ghost use Rattle.mdb_encode.specs.Lawful.{IsWidth, IsLawful, IsPart};
 ghost use Rattle.mdb_encode.specs.inner.ArgForms.{TakesOne};

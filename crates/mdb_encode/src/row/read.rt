@@ -2,7 +2,8 @@
 ghost use Rattle.std.specs.Prelude.{◌≡◌};
 ghost use Rattle.mdb_datum.specs.Datum.{doc_of, items_of, members_of};
 ghost use Rattle.mdb_datum.specs.Doc.{list, object, doc_list, field_list};
-ghost use Rattle.mdb_encode.specs.Keys.{str_keys, uint_keys, sint_keys, truth_keys, uuid_keys, is_blank, same_scalar};
+ghost use Rattle.mdb_encode.specs.Keys.{str_keys, uint_keys, sint_keys, truth_keys, uuid_keys};
+ghost use Rattle.mdb_encode.specs.Keys.{is_blank, same_scalar};
 ghost use Rattle.mdb_encode.specs.Lawful.{IsWidth};
 ghost use Rattle.mdb_encode.specs.inner.RowReading.{doc_at, keys_read};
 

@@ -23,18 +23,22 @@ struct FakeOutput {
 }
 
 impl Print for FakeOutput {
+    /// Writes nothing.
     fn print<D: Display + Drop>(&self, _value: D) -> io::Result<()> {
         Ok(())
     }
 
+    /// Writes nothing.
     fn println<D: Display + Drop>(&self, _value: D) -> io::Result<()> {
         Ok(())
     }
 
+    /// Writes nothing.
     fn write_all(&self, _bytes: &[u8]) -> io::Result<()> {
         Ok(())
     }
 
+    /// Takes some of the bytes, or is interrupted or fails.
     fn write_some(&self, bytes: &[u8]) -> io::Result<usize> {
         if interrupts(&self.interruptions) {
             return Err(io::Error::from(ErrorKind::Interrupted));
@@ -85,6 +89,7 @@ struct Pipe {
 }
 
 impl Read for Pipe {
+    /// Reads two bytes at most, or is interrupted.
     fn read(&mut self, buf: &mut [u8]) -> io::Result<usize> {
         if interrupts(&self.interruptions) {
             return Err(io::Error::from(ErrorKind::Interrupted));
@@ -95,6 +100,7 @@ impl Read for Pipe {
 }
 
 impl Seek for Pipe {
+    /// A pipe has no places.
     fn seek(&mut self, _to: SeekFrom) -> io::Result<u64> {
         Err(io::Error::from(ErrorKind::NotSeekable))
     }
