@@ -1,4 +1,5 @@
--- What the cells of held watches tell of their questions, and which cells a set has with one more member.
+-- What the cells of held watches tell of their questions, and which cells a set has with one more
+-- member.
 use Rattle.std.proofs.Common.{◌≡◌, ◌∙◌, ◌++◌, ◌&&◌, ℕ, Bool, true, false, List, [], ◌∷◌, Contains, refl, sym, ap, subst, arith, inl, inr, slice_get}
 use Rattle.std.specs.Prelude.{if◌then◌else◌, nat_eq}
 use Rattle.std.specs.Str.{bytes_eq}

@@ -165,8 +165,8 @@ one_held : (p : Caller) (b : Bool) (ms new : List Member) (kept : Option (List M
 one_held p true ms new kept is before e = subst (HoldsSet p) (some_once (Some ms) ms new refl e) is
 one_held p false ms new kept is before e = before new e
 
--- the set of a name, made where there was none, has one more watch, unless it had that watch's cell;
--- the reply tells how many members it then has
+-- the set of a name, made where there was none, has one more watch, unless it had that watch's
+-- cell; the reply tells how many members it then has
 pub record AddsTo (old new : Sets) (set name : Bytes) (h : HeldWatch) (r : own.Reply) : Type 0 where
   pub kept : (q : Bytes) → get_by_text new.kept q
       ≡ cond (bytes_eq set q) (Some (with_watch name h (members_in old set))) (get_by_text old.kept q)

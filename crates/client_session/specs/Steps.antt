@@ -39,7 +39,8 @@ awaited_by (command.WaitUntil set until) v = do
   Ok (p.0.members ++ p.1 ∷ [])
 awaited_by c v = Err []
 
--- a watch was quiet at one of the looks of a call: after a count of commits that the pass read in it
+-- a watch was quiet at one of the looks of a call: after a count of commits that the pass read in
+-- it
 pub record WasQuiet (old new : Caller) (w : Watch) : Type 0 where
   pub at : ℕ
   pub earlier : List ℕ
@@ -72,8 +73,8 @@ pub record Waits (old new : Progress) (c : Command) : Type 0 where
   pub tries : new.caller.tries ≡ old.caller.tries
   pub own : new.caller.own ≡ old.caller.own
 
--- a line is still to do: `write`, whose one try found the number of another of so many callers, or a
--- wait that has found nothing
+-- a line is still to do: `write`, whose one try found the number of another of so many callers, or
+-- a wait that has found nothing
 abbrev pub IsBlocked : ℕ → Progress → Progress → Command → Type 0
 IsBlocked callers old new command.Write = HasLost callers old.caller new.caller
 IsBlocked callers old new c = Waits old new c

@@ -1,5 +1,6 @@
 //! What a session has between two lines, and a line's turn.
-ghost use Rattle.std.specs.Prelude.{◌≡◌, IfOk, None, OnErr, false, is_some, option_copied, option_map};
+ghost use Rattle.std.specs.Prelude.{◌≡◌, IfOk, None, OnErr, false, is_some, option_copied};
+ghost use Rattle.std.specs.Prelude.{option_map};
 ghost use Rattle.mem_txn.specs.Database.{IsOf};
 ghost use Rattle.client_session.specs.Answered.{IsLater};
 ghost use Rattle.client_script.specs.declared.command.Command.TheVariants as command;

@@ -1,5 +1,6 @@
 //! Values under names.
-ghost use Rattle.std.specs.Prelude.{◌≡◌, None, OnErr, OnOk, Some, cond, is_some, option_map, string_bytes};
+ghost use Rattle.std.specs.Prelude.{◌≡◌, None, OnErr, OnOk, Some, cond, is_some, option_map};
+ghost use Rattle.std.specs.Prelude.{string_bytes};
 ghost use Rattle.std.specs.BTreeMap.{IsUnchanged, get_by_text};
 ghost use Rattle.std.specs.Str.{bytes_eq};
 ghost use Rattle.mdb_datum.specs.Bytes.{Bytes};

@@ -6,7 +6,8 @@ ghost use Rattle.client_session.specs.Answered.{IsLater};
 ghost use Rattle.client_script.specs.declared.command.Command.TheVariants as command;
 ghost use Rattle.client_session.specs.declared.open.Open.TheVariants as opens;
 ghost use Rattle.client_session.specs.declared.reply.Reply.TheVariants as replies;
-ghost use Rattle.client_session.specs.inner.OpenView.{caller_of, BeginsOrEnds, LooksAndTurns, Stands, TriesWrite, TurnsTo};
+ghost use Rattle.client_session.specs.inner.OpenView.{caller_of, BeginsOrEnds, LooksAndTurns};
+ghost use Rattle.client_session.specs.inner.OpenView.{Stands, TriesWrite, TurnsTo};
 ghost use Rattle.client_session.specs.inner.ReplyOf.{reply_of};
 
 use crate::reply::Reply;

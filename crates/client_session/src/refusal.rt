@@ -1,7 +1,8 @@
 //! The rules behind the errors of a write transaction.
 ghost use Rattle.std.specs.Prelude.{◌≡◌, IsErr, MatchOption, Ok};
 ghost use Rattle.client_session.specs.declared.reply.Reply.TheVariants as replies;
-ghost use Rattle.client_session.specs.inner.Refusal.{question_rule, txn_question_rule, write_rule, wipe_rule};
+ghost use Rattle.client_session.specs.inner.Refusal.{question_rule, txn_question_rule, write_rule};
+ghost use Rattle.client_session.specs.inner.Refusal.{wipe_rule};
 
 use crate::reply::Reply;
 use crate::rule::Rule;

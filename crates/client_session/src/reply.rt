@@ -2,7 +2,8 @@
 ghost use Rattle.std.specs.Prelude.{◌≡◌, ◌++◌, OnErr, OnOk, length, decimal, codes};
 ghost use Rattle.mdb_datum.specs.Written.{row_text};
 ghost use Rattle.mem_txn.specs.Transactions.{deferred_items};
-ghost use Rattle.client_script.specs.Reply.{answer_text, did_lines, line_text, reply_text, row_lines};
+ghost use Rattle.client_script.specs.Reply.{answer_text, did_lines, line_text, reply_text};
+ghost use Rattle.client_script.specs.Reply.{row_lines};
 ghost use Rattle.mdb_schema.specs.Schema.{DbSchema};
 ghost use Rattle.client_session.specs.inner.ReplyOf.{reply_of, IsNumbered, IsWord};
 ghost use Rattle.client_session.specs.inner.RuleName.{rule_name};

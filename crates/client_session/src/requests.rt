@@ -2,7 +2,8 @@
 ghost use Rattle.std.specs.Prelude.{◌≡◌, IfOk};
 ghost use Rattle.client_script.specs.declared.command.Command.TheVariants as command;
 ghost use Rattle.client_session.specs.inner.DeskView.{Presents};
-ghost use Rattle.client_session.specs.inner.OpenView.{caller_of, transaction_of, IsOpen, Stands, TurnsTo};
+ghost use Rattle.client_session.specs.inner.OpenView.{caller_of, transaction_of, IsOpen, Stands};
+ghost use Rattle.client_session.specs.inner.OpenView.{TurnsTo};
 ghost use Rattle.client_session.specs.inner.ReplyOf.{reply_of};
 
 use crate::kept::Kept;

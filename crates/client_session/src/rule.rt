@@ -1,7 +1,9 @@
 //! The rules that a line may break, and their names.
 ghost use Rattle.std.specs.Prelude.{◌≡◌, ◌++◌, OnOk, option_map};
 ghost use Rattle.mdb_schema.specs.Schema.{DbSchema};
-ghost use Rattle.client_session.specs.inner.RuleName.{IsSessions, index_at, rule_name, question_name, write_name, write_place, index_part_at};
+ghost use Rattle.client_session.specs.inner.RuleName.{IsSessions, index_at, rule_name};
+ghost use Rattle.client_session.specs.inner.RuleName.{question_name, write_name, write_place};
+ghost use Rattle.client_session.specs.inner.RuleName.{index_part_at};
 
 use mdb_datum::Text;
 use mdb_schema::{AskError, Schema, WriteError};

@@ -99,7 +99,8 @@ fn answer_line<R: Wait, G: Gate>(
     requires own { IsOf db.now (caller_of desk.open) }
     requires stands { Stands desk.open }
     requires holds { Holds (caller_of desk.open) desk.watching }
-    ensures answered { OnOk result.1 (AnswersLine line.now desk result.0 text.old.items text.new.items) }
+    ensures answered { OnOk result.1
+        (AnswersLine line.now desk result.0 text.old.items text.new.items) }
     ensures kept { OnErr result.1 (text.new.items ≡ text.old.items) }
     ensures stopped { OnErr result.1 (StopsLine line.now desk (caller_of result.0.open)) }
     ensures caller { IsLater (caller_of desk.open) (caller_of result.0.open) }

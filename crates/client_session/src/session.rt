@@ -67,9 +67,9 @@ impl Session {
     }
 
     /// Carries out every line that is left, and keeps the answers. A transaction that the script
-    /// leaves open is aborted. It waits for the writer's turn at `write`, and at a wait till a watch
-    /// fires, which may be never. After `AllocError` an open transaction was aborted, unless its
-    /// `commit` was made and found no memory for the answer; the answers kept are those to some
+    /// leaves open is aborted. It waits for the writer's turn at `write`, and at a wait till a
+    /// watch fires, which may be never. After `AllocError` an open transaction was aborted, unless
+    /// its `commit` was made and found no memory for the answer; the answers kept are those to some
     /// first lines, and each later call answers it again.
     pub fn run<R: Wait, G: Gate>(&mut self, rt: &R, db: &Db, gate: &G) -> Result<(), AllocError>
         requires own { IsOf db.now self.old.caller }
@@ -99,10 +99,10 @@ impl Session {
     }
 
     /// Carries out one line, and keeps its answer; at `write` it makes one try for the writer's
-    /// turn, and at a wait it looks once at each watch. Where no line is left, an open transaction is
-    /// aborted. After `AllocError` an open transaction was aborted, unless the line is its `commit`,
-    /// which was made and found no memory for the answer; the answers are as before, and each later
-    /// call answers it again.
+    /// turn, and at a wait it looks once at each watch. Where no line is left, an open transaction
+    /// is aborted. After `AllocError` an open transaction was aborted, unless the line is its
+    /// `commit`, which was made and found no memory for the answer; the answers are as before, and
+    /// each later call answers it again.
     pub fn step<R: Wait>(&mut self, rt: &R, db: &Db) -> Result<Stepped, AllocError>
         requires own { IsOf db.now self.old.caller }
         ensures told { Tells self.old self.new }

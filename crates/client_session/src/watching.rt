@@ -8,8 +8,10 @@ ghost use Rattle.client_script.specs.declared.command.Command.TheVariants as com
 ghost use Rattle.client_session.specs.inner.ReplyOf.{reply_of};
 ghost use Rattle.client_session.specs.inner.SetsKept.{IsThere, PutsBack, RepliesWoken};
 ghost use Rattle.client_session.specs.inner.SetsKept.{awaited_in, look_reply, members_in};
-ghost use Rattle.client_session.specs.inner.WatchingView.{AsksWatch, HasLookedOn, Holds, IsSeenIn, Knows};
-ghost use Rattle.client_session.specs.inner.WatchingView.{TellsLook, TellsOnce, WatchTold, wait_for};
+ghost use Rattle.client_session.specs.inner.WatchingView.{AsksWatch, HasLookedOn, Holds, IsSeenIn};
+ghost use Rattle.client_session.specs.inner.WatchingView.{Knows};
+ghost use Rattle.client_session.specs.inner.WatchingView.{TellsLook, TellsOnce, WatchTold};
+ghost use Rattle.client_session.specs.inner.WatchingView.{wait_for};
 ghost use Rattle.mem_txn.specs.Checked.{IdsTellCells};
 ghost use Rattle.mem_txn.specs.Database.{Caller, IsOf};
 
@@ -44,8 +46,8 @@ impl Watching {
         }
     }
 
-    /// Asks a question of a state that is read, and keeps the answer's watch under a name. `reading`
-    /// is `None` where what is asked isn't committed.
+    /// Asks a question of a state that is read, and keeps the answer's watch under a name.
+    /// `reading` is `None` where what is asked isn't committed.
     pub(crate) fn ask(
         &mut self,
         alloc: Global,
@@ -138,8 +140,8 @@ impl Watching {
     ) -> Result<Reply, AllocError>
         requires own { IsOf db.now pass.old }
         requires holds { Holds pass.old self.now }
-        ensures told { IfOk result (λ r. TellsLook self.now (command.Check name.now) pass.old pass.new
-            (reply_of pass.old.schema r)) }
+        ensures told { IfOk result (λ r. TellsLook self.now (command.Check name.now)
+            pass.old pass.new (reply_of pass.old.schema r)) }
         ensures looked { HasLookedOn pass.old pass.new }
     {
         let Some(held) = self.watches.get(name) else {

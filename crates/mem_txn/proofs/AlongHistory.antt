@@ -37,7 +37,8 @@ pub record FiresThere (t u : TableRows) (q : Query) (c : Cell) : Type 0 where
   pub cell : cell_of t.trees at.place (looks_up at.index q) at.key ≡ Some c
   pub fires : FiresAt at.place c t.trees u.trees
 
--- in the table of one name: the cell is gone from that tree, or it is found again with the same answer
+-- in the table of one name: the cell is gone from that tree, or it is found again with the same
+-- answer
 Holds : TableRows → TableRows → Query → Cell → Asked Lookup → Type 0
 Holds t u q c told =
     FiresThere t u q c ⊎ ((looked_up u.trees q told ≡ Some c) × (ask_rows u.schema u.rows q ≡ ask_rows t.schema t.rows q))

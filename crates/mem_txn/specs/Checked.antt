@@ -64,8 +64,8 @@ AnswersCheck old new h l = HasLooked old new (number_of l) × Tells new h l
 abbrev pub HeldStays : Caller → Type 0
 HeldStays p = (old : Caller) (h : HeldWatch) → HasSeen old p → IsHeldBy old h → IsHeldBy p h
 
--- one caller has seen a beginning of what another has seen, of the same database: as before a commit
--- of its own
+-- one caller has seen a beginning of what another has seen, of the same database: as before a
+-- commit of its own
 pub record IsBeginning (old new : Caller) : Type 0 where
   pub schema : new.schema ≡ old.schema
   pub book : new.book ≡ old.book

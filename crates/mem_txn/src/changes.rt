@@ -291,7 +291,8 @@ fn next_version(
       writes = writes.items;
       ids = tables.ids;
     }) }
-    ensures within { IfOk result (λ next. let r = next.ready in All (AreWithin tables.ids) r.trees) }
+    ensures within { IfOk result
+        (λ next. let r = next.ready in All (AreWithin tables.ids) r.trees) }
     ensures ends { IfOk result
         (λ next. EndWith tables.tables (map standing tables.tables) next.gone.items) }
     ensures base { IsBase pass.now }

@@ -73,7 +73,8 @@ impl TxnTable {
         requires book { front.now.book ≡ ids.old.book }
         requires within { IsWithin ids.old self.old }
         ensures answers { AnswersRows gives_replaced (row.now ∷ [])
-            (put_row self.old.schema row.now self.old.rows) result ids.old ids.new self.old self.new }
+            (put_row self.old.schema row.now self.old.rows)
+            result ids.old ids.new self.old self.new }
         ensures within { IsWithin ids.new self.new }
         ensures book { ids.new.book ≡ ids.old.book }
         ensures later { ids.old.next ≤ ids.new.next }

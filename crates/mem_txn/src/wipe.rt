@@ -70,7 +70,8 @@ impl Wipe {
         ensures refused { IfErr result (λ e. (e ≡ Memory) ⊎ (ids.new ≡ ids.old)) }
         ensures drawn { AreDrawn front.now ids.old ids.new table.old.trees table.new.trees }
         ensures written { OnOk result (Writes
-            (rows_told (wiped_by self table.old.schema table.old.rows query.now)) table.old table.new) }
+            (rows_told (wiped_by self table.old.schema table.old.rows query.now))
+            table.old table.new) }
     {
         match self {
             Wipe::Listed => table.take_all(front, ids, query),

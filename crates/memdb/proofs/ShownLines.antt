@@ -1,5 +1,5 @@
--- Lines of printed characters, each of which ends with a line feed: they are UTF-8, and the lines of
--- their text are these.
+-- Lines of printed characters, each of which ends with a line feed: they are UTF-8, and the lines
+-- of their text are these.
 use Rattle.std.proofs.Common.{arith, ◌≡◌, refl, ap, ◌∙◌, ℕ, ◌<◌, ◌≤◌, List, [], ◌∷◌, ◌++◌, Bool, true, ne_eqb, IsUtf8}
 use Rattle.std.specs.Prelude.{◌&&◌, if◌then◌else◌, nat_le, nat_lt, ⊤}
 use Rattle.std.specs.List.{list_all}

@@ -1,5 +1,5 @@
--- A history of made clients is small: its commits and their writes are together at most one for each
--- line.
+-- A history of made clients is small: its commits and their writes are together at most one for
+-- each line.
 use Rattle.std.proofs.Common.{arith, ◌≡◌, refl, ap, subst, ◌∙◌, ℕ, zero, suc, ◌+◌, ◌-◌, ◌*◌, ◌<◌, ◌≤◌, ◌==◌, inl, inr, List, [], ◌∷◌, ◌++◌, length, map, take, Bool, true, false, Option, Some, None, Ok, Err, slice_get, eq-eqb}
 use Rattle.std.specs.Bool.{⊤}
 use Rattle.std.specs.Prelude.{codes, if◌then◌else◌, nat_lt, reverse}
@@ -101,8 +101,8 @@ open_writes (reading m) = 0
 open_writes (writing t) = length t.writes
 
 module _ (schema : DbSchema) (H : History) (client : ℕ) (v : Client) where
-  -- the commit that is told and the writes that are then open weigh at most one more than the writes
-  -- that were open
+  -- the commit that is told and the writes that are then open weigh at most one more than the
+  -- writes that were open
   Grows : Reply × Client → Type 0
   Grows p = IsEntry H client v.transaction p.0
       → weigh (map (commit_at H) (number_printed p.0)) + open_writes p.1.transaction

@@ -1,5 +1,6 @@
 //! The beginning of a wipe: the rows that it lists, and the cut of their index.
-ghost use Rattle.std.specs.Prelude.{◌≡◌, ◌⊎◌, ◌+◌, ◌*◌, ◌<◌, ◌≤◌, ◌^◌, true, false, IfErr, IfOk, MatchResult, Ok, OnOk};
+ghost use Rattle.std.specs.Prelude.{◌≡◌, ◌⊎◌, ◌+◌, ◌*◌, ◌<◌, ◌≤◌, ◌^◌, true, false, IfErr, IfOk};
+ghost use Rattle.std.specs.Prelude.{MatchResult, Ok, OnOk};
 ghost use Rattle.std.specs.Prelude.{Contains, [], ◌∷◌, ◌++◌, if◌then◌else◌, length, map, slice_get};
 ghost use Rattle.mdb_datum.specs.Row.{Fields};
 ghost use Rattle.mdb_schema.specs.Wipe.{once};

@@ -1,5 +1,6 @@
 //! The removal of the rows that an index lists under a key.
-ghost use Rattle.std.specs.Prelude.{◌≡◌, ◌⊎◌, ◌+◌, ◌*◌, ◌<◌, ◌≤◌, ◌^◌, ◌∷◌, [], Ok, false, length, map};
+ghost use Rattle.std.specs.Prelude.{◌≡◌, ◌⊎◌, ◌+◌, ◌*◌, ◌<◌, ◌≤◌, ◌^◌, ◌∷◌, [], Ok, false, length};
+ghost use Rattle.std.specs.Prelude.{map};
 ghost use Rattle.std.specs.Prelude.{IfErr, MatchResult, OnOk, slice_get};
 ghost use Rattle.mdb_schema.specs.State.{id_key};
 ghost use Rattle.mdb_schema.specs.Wipe.{once};
@@ -9,7 +10,8 @@ ghost use Rattle.table_index.specs.Table.{AreLeft};
 ghost use Rattle.table_index.specs.declared.wipe_error.WipeError.TheVariants.{Memory};
 ghost use Rattle.table_index.specs.inner.Drawn.{AreReady, HaveDrawn, ids_of_row};
 ghost use Rattle.table_index.specs.inner.Held.{AreSound, AreTrees, nodes_of, rows_held};
-ghost use Rattle.table_index.specs.inner.Wipes.{GivesUp, IsMoved, IsOut, IsStored, IsTaking, IsWiped};
+ghost use Rattle.table_index.specs.inner.Wipes.{GivesUp, IsMoved, IsOut, IsStored, IsTaking};
+ghost use Rattle.table_index.specs.inner.Wipes.{IsWiped};
 ghost use Rattle.table_index.specs.inner.Wipes.{is_there, listed_at};
 ghost use Rattle.table_index.specs.inner.Writes.{WroteRows};
 

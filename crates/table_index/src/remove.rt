@@ -1,5 +1,6 @@
 //! The removal of a row.
-ghost use Rattle.std.specs.Prelude.{◌≡◌, ◌⊎◌, ◌+◌, ◌*◌, ◌≤◌, ◌^◌, ◌∷◌, [], false, Ok, Some, None, IfOk, OnOk};
+ghost use Rattle.std.specs.Prelude.{◌≡◌, ◌⊎◌, ◌+◌, ◌*◌, ◌≤◌, ◌^◌, ◌∷◌, [], false, Ok, Some, None};
+ghost use Rattle.std.specs.Prelude.{IfOk, OnOk};
 ghost use Rattle.std.specs.Prelude.{IfErr, MatchResult, length, map};
 ghost use Rattle.mdb_schema.specs.State.{row_at};
 ghost use Rattle.mdb_schema.specs.Tests.{each};

@@ -1,5 +1,6 @@
 //! A row put into the trees of a table, in the place of another.
-ghost use Rattle.std.specs.Prelude.{◌≡◌, ◌⊎◌, ◌+◌, ◌*◌, ◌≤◌, ◌^◌, false, Contains, OnOk, length, map};
+ghost use Rattle.std.specs.Prelude.{◌≡◌, ◌⊎◌, ◌+◌, ◌*◌, ◌≤◌, ◌^◌, false, Contains, OnOk, length};
+ghost use Rattle.std.specs.Prelude.{map};
 ghost use Rattle.mdb_schema.specs.inner.Edits.{put_all, stale_keys, without_all};
 ghost use Rattle.radix_txn.specs.Txn.{txn_pairs};
 ghost use Rattle.table_index.specs.inner.Drawn.{AreReady, HasDrawn, HaveDrawn, IsReady};

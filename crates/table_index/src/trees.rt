@@ -1,5 +1,6 @@
 //! Lists of trees, one an index.
-ghost use Rattle.std.specs.Prelude.{◌≡◌, ◌+◌, ◌≤◌, ◌^◌, [], ◌∷◌, ◌++◌, All, List, IfOk, OnOk, false, map, replicate};
+ghost use Rattle.std.specs.Prelude.{◌≡◌, ◌+◌, ◌≤◌, ◌^◌, [], ◌∷◌, ◌++◌, All, List, IfOk, OnOk};
+ghost use Rattle.std.specs.Prelude.{false, map, replicate};
 ghost use Rattle.radix_node.specs.Cells.{AreApart};
 ghost use Rattle.radix_node.specs.Nodes.{pairs_of};
 ghost use Rattle.watch_word.specs.Logs.{Cell};

@@ -1,8 +1,10 @@
 //! Wipes: the removal of all rows that a question lists.
-ghost use Rattle.std.specs.Prelude.{◌≡◌, ◌⊎◌, ◌+◌, ◌*◌, ◌≤◌, ◌^◌, Ok, List, false, IfErr, MatchResult, OnOk, length};
+ghost use Rattle.std.specs.Prelude.{◌≡◌, ◌⊎◌, ◌+◌, ◌*◌, ◌≤◌, ◌^◌, Ok, List, false, IfErr};
+ghost use Rattle.std.specs.Prelude.{MatchResult, OnOk, length};
 ghost use Rattle.mdb_datum.specs.Row.{Fields};
 ghost use Rattle.mdb_schema.specs.Wipe.{wiped_rows, wiped_rows_by_prefix};
-ghost use Rattle.table_index.specs.Table.{AnswersTake, AnswersWipe, AreAllBelow, AreAllOf, AreDrawn, AreLeft};
+ghost use Rattle.table_index.specs.Table.{AnswersTake, AnswersWipe, AreAllBelow, AreAllOf};
+ghost use Rattle.table_index.specs.Table.{AreDrawn, AreLeft};
 ghost use Rattle.table_index.specs.Written.{Writes, rows_told};
 ghost use Rattle.table_index.specs.Table.{rows_asked};
 ghost use Rattle.table_index.specs.declared.wipe_error.WipeError.TheVariants.{Memory};

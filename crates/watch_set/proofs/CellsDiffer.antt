@@ -1,4 +1,5 @@
--- The members of a set by their cells: a search through them, and that one more leaves them distinct.
+-- The members of a set by their cells: a search through them, and that one more leaves them
+-- distinct.
 use Rattle.std.proofs.Common.{◌≡◌, ◌∙◌, ◌<◌, ◌++◌, ℕ, zero, suc, List, [], ◌∷◌, Bool, true, false, drop, get_or, length, refl, sym, ap, arith}
 use Rattle.std.specs.Prelude.{if◌then◌else◌, ◌&&◌, nat_eq}
 use Rattle.std.specs.Str.{bytes_eq}

@@ -1,4 +1,5 @@
--- A chain of quiet checks guards the answer of each watch in the history that the pass has seen at its end.
+-- A chain of quiet checks guards the answer of each watch in the history that the pass has seen at
+-- its end.
 use Rattle.std.proofs.Common.{◌≡◌, ◌∙◌, ◌-◌, ◌<◌, ◌≤◌, ◌++◌, ℕ, zero, suc, List, [], ◌∷◌, length, slice_get, append_assoc, append-nil, refl, sym, ap, subst, arith}
 use mathlib.Core.List.{IsPrefix}
 use Rattle.mdb_schema.specs.Answer.{ask}

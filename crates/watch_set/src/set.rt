@@ -3,7 +3,8 @@ ghost use Rattle.std.specs.Prelude.{◌≡◌, ◌<◌, [], IfOk, IfSome, OnErr,
 ghost use Rattle.std.specs.Prelude.{option_copied, option_map, slice_get};
 ghost use Rattle.mem_txn.specs.Checked.{IsHeldBy};
 ghost use Rattle.mem_txn.specs.Database.{Caller, HasSeen, IsOf};
-ghost use Rattle.watch_set.specs.Checks.{AnswersLook, AnswersWait, HasChecked, KeepsHeld, OnlyLooks, with_until};
+ghost use Rattle.watch_set.specs.Checks.{AnswersLook, AnswersWait, HasChecked, KeepsHeld};
+ghost use Rattle.watch_set.specs.Checks.{OnlyLooks, with_until};
 ghost use Rattle.watch_set.specs.Members.{AreDistinct, AreHeldBy, cell_name, chosen, has_cell};
 ghost use Rattle.watch_set.specs.Members.{watches_of, with_watch};
 
