@@ -1,17 +1,14 @@
 -- Edges that are put together from parts of others.
-use Rattle.std.proofs.Common.{◌≡◌, ◌+◌, ◌++◌, ◌∷◌, ◌∙◌, ℕ, List, [], map, take, drop, sym, ap, append_assoc}
-use Rattle.std.proofs.lemmas.List.{drop-map, map-append, take-map}
+use Rattle.std.proofs.Common.{◌≡◌, ◌+◌, ◌++◌, ◌∷◌, ◌∙◌, ℕ, List, map, take, drop, sym, ap}
+use Rattle.std.proofs.lemmas.List.{drop-map, take-map}
 
 -- the front of es, an element, and the back of es
-pub spliced_map : {A B : Type 0} (f : A → B) (es front pushed all : List A) (e : A) (start end : ℕ)
-    → map f front ≡ map f (take start es) → pushed ≡ front ++ e ∷ [] → map f all ≡ map f pushed ++ map f (drop end es)
+pub spliced_map : {A B : Type 0} (f : A → B) (es all : List A) (e : A) (start end : ℕ)
+    → map f all ≡ map f (take start es) ++ f e ∷ map f (drop end es)
     → map f all ≡ take start (map f es) ++ f e ∷ drop end (map f es)
-spliced_map {A} {B} f es front pushed all e start end is_front is_pushed is_all =
+spliced_map {A} {B} f es all e start end is_all =
     is_all
-    ∙ ap (λ (xs : List A). map f xs ++ map f (drop end es)) is_pushed
-    ∙ ap (λ (ps : List B). ps ++ map f (drop end es)) (map-append f front (e ∷ []))
-    ∙ append_assoc (map f front) (f e ∷ []) (map f (drop end es))
-    ∙ ap (λ (ps : List B). ps ++ f e ∷ map f (drop end es)) (is_front ∙ sym (take-map f start es))
+    ∙ ap (λ (ps : List B). ps ++ f e ∷ map f (drop end es)) (sym (take-map f start es))
     ∙ ap (λ (ps : List B). take start (map f es) ++ f e ∷ ps) (sym (drop-map f end es))
 
 -- the front of es and the back after one element

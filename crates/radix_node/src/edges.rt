@@ -125,10 +125,9 @@ impl Edges {
         ensures cells { IfOk result (λ e. cell_edges e
             ≡ take start (cell_edges self.now) ++ led_node edge ∷ drop end (cell_edges self.now)) }
     {
-        let mut edges = Vec::with_capacity(self.allocator(), self.edges.len() - (end - start) + 1)?;
-        push_shared(&mut edges, &self.edges[..start])?;
-        edges.push(edge)?;
-        push_shared(&mut edges, &self.edges[end..])?;
+        let room = self.edges.len() - (end - start) + 1;
+        let mut edges = Vec::with_capacity(self.allocator(), room)?;
+        push_around(&mut edges, &self.edges[..start], edge, &self.edges[end..])?;
         Ok(Edges { edges })
     }
 
@@ -157,6 +156,26 @@ impl Edges {
         push_shared(&mut edges, &self.edges)?;
         Ok(Edges { edges })
     }
+}
+
+/// Adds second owners of the front edges' nodes at the end, then the edge, and then second owners
+/// of the back edges' nodes.
+fn push_around(
+    into: &mut Vec<Edge>,
+    front: &[Edge],
+    edge: Edge,
+    back: &[Edge],
+) -> Result<(), AllocError>
+    ensures edges { IfOk result (λ _. map edge_node into.new.items
+        ≡ map edge_node into.old.items ++ map edge_node front.now
+        ++ edge_node edge ∷ map edge_node back.now) }
+    ensures cells { IfOk result (λ _. map led_node into.new.items
+        ≡ map led_node into.old.items ++ map led_node front.now
+        ++ led_node edge ∷ map led_node back.now) }
+{
+    push_shared(into, front)?;
+    into.push(edge)?;
+    push_shared(into, back)
 }
 
 /// Adds second owners of the edges' nodes at the end.

@@ -161,10 +161,15 @@ fn changes_one_part(node: &Node, alloc: Global) -> Result<bool, AllocError> {
     Ok(has_prefix(node, alloc)? && has_no_edges(node, alloc)?)
 }
 
+/// The same of a node with a leaf.
+fn leafed_changes(alloc: Global) -> Result<bool, Fail> {
+    let node = leafed(alloc, "{\"n\":1}", 2, 1)?;
+    Ok(changes_one_part(node.node(), alloc)?)
+}
+
 #[test]
 fn a_copy_changes_one_part(rt: HostRuntime) -> Result<(), Fail> {
-    let node = leafed(rt.alloc(), "{\"n\":1}", 2, 1)?;
-    assert!(rt; changes_one_part(node.node(), rt.alloc())?);
+    assert!(rt; leafed_changes(rt.alloc())?);
     Ok(())
 }
 
@@ -186,10 +191,15 @@ fn gets_leaf(alloc: Global, row: &Row) -> Result<bool, AllocError> {
     has_leaf(node.node(), alloc, row)
 }
 
+/// The same of a row that a text reads as.
+fn gets_leaf_by(alloc: Global, text: &str) -> Result<bool, Fail> {
+    let row = row(alloc, text)?;
+    Ok(gets_leaf(alloc, &row)?)
+}
+
 #[test]
 fn a_copy_has_another_leaf(rt: HostRuntime) -> Result<(), Fail> {
-    let row = row(rt.alloc(), "{\"n\":2}")?;
-    assert!(rt; gets_leaf(rt.alloc(), &row)?);
+    assert!(rt; gets_leaf_by(rt.alloc(), "{\"n\":2}")?);
     Ok(())
 }
 
@@ -213,9 +223,14 @@ fn lists_each(node: &Node, alloc: Global) -> Result<bool, AllocError> {
     Ok(true)
 }
 
+/// The same of a node whose cell has the id 3, and its leaf's cell the id 5.
+fn lists_own(alloc: Global) -> Result<bool, Fail> {
+    let node = leafed(alloc, "{}", 5, 3)?;
+    Ok(lists_each(node.node(), alloc)?)
+}
+
 #[test]
 fn cells_are_listed_below_a_bound(rt: HostRuntime) -> Result<(), Fail> {
-    let node = leafed(rt.alloc(), "{}", 5, 3)?;
-    assert!(rt; lists_each(node.node(), rt.alloc())?);
+    assert!(rt; lists_own(rt.alloc())?);
     Ok(())
 }

@@ -13,17 +13,17 @@ use Rattle.radix_node.proofs.edges.Edges.spliced.Goals as goal
 pub returns-clause-edges : goal.returns-clause-edges
 returns-clause-edges c =
     let es = (out-Edges c.args.self.now).edges.items in
-    let front : map edge_node c.push_shared.new.into.items ≡ map edge_node (take c.args.start es) = grind (arith, common_steps) in
-    let back : map edge_node c.push_shared-2.new.into.items ≡ map edge_node c.push.new.self.items ++ map edge_node (drop c.args.end es) = grind (arith, common_steps, take_rest) in
-    subst (λ (ns : List PlainNode). edges_of (roll-Edges (record { edges = c.push_shared-2.new.into })) ≡ take c.args.start ns ++ edge_node c.args.edge ∷ drop c.args.end ns) (sym (edges_out c.args.self.now))
-    (edges_roll (record { edges = c.push_shared-2.new.into })
-    ∙ spliced_map edge_node es c.push_shared.new.into.items c.push.new.self.items c.push_shared-2.new.into.items c.args.edge c.args.start c.args.end front c.in_ok-push.ensures.items back)
+    let all = c.push_around.new.into.items in
+    let around : map edge_node all ≡ map edge_node (take c.args.start es) ++ edge_node c.args.edge ∷ map edge_node (drop c.args.end es) = grind (arith, common_steps, take_rest) in
+    subst (λ (ns : List PlainNode). edges_of (roll-Edges (record { edges = c.push_around.new.into })) ≡ take c.args.start ns ++ edge_node c.args.edge ∷ drop c.args.end ns) (sym (edges_out c.args.self.now))
+    (edges_roll (record { edges = c.push_around.new.into })
+    ∙ spliced_map edge_node es all c.args.edge c.args.start c.args.end around)
 
 pub returns-clause-cells : goal.returns-clause-cells
 returns-clause-cells c =
     let es = (out-Edges c.args.self.now).edges.items in
-    let front : map led_node c.push_shared.new.into.items ≡ map led_node (take c.args.start es) = grind (arith, common_steps) in
-    let back : map led_node c.push_shared-2.new.into.items ≡ map led_node c.push.new.self.items ++ map led_node (drop c.args.end es) = grind (arith, common_steps, take_rest) in
-    subst (λ (ns : List CellNode). cell_edges (roll-Edges (record { edges = c.push_shared-2.new.into })) ≡ take c.args.start ns ++ led_node c.args.edge ∷ drop c.args.end ns) (sym (cell_edges_out c.args.self.now))
-    (cell_edges_roll (record { edges = c.push_shared-2.new.into })
-    ∙ spliced_map led_node es c.push_shared.new.into.items c.push.new.self.items c.push_shared-2.new.into.items c.args.edge c.args.start c.args.end front c.in_ok-push.ensures.items back)
+    let all = c.push_around.new.into.items in
+    let around : map led_node all ≡ map led_node (take c.args.start es) ++ led_node c.args.edge ∷ map led_node (drop c.args.end es) = grind (arith, common_steps, take_rest) in
+    subst (λ (ns : List CellNode). cell_edges (roll-Edges (record { edges = c.push_around.new.into })) ≡ take c.args.start ns ++ led_node c.args.edge ∷ drop c.args.end ns) (sym (cell_edges_out c.args.self.now))
+    (cell_edges_roll (record { edges = c.push_around.new.into })
+    ∙ spliced_map led_node es all c.args.edge c.args.start c.args.end around)
