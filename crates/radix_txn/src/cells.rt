@@ -30,7 +30,12 @@ impl Model for Cells {
 
     ghost Value = { Ledger };
 
-    ghost view = { λ c. record { log = c.front; first = c.first; next = c.ids.next; left = map arc_value c.left.items } };
+    ghost view = { λ c. record {
+      log = c.front;
+      first = c.first;
+      next = c.ids.next;
+      left = map arc_value c.left.items;
+    } };
 
     ghost invariant = { λ c. (c.front.book ≡ c.ids.book) × (c.first ≤ c.ids.next) };
 }

@@ -148,7 +148,8 @@ fn above(
           cell = c;
           prefix = n.prefix;
           leaf = n.leaf;
-          under = cells_in (take at es ++ led (label ∷ []) (cell_ref below.node) ∷ drop (at + 1) es);
+          under = cells_in (take at es
+              ++ led (label ∷ []) (cell_ref below.node) ∷ drop (at + 1) es);
         })) }
     ensures left { let n = cell_node node.now in
         OnOk result (cells.new ≡ one_left n.cell (one_drawn cells.old)) }
@@ -226,7 +227,8 @@ fn add_edge(
         IfOk result (λ r. node_of r.node ≡ record {
           prefix = n.prefix;
           leaf = n.leaf;
-          under = nodes_in (take at es ++ leaf_node (label ∷ prefix.now) (leaf_pair leaf) ∷ drop at es);
+          under = nodes_in (take at es
+              ++ leaf_node (label ∷ prefix.now) (leaf_pair leaf) ∷ drop at es);
         }) }
     ensures old { IfOk result (λ r. r.old ≡ None) }
 
@@ -234,7 +236,8 @@ fn add_edge(
         (a_leaf (arc_value leaf) ∷ whole (led front (cell_node node.now))) cells.old
         (whole (led front (cell_ref r.node))) cells.new) }
     ensures edge { let n = cell_node node.now in let es = cells_list n.under in
-        IfOk result (λ r. (c : Cell) × (cells.old.next ≤ c.id) × (e : CellNode) × (cell_ref r.node ≡ record {
+        IfOk result (λ r. (c : Cell) × (cells.old.next ≤ c.id) × (e : CellNode)
+        × (cell_ref r.node ≡ record {
           cell = c;
           prefix = n.prefix;
           leaf = n.leaf;
@@ -374,7 +377,8 @@ fn fork(
     ensures node { IfOk result (λ r. node_of r ≡ record {
       prefix = take at rest.now;
       leaf = None;
-      under = nodes_in (edge_put (leaf_node (drop at rest.now) (leaf_pair leaf)) (edge_node edge ∷ []));
+      under = nodes_in (edge_put (leaf_node (drop at rest.now) (leaf_pair leaf))
+          (edge_node edge ∷ []));
     }) }
     ensures cells { IfOk result (λ r. (v : CellNode) × (c : Cell)
         × IsNextOf cells.old v.cell × IsNextOf (one_drawn cells.old) c

@@ -17,10 +17,10 @@ use written::{Work, applied, frozen, nodes_are, row, three_writes, work_of};
 /// of its edges.
 type Line<'a> = (&'a [u8], &'a [u8], bool, &'a [u8]);
 
-const EMPTY: [Line; 1] = [(b"", b"", false, b"")];
+const EMPTY: &[Line] = &[(b"", b"", false, b"")];
 
 /// `foo`, `fool` and `football`.
-const BESIDE: [Line; 5] = [
+const BESIDE: &[Line] = &[
     (b"", b"", false, b"f"),
     (b"f", b"oo", false, b"\0lt"),
     (b"foo\0", b"", true, b""),
@@ -29,7 +29,7 @@ const BESIDE: [Line; 5] = [
 ];
 
 /// `foo`, `foot` and `football`.
-const FORKED: [Line; 6] = [
+const FORKED: &[Line] = &[
     (b"", b"", false, b"f"),
     (b"f", b"oo", false, b"\0t"),
     (b"foo\0", b"", true, b""),
@@ -38,16 +38,16 @@ const FORKED: [Line; 6] = [
     (b"footb", b"all\0", true, b""),
 ];
 
-const FOO: [Line; 2] = [(b"", b"", false, b"f"), (b"f", b"oo\0", true, b"")];
+const FOO: &[Line] = &[(b"", b"", false, b"f"), (b"f", b"oo\0", true, b"")];
 
-const WITHOUT_FOO: [Line; 4] = [
+const WITHOUT_FOO: &[Line] = &[
     (b"", b"", false, b"f"),
     (b"f", b"oot", false, b"\0b"),
     (b"foot\0", b"", true, b""),
     (b"footb", b"all\0", true, b""),
 ];
 
-const WITHOUT_FOOTBALL: [Line; 4] = [
+const WITHOUT_FOOTBALL: &[Line] = &[
     (b"", b"", false, b"f"),
     (b"f", b"oo", false, b"\0t"),
     (b"foo\0", b"", true, b""),
@@ -85,15 +85,15 @@ fn nodes_after(
     Ok(nodes_are(&tree, nodes))
 }
 
-const OLD_KEYS: [&[u8]; 2] = [b"foo\0", b"football\0"];
+const OLD_KEYS: &[&[u8]] = &[b"foo\0", b"football\0"];
 
-const BESIDE_KEYS: [&[u8]; 3] = [b"foo\0", b"football\0", b"fool\0"];
+const BESIDE_KEYS: &[&[u8]] = &[b"foo\0", b"football\0", b"fool\0"];
 
-const FORKED_KEYS: [&[u8]; 3] = [b"foo\0", b"football\0", b"foot\0"];
+const FORKED_KEYS: &[&[u8]] = &[b"foo\0", b"football\0", b"foot\0"];
 
-const ROOT_KEYS: [&[u8]; 3] = [b"ab", b"ac", b""];
+const ROOT_KEYS: &[&[u8]] = &[b"ab", b"ac", b""];
 
-const ONE: [Line; 2] = [(b"", b"", false, b"a"), (b"a", b"b", true, b"")];
+const ONE: &[Line] = &[(b"", b"", false, b"a"), (b"a", b"b", true, b"")];
 
 /// What is shown, keys that are put, keys that are taken out then, and the nodes that are left.
 type Shape = (
@@ -106,72 +106,94 @@ type Shape = (
 static SHAPES: [Shape; 5] = [
     (
         "a missing key goes beside the others",
-        &BESIDE_KEYS,
+        BESIDE_KEYS,
         &[],
-        &BESIDE,
+        BESIDE,
     ),
     (
         "a node is split where the key parts",
-        &FORKED_KEYS,
+        FORKED_KEYS,
         &[],
-        &FORKED,
+        FORKED,
     ),
     (
         "a node left with one edge is merged",
-        &OLD_KEYS,
+        OLD_KEYS,
         &[b"football\0"],
-        &FOO,
+        FOO,
     ),
     (
         "a missing key takes nothing",
-        &FORKED_KEYS,
+        FORKED_KEYS,
         &[b"foo", b"g"],
-        &FORKED,
+        FORKED,
     ),
-    ("the root is not merged", &ROOT_KEYS, &[b"ac", b""], &ONE),
+    ("the root is not merged", ROOT_KEYS, &[b"ac", b""], ONE),
 ];
+
+/// The name of the first shape that is another one.
+fn first_wrong_shape(alloc: Global) -> Result<Option<&'static str>, AllocError> {
+    for (name, keys, taken, nodes) in &SHAPES {
+        if !nodes_after(alloc, keys, taken, nodes)? {
+            return Ok(Some(*name));
+        }
+    }
+    Ok(None)
+}
 
 #[test]
 fn keys_that_come_and_go_leave_these_nodes(rt: HostRuntime) -> Result<(), Fail> {
-    for (name, keys, taken, nodes) in &SHAPES {
-        assert!(rt; nodes_after(rt.alloc(), keys, taken, nodes)?, "{name}");
-    }
+    let wrong = first_wrong_shape(rt.alloc())?;
+    assert!(rt; wrong.is_none(), "{wrong:?}");
     Ok(())
 }
 
 /// What each prefix takes from the forked tree, and the nodes that are left.
 static TAKEN: [(&[u8], u64, &[Line]); 10] = [
-    (b"", 3, &EMPTY),
-    (b"f", 3, &EMPTY),
-    (b"foo", 3, &EMPTY),
-    (b"foot", 2, &FOO),
-    (b"foo\0", 1, &WITHOUT_FOO),
-    (b"footb", 1, &WITHOUT_FOOTBALL),
-    (b"football\0", 1, &WITHOUT_FOOTBALL),
-    (b"g", 0, &FORKED),
-    (b"fob", 0, &FORKED),
-    (b"football\0\0", 0, &FORKED),
+    (b"", 3, EMPTY),
+    (b"f", 3, EMPTY),
+    (b"foo", 3, EMPTY),
+    (b"foot", 2, FOO),
+    (b"foo\0", 1, WITHOUT_FOO),
+    (b"footb", 1, WITHOUT_FOOTBALL),
+    (b"football\0", 1, WITHOUT_FOOTBALL),
+    (b"g", 0, FORKED),
+    (b"fob", 0, FORKED),
+    (b"football\0\0", 0, FORKED),
 ];
 
 /// Whether a prefix takes so many keys from a tree, and leaves these nodes.
-fn takes_from(work: Work, prefix: &[u8], count: u64, nodes: &[Line]) -> Result<bool, AllocError> {
-    let mut work = work;
+fn takes_from(
+    work: &mut Work,
+    prefix: &[u8],
+    count: u64,
+    nodes: &[Line],
+) -> Result<bool, AllocError> {
     let gone = work.take_all(prefix)?;
-    let tree = frozen(work)?;
+    let tree = work.stand()?;
     Ok(gone == count && nodes_are(&tree, nodes))
 }
 
 /// The same of the forked tree.
 fn takes(alloc: Global, prefix: &[u8], count: u64, nodes: &[Line]) -> Result<bool, AllocError> {
-    let work = work_of(alloc, &FORKED_KEYS)?;
-    takes_from(work, prefix, count, nodes)
+    let mut work = work_of(alloc, FORKED_KEYS)?;
+    takes_from(&mut work, prefix, count, nodes)
+}
+
+/// The first prefix that takes others.
+fn first_wrong_taken(alloc: Global) -> Result<Option<&'static [u8]>, AllocError> {
+    for (prefix, count, nodes) in &TAKEN {
+        if !takes(alloc, prefix, *count, nodes)? {
+            return Ok(Some(*prefix));
+        }
+    }
+    Ok(None)
 }
 
 #[test]
 fn a_prefix_takes_its_node_with_all_under_it(rt: HostRuntime) -> Result<(), Fail> {
-    for (prefix, count, nodes) in &TAKEN {
-        assert!(rt; takes(rt.alloc(), prefix, *count, nodes)?, "{prefix:?}");
-    }
+    let wrong = first_wrong_taken(rt.alloc())?;
+    assert!(rt; wrong.is_none(), "{wrong:?}");
     Ok(())
 }
 
@@ -184,12 +206,17 @@ fn put_all_bytes(work: &mut Work, row: &Row) -> Result<(), AllocError> {
     Ok(())
 }
 
+/// A transaction with these keys.
+fn work_of_bytes(alloc: Global, row: &Row) -> Result<Work, AllocError> {
+    let mut work = Work::new(alloc)?;
+    put_all_bytes(&mut work, row)?;
+    Ok(work)
+}
+
 /// The tree of these keys.
 fn tree_of_bytes(alloc: Global) -> Result<Tree, AllocError> {
     let row = row(alloc, 7)?;
-    let mut work = Work::new(alloc)?;
-    put_all_bytes(&mut work, &row)?;
-    frozen(work)
+    frozen(work_of_bytes(alloc, &row)?)
 }
 
 fn has_all_bytes(tree: &Tree) -> bool {
@@ -207,7 +234,7 @@ fn a_node_may_have_an_edge_for_each_byte(rt: HostRuntime) -> Result<(), Fail> {
 }
 
 /// How many keys three writes leave.
-fn count_after_three(alloc: Global) -> Result<Option<u64>, AllocError> {
+fn count_after_three(alloc: Global) -> Result<u64, AllocError> {
     let row = row(alloc, 3)?;
     let writes = three_writes(alloc, &row)?;
     applied(alloc, &writes)
@@ -215,28 +242,28 @@ fn count_after_three(alloc: Global) -> Result<Option<u64>, AllocError> {
 
 #[test]
 fn writes_are_made_in_turn(rt: HostRuntime) -> Result<(), Fail> {
-    assert!(rt; count_after_three(rt.alloc())? == Some(1));
+    assert!(rt; count_after_three(rt.alloc())? == 1);
     Ok(())
 }
 
 /// The tree after the keys that begin with `foot` are taken out.
-fn without_foot(work: Work) -> Result<Tree, AllocError> {
-    let mut work = work;
+fn without_foot(work: &mut Work) -> Result<Tree, AllocError> {
     work.take_all(b"foot")?;
-    frozen(work)
+    work.stand()
 }
 
-/// The forked tree and, after a change, the one that comes of it.
-fn two_trees(alloc: Global) -> Result<(Tree, Tree), AllocError> {
-    let mut work = work_of(alloc, &FORKED_KEYS)?;
+/// Whether the forked tree stays as it was while its transaction goes on, and the later tree has
+/// the change.
+fn stays_after(work: &mut Work) -> Result<bool, AllocError> {
     let tree = work.stand()?;
-    Ok((tree, without_foot(work)?))
+    let changed = without_foot(work)?;
+    Ok(nodes_are(&tree, FORKED) && nodes_are(&changed, FOO))
 }
 
-/// Whether a tree that was given stays as it was, and a later one has the change.
+/// The same in a new transaction.
 fn stays(alloc: Global) -> Result<bool, AllocError> {
-    let (tree, changed) = two_trees(alloc)?;
-    Ok(nodes_are(&tree, &FORKED) && nodes_are(&changed, &FOO))
+    let mut work = work_of(alloc, FORKED_KEYS)?;
+    stays_after(&mut work)
 }
 
 #[test]

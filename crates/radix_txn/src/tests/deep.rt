@@ -5,7 +5,7 @@ use mdb_datum::Row;
 use radix_node::Tree;
 use std::alloc::{AllocError, Global};
 use std::test::Fail;
-use std::thread;
+use std::thread::{Threads, join};
 
 static LETTERS: [u8; 2048] = [b'a'; 2048];
 
@@ -18,11 +18,21 @@ fn put_all(work: &mut Work, row: &Row, longest_first: bool) -> Result<(), AllocE
     Ok(())
 }
 
+/// Takes out the deepest key, and tells whether it was there.
+fn take_deepest(work: &mut Work) -> Result<bool, AllocError> {
+    let deepest = work.take(&LETTERS)?;
+    Ok(deepest.is_some())
+}
+
+/// Takes out the 1,024 keys that have 1,024 letters or more, and tells whether as many are left.
+fn take_half(work: &mut Work) -> Result<bool, AllocError> {
+    let count = work.take_all(&LETTERS[..1024])?;
+    Ok(count == 1024 && work.txn().len() == 1024)
+}
+
 /// Takes out the deepest key, and then the 1,024 that have 1,024 letters or more.
 fn take_deep(work: &mut Work) -> Result<bool, AllocError> {
-    let deepest = work.take(&LETTERS)?;
-    let count = work.take_all(&LETTERS[..1024])?;
-    Ok(deepest.is_some() && count == 1024 && work.txn().len() == 1024)
+    Ok(take_deepest(work)? && take_half(work)?)
 }
 
 fn is_deep(tree: &Tree) -> bool {
@@ -60,16 +70,29 @@ fn a_deep_tree_may_grow_downward(rt: HostRuntime) -> Result<(), Fail> {
     Ok(())
 }
 
+/// Two deep runs on threads, one of a row that is lent and one of a row that is moved there.
+fn two_deep_runs<R: Threads + Sync>(
+    rt: &R,
+    alloc: Global,
+    lent: &Row,
+    moved: Row,
+) -> Result<bool, AllocError> {
+    let (lent, moved) = join(
+        rt,
+        || deep_run(alloc, lent, false),
+        move || deep_run(alloc, &moved, true),
+    );
+    Ok(lent? && moved?)
+}
+
+/// The same of two owners of a row.
+fn deep_runs<R: Threads + Sync>(rt: &R, alloc: Global) -> Result<bool, AllocError> {
+    let row = row(alloc, 1)?;
+    two_deep_runs(rt, alloc, &row, row.share()?)
+}
+
 #[test]
 fn a_deep_tree_may_be_made_in_a_thread(rt: HostRuntime) -> Result<(), Fail> {
-    let alloc = rt.alloc();
-    let row = row(alloc, 1)?;
-    let second = row.share()?;
-    let (lent, moved) = thread::join(
-        &rt,
-        || deep_run(alloc, &row, false),
-        move || deep_run(alloc, &second, true),
-    );
-    assert!(rt; lent? && moved?);
+    assert!(rt; deep_runs(&rt, rt.alloc())?);
     Ok(())
 }

@@ -69,23 +69,38 @@ fn ends_so(work: Work, old: &Tree, watches: &[Told], count: usize) -> Result<boo
     Ok(tells_each(old, &new, &notice, watches) && notice.len() == count)
 }
 
+/// A transaction on a tree, and the tree.
+type Begun = (Work, Tree);
+
+/// The same of a transaction with its tree.
+fn is_told_so(begun: Begun, watches: &[Told], count: usize) -> Result<bool, AllocError> {
+    let (work, old) = begun;
+    ends_so(work, &old, watches, count)
+}
+
 /// The same of watches alone.
 fn ends_with(work: Work, old: &Tree, watch: Told) -> Result<bool, AllocError> {
     let (new, notice) = work.freeze()?;
     Ok(tells(old, &new, &notice, watch))
 }
 
-/// A transaction on a tree, and the tree.
-fn begun(alloc: Global, keys: &[&[u8]]) -> Result<(Work, Tree), AllocError> {
-    let mut work = work_of(alloc, keys)?;
+/// The tree of a transaction, which goes on with a new one on it and an insert.
+fn renewed(alloc: Global, work: &mut Work, key: &[u8]) -> Result<Tree, AllocError> {
     let old = work.stand()?;
-    Ok((work.next()?, old))
+    work.renew()?;
+    put_number(alloc, work, key, 9)?;
+    Ok(old)
+}
+
+/// A transaction with the keys `foo` and `football`.
+fn with_old(alloc: Global) -> Result<Work, AllocError> {
+    work_of(alloc, &OLD)
 }
 
 /// A transaction after an insert into the tree of `foo` and `football`, and the tree.
-fn inserted(alloc: Global, key: &[u8]) -> Result<(Work, Tree), AllocError> {
-    let (mut work, old) = begun(alloc, &OLD)?;
-    put_number(alloc, &mut work, key, 9)?;
+fn inserted(alloc: Global, key: &[u8]) -> Result<Begun, AllocError> {
+    let mut work = with_old(alloc)?;
+    let old = renewed(alloc, &mut work, key)?;
     Ok((work, old))
 }
 
@@ -102,14 +117,46 @@ fn an_insert_fires_what_it_copies(rt: HostRuntime) -> Result<(), Fail> {
     Ok(())
 }
 
+/// A write that a transaction begins with.
+#[derive(Clone, Copy)]
+enum First {
+    Put(&'static [u8], u64),
+    Take(&'static [u8]),
+    TakeAll(&'static [u8]),
+}
+
+/// Makes a write.
+fn make(alloc: Global, work: &mut Work, write: First) -> Result<(), AllocError> {
+    match write {
+        First::Put(key, number) => put_number(alloc, work, key, number)?,
+        First::Take(key) => drop(work.take(key)?),
+        First::TakeAll(prefix) => drop(work.take_all(prefix)?),
+    }
+    Ok(())
+}
+
+/// The tree that a new transaction gives before its first write, which is made then.
+fn renewed_first(alloc: Global, work: &mut Work, write: First) -> Result<Tree, AllocError> {
+    work.renew()?;
+    let old = work.stand()?;
+    make(alloc, work, write)?;
+    Ok(old)
+}
+
+/// A transaction on the tree of these keys after a write, and the tree.
+fn begun(alloc: Global, keys: &[&[u8]], write: First) -> Result<Begun, AllocError> {
+    let mut work = work_of(alloc, keys)?;
+    let old = renewed_first(alloc, &mut work, write)?;
+    Ok((work, old))
+}
+
 static MERGED: [Told; 2] = [(b"foo\0", false, true), (b"football\0", true, true)];
 
 /// The tree of `foo` and `football` before and after `football` is taken out: the node above is
 /// merged with that of `foo`, whose leaf stays.
 fn merged(alloc: Global) -> Result<bool, AllocError> {
-    let (mut work, old) = begun(alloc, &OLD)?;
-    work.take(b"football\0")?;
-    ends_so(work, &old, &MERGED, 5)
+    let begun = begun(alloc, &OLD, First::Take(b"football\0"))?;
+    is_told_so(begun, &MERGED, 5)
 }
 
 #[test]
@@ -122,16 +169,8 @@ static PUT_AGAIN: [Told; 1] = [(b"foo\0", true, true)];
 
 /// A row that is put again fires as another one would.
 fn put_again(alloc: Global) -> Result<bool, AllocError> {
-    let (mut work, old) = begun_after(alloc, &OLD)?;
-    put_number(alloc, &mut work, b"foo\0", 0)?;
-    ends_so(work, &old, &PUT_AGAIN, 4)
-}
-
-/// A transaction on a tree, and the tree that it gives before its first write.
-fn begun_after(alloc: Global, keys: &[&[u8]]) -> Result<(Work, Tree), AllocError> {
-    let mut next = work_of(alloc, keys)?.next()?;
-    let old = next.stand()?;
-    Ok((next, old))
+    let begun = begun(alloc, &OLD, First::Put(b"foo\0", 0))?;
+    is_told_so(begun, &PUT_AGAIN, 4)
 }
 
 #[test]
@@ -144,8 +183,7 @@ static PUT_ABOVE: [Told; 2] = [(b"foo", true, true), (b"foo\0", false, false)];
 
 /// The key `foo` ends at the node above both others, which has no leaf: they stay as they are.
 fn put_above(alloc: Global) -> Result<bool, AllocError> {
-    let (work, old) = inserted(alloc, b"foo")?;
-    ends_so(work, &old, &PUT_ABOVE, 2)
+    is_told_so(inserted(alloc, b"foo")?, &PUT_ABOVE, 2)
 }
 
 #[test]
@@ -160,9 +198,8 @@ static TAKEN: [Told; 2] = [(b"foo\0", false, true), (b"foot\0", true, true)];
 
 /// The keys that begin with `foot` are taken out: the leaf of `foo` alone stays.
 fn taken(alloc: Global) -> Result<bool, AllocError> {
-    let (mut work, old) = begun_after(alloc, &THREE)?;
-    work.take_all(b"foot")?;
-    ends_so(work, &old, &TAKEN, 8)
+    let begun = begun(alloc, &THREE, First::TakeAll(b"foot"))?;
+    is_told_so(begun, &TAKEN, 8)
 }
 
 #[test]
@@ -171,13 +208,24 @@ fn a_delete_by_prefix_fires_all_that_goes(rt: HostRuntime) -> Result<(), Fail> {
     Ok(())
 }
 
+/// Puts a key twice.
+fn put_twice(alloc: Global, work: &mut Work, key: &[u8]) -> Result<(), AllocError> {
+    put_number(alloc, work, key, 9)?;
+    put_number(alloc, work, key, 8)
+}
+
 /// Puts a key twice, and takes out one that is missing and those that begin with another text.
 fn put_and_take(alloc: Global, work: &mut Work) -> Result<(), AllocError> {
-    put_number(alloc, work, b"fool\0", 9)?;
-    put_number(alloc, work, b"fool\0", 8)?;
+    put_twice(alloc, work, b"fool\0")?;
     work.take(b"missing\0")?;
     work.take_all(b"foot")?;
     Ok(())
+}
+
+/// The same in a new transaction.
+fn come_and_go(alloc: Global, work: &mut Work) -> Result<(), AllocError> {
+    work.renew()?;
+    put_and_take(alloc, work)
 }
 
 /// Whether a transaction ends with a tree of two keys and a notice of four cells.
@@ -188,8 +236,8 @@ fn ends_small(work: Work) -> Result<bool, AllocError> {
 
 /// Cells that come and go within one transaction are in no notice.
 fn between(alloc: Global) -> Result<bool, AllocError> {
-    let mut work = work_of(alloc, &OLD)?.next()?;
-    put_and_take(alloc, &mut work)?;
+    let mut work = with_old(alloc)?;
+    come_and_go(alloc, &mut work)?;
     ends_small(work)
 }
 

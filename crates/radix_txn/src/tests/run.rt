@@ -1,7 +1,7 @@
 //! A run of writes on a tree and on a sorted map.
 ghost use Rattle.std.specs.Prelude.{◌<◌};
 
-use super::written::{Work, is_row, row};
+use super::written::{Work, is_row, put_row};
 use mdb_datum::Row;
 use std::alloc::{AllocError, Global};
 use std::collections::BTreeMap;
@@ -51,15 +51,25 @@ fn is_same_row(row: Option<&Row>, number: Option<u64>) -> bool {
     }
 }
 
+/// Whether a put gives the row of the old number, where there is one.
+fn put_gives(
+    work: &mut Work,
+    key: &Vec<u8>,
+    number: u64,
+    old: Option<u64>,
+) -> Result<bool, AllocError> {
+    let row = put_row(*key.allocator(), work, key, number)?;
+    Ok(is_same_row(row.as_ref(), old))
+}
+
 fn put_both(
     work: &mut Work,
     plain: &mut Plain,
-    key: Vec<u8>,
+    key: &Vec<u8>,
     number: u64,
 ) -> Result<bool, AllocError> {
-    let row = row(*key.allocator(), number)?;
-    let old = work.put(&key, &row)?;
-    Ok(is_same_row(old.as_ref(), plain.insert(key, number)?))
+    let old = plain.insert(key.clone()?, number)?;
+    put_gives(work, key, number, old)
 }
 
 fn take_both(work: &mut Work, plain: &mut Plain, key: &Vec<u8>) -> Result<bool, AllocError> {
@@ -86,7 +96,7 @@ fn write_both(
     match kind {
         0 => take_all_both(work, plain, &key),
         1..=6 => take_both(work, plain, &key),
-        _ => put_both(work, plain, key, number),
+        _ => put_both(work, plain, &key, number),
     }
 }
 

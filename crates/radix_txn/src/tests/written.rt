@@ -1,6 +1,7 @@
 //! Writes that are in order, and what is read of a tree.
-ghost use Rattle.std.specs.Prelude.{◌≡◌, ◌≤◌, true, false, IfOk, length};
+ghost use Rattle.std.specs.Prelude.{◌≡◌, ◌+◌, ◌≤◌, true, false, IfOk, OnOk, length};
 ghost use Rattle.std.specs.List.{All};
+ghost use Rattle.radix_node.specs.Cells.{AreBelow, AreOf};
 ghost use Rattle.radix_txn.specs.Write.{IsShort};
 
 use super::Line;
@@ -73,7 +74,7 @@ impl Work {
     pub fn new(alloc: Global) -> Result<Work, AllocError> {
         let (book, front) = open_book(alloc)?;
         let mut ids = Ids::starting(book, 0);
-        let txn = Tree::empty(alloc, &front, &mut ids)?.txn()?;
+        let txn = empty_txn(alloc, &front, &mut ids)?;
         Ok(Work { txn, front, ids })
     }
 
@@ -110,6 +111,18 @@ impl Work {
         self.txn.delete_prefix(&self.front, &mut self.ids, prefix)
     }
 
+    /// Makes at most three writes, and tells how many keys there are then.
+    fn apply(&mut self, writes: &[Write]) -> Result<u64, AllocError>
+        requires short { All IsShort writes.now }
+        requires few { length writes.now ≤ 3 }
+    {
+        if self.txn.spoiled() || self.ids.left() < 12_288 {
+            return Err(AllocError);
+        }
+        self.txn.apply(&self.front, &mut self.ids, writes)?;
+        Ok(self.txn.len())
+    }
+
     pub fn stand(&mut self) -> Result<Tree, AllocError> {
         if self.txn.spoiled() {
             return Err(AllocError);
@@ -117,18 +130,10 @@ impl Work {
         self.txn.stand()
     }
 
-    /// A transaction on the present tree, by the same ids.
-    pub fn next(self) -> Result<Work, AllocError> {
-        let Work {
-            mut txn,
-            front,
-            ids,
-        } = self;
-        if txn.spoiled() {
-            return Err(AllocError);
-        }
-        let txn = txn.stand()?.txn()?;
-        Ok(Work { txn, front, ids })
+    /// Goes on with a new transaction on the present tree, by the same ids.
+    pub fn renew(&mut self) -> Result<(), AllocError> {
+        self.txn = next_txn(&mut self.txn)?;
+        Ok(())
     }
 
     pub fn freeze(self) -> Result<(Tree, Notice), AllocError> {
@@ -138,6 +143,32 @@ impl Work {
         }
         txn.freeze()
     }
+}
+
+/// A transaction on an empty tree.
+fn empty_txn(alloc: Global, front: &Front, ids: &mut Ids) -> Result<TreeTxn, AllocError>
+    requires book { front.now.book ≡ ids.old.book }
+    requires left { ids.old.next ≡ 0 }
+    ensures same_book { ids.new.book ≡ ids.old.book }
+    ensures next { OnOk result (ids.new.next ≤ 1) }
+    ensures below { IfOk result (λ t. AreBelow ids.new.next t.tree) }
+    ensures below_start { IfOk result (λ t. AreBelow ids.new.next t.start) }
+    ensures of { IfOk result (λ t. AreOf ids.new.book t.tree) }
+{
+    let tree = Tree::empty(alloc, front, ids)?;
+    tree.txn()
+}
+
+/// A transaction on the present tree of another one.
+fn next_txn(txn: &mut TreeTxn) -> Result<TreeTxn, AllocError>
+    ensures unchanged { txn.new ≡ txn.old }
+    ensures tree { IfOk result (λ t. t.tree ≡ txn.old.tree) }
+    ensures start { IfOk result (λ t. t.start ≡ txn.old.tree) }
+{
+    if txn.spoiled() {
+        return Err(AllocError);
+    }
+    txn.stand()?.txn()
 }
 
 /// A transaction with these keys put in turn, each with its place for its number.
@@ -154,6 +185,17 @@ fn put_each(alloc: Global, work: &mut Work, keys: &[&[u8]]) -> Result<(), AllocE
     Ok(())
 }
 
+/// Puts the row of a number, and gives the old row.
+pub fn put_row(
+    alloc: Global,
+    work: &mut Work,
+    key: &[u8],
+    number: u64,
+) -> Result<Option<Row>, AllocError> {
+    let row = row(alloc, number)?;
+    work.put(key, &row)
+}
+
 /// Puts the row of a number.
 pub fn put_number(
     alloc: Global,
@@ -161,8 +203,7 @@ pub fn put_number(
     key: &[u8],
     number: u64,
 ) -> Result<(), AllocError> {
-    let row = row(alloc, number)?;
-    drop(work.put(key, &row)?);
+    drop(put_row(alloc, work, key, number)?);
     Ok(())
 }
 
@@ -211,11 +252,37 @@ pub fn three_writes(alloc: Global, row: &Row) -> Result<Vec<Write>, AllocError>
     ensures few { IfOk result (λ v. length v.items ≤ 3) }
 {
     let mut writes = Vec::new(alloc);
-    writes.push(insert_of(alloc, b"ab", row)?)?;
-    writes.push(insert_of(alloc, b"b", row)?)?;
-    let prefix = Vec::from_slice(alloc, b"a")?;
-    writes.push(Write::DeletePrefix { prefix })?;
+    push_insert(alloc, &mut writes, b"ab", row)?;
+    push_insert(alloc, &mut writes, b"b", row)?;
+    push_delete(alloc, &mut writes, b"a")?;
     Ok(writes)
+}
+
+/// Adds an insert to writes.
+fn push_insert(
+    alloc: Global,
+    writes: &mut Vec<Write>,
+    key: &[u8],
+    row: &Row,
+) -> Result<(), AllocError>
+    requires key { length key.now ≤ 2048 }
+    requires short { All IsShort writes.old.items }
+    ensures short { OnOk result (All IsShort writes.new.items) }
+    ensures one { OnOk result (length writes.new.items ≡ length writes.old.items + 1) }
+{
+    let write = insert_of(alloc, key, row)?;
+    Ok(writes.push(write)?)
+}
+
+/// Adds a delete of what begins with a prefix to writes.
+fn push_delete(alloc: Global, writes: &mut Vec<Write>, prefix: &[u8]) -> Result<(), AllocError>
+    requires prefix { length prefix.now ≤ 2048 }
+    requires short { All IsShort writes.old.items }
+    ensures short { OnOk result (All IsShort writes.new.items) }
+    ensures one { OnOk result (length writes.new.items ≡ length writes.old.items + 1) }
+{
+    let prefix = Vec::from_slice(alloc, prefix)?;
+    Ok(writes.push(Write::DeletePrefix { prefix })?)
 }
 
 fn insert_of(alloc: Global, key: &[u8], row: &Row) -> Result<Write, AllocError>
@@ -229,13 +296,10 @@ fn insert_of(alloc: Global, key: &[u8], row: &Row) -> Result<Write, AllocError>
 }
 
 /// How many keys there are after at most three writes on an empty tree.
-pub fn applied(alloc: Global, writes: &[Write]) -> Result<Option<u64>, AllocError>
+pub fn applied(alloc: Global, writes: &[Write]) -> Result<u64, AllocError>
     requires short { All IsShort writes.now }
     requires few { length writes.now ≤ 3 }
 {
-    let (book, front) = open_book(alloc)?;
-    let mut ids = Ids::starting(book, 0);
-    let mut txn = Tree::empty(alloc, &front, &mut ids)?.txn()?;
-    txn.apply(&front, &mut ids, writes)?;
-    Ok(Some(txn.len()))
+    let mut work = Work::new(alloc)?;
+    work.apply(writes)
 }
