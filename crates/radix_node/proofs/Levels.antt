@@ -1,11 +1,8 @@
 -- One level of what stands in memory.
-use Rattle.std.proofs.Common.{◌≡◌, ◌∷◌, ◌∙◌, ℕ, List, [], map, Option, Some, None, option_map, refl, sym, ap, Less, Equal, Greater}
+use Rattle.std.proofs.Common.{◌≡◌, ◌∷◌, ◌∙◌, ℕ, List, [], map, option_map, refl, sym, ap}
 use Rattle.std.specs.Arc.{arc_value}
-use Rattle.std.specs.FinMap.Entries as entries
-use Rattle.mdb_datum.specs.Row.{Pair}
-use Rattle.radix_node.specs.Nodes.{Nodes, no_nodes, node, part, first_order}
-use Rattle.radix_node.specs.inner.Seek.{seek, found}
-use Rattle.radix_node.specs.Node.{PlainEdge, PlainNode, leaf_pair, nodes_in, edge_step, edges_step, node_step, ref_step, plain_edge, edges_of, plain_node, node_of, edge_node, edge_of, labelled}
+use Rattle.radix_node.specs.Nodes.{first_order}
+use Rattle.radix_node.specs.Node.{PlainEdge, PlainNode, leaf_pair, nodes_in, edge_step, edges_step, node_step, ref_step, plain_edge, edges_of, plain_node, node_of, edge_node, labelled}
 use Rattle.radix_node.specs.inner.Siblings.{nodes_list}
 use Rattle.radix_node.specs.declared.edge.Edge.{Edge, Edge-F, out-Edge, roll-Edge, fold_out-Edge, fold-roll-Edge}
 use Rattle.radix_node.specs.declared.edges.Edges.{Edges, Edges-F, out-Edges, roll-Edges, fold_out-Edges, fold-roll-Edges}
@@ -65,22 +62,6 @@ pub nodes_list_in : (ns : List PlainNode) → nodes_list (nodes_in ns) ≡ ns
 nodes_list_in [] = refl
 nodes_list_in (n ∷ ns) = ap (λ (ms : List PlainNode). n ∷ ms) (nodes_list_in ns)
 
--- a search goes on by the edge of its first byte
-abbrev pub through : Option PlainNode → List ℕ → Option Pair
-through None rest = None
-through (Some n) rest = let parts = part n.prefix rest in found parts.1 parts.2 n.leaf (seek parts.2 n.under)
-
 pub first_byte : (x : ℕ) (k p : List ℕ) → first_order (x ∷ k) p ≡ first_order (x ∷ []) p
 first_byte x k [] = refl
 first_byte x k (b ∷ p) = refl
-
-pub seek_edge : (x : ℕ) (k : List ℕ) (ns : Nodes) → seek (x ∷ k) ns ≡ through (edge_of x ns) (x ∷ k)
-seek_edge x k no_nodes = refl
-seek_edge x k (node prefix leaf under later) =
-    let parts = part prefix (x ∷ k) in
-    ap (λ o. entries.by_order o None (found parts.1 parts.2 leaf (seek parts.2 under)) (seek (x ∷ k) later)) (first_byte x k prefix)
-    ∙ elim (first_order (x ∷ []) prefix) as (λ o. entries.by_order o None (found parts.1 parts.2 leaf (seek parts.2 under)) (seek (x ∷ k) later) ≡ through (entries.by_order o None (Some (record { prefix = prefix; leaf = leaf; under = under })) (edge_of x later)) (x ∷ k)) [
-      | Less ↦ refl
-      | Equal ↦ refl
-      | Greater ↦ seek_edge x k later
-    ]

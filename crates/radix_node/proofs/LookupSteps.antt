@@ -3,17 +3,15 @@ use Rattle.std.proofs.Common.{◌≡◌, ◌<◌, ◌+◌, ◌++◌, ◌&&◌, �
 use Rattle.std.proofs.lemmas.List.{append-nil}
 use Rattle.std.specs.Ordering.{nat_cmp}
 use Rattle.std.specs.Prelude.{nat_eq}
+use Rattle.std.specs.List.{starts_with}
 use Rattle.std.specs.Borrow.{Bor}
 use Rattle.std.specs.Prelude.{MatchOption}
 use Rattle.std.proofs.lemmas.Bool.{eqb-true, eq-eqb, false_from_ne_true, false≢true}
 use lib.Pointwise.{pointwise}
-use Rattle.mdb_datum.specs.Row.{Pair}
 use Rattle.std.specs.FinMap.Entries as entries
-use Rattle.radix_node.specs.Nodes.{Nodes, no_nodes, node, Plain, part}
-use Rattle.radix_node.specs.Shape.{IsShaped, HasShape}
-use Rattle.radix_node.specs.inner.Seek.{seek, seek_plain, found}
-use Rattle.radix_node.specs.Node.{PlainNode, below, edge_of, labelled, left_of, rest_past}
-use Rattle.radix_node.proofs.Levels.{through, seek_edge}
+use Rattle.radix_node.specs.Nodes.{Nodes, no_nodes, node, part}
+use Rattle.radix_node.specs.Shape.{IsShaped}
+use Rattle.radix_node.specs.Node.{PlainNode, edge_of, labelled, left_of, rest_past}
 use Rattle.radix_node.proofs.Parts.{part_parts, part_first}
 use Rattle.radix_node.proofs.ByteCompare.{what_equal}
 
@@ -35,25 +33,21 @@ pub rest_past_stripped : (p k : List ℕ) (r : Option (Bor (List ℕ))) → Matc
 rest_past_stripped p k None h = sym (rest_past_tested p k ∙ ap (λ t. cond t (Some (drop (length p) k)) None) h)
 rest_past_stripped p k (Some x) h = ap Some h.1 ∙ sym (rest_past_tested p k ∙ ap (λ t. cond t (Some (drop (length p) k)) None) h.0)
 
--- the look-up goes on below the node with what is left
-abbrev pub onward : Option (List ℕ) → Option Pair → Nodes → Option Pair
-onward None leaf under = None
-onward (Some rest) leaf under = seek_plain rest (record { leaf = leaf; nodes = under })
+-- whether there are no bytes
+abbrev pub is_empty : List ℕ → Bool
+is_empty [] = true
+is_empty (x ∷ k) = false
 
-found_onward : (p k : List ℕ) (leaf : Option Pair) (under : Nodes) → found p k leaf (seek k under) ≡ onward (left_of p k) leaf under
-found_onward [] [] leaf under = refl
-found_onward [] (x ∷ k) leaf under = refl
-found_onward (y ∷ p) k leaf under = refl
-
--- no edge
-pub seek_no_edge : (x : ℕ) (k : List ℕ) (t : Plain) → edge_of x t.nodes ≡ None → seek_plain (x ∷ k) t ≡ None
-seek_no_edge x k t e = seek_edge x k t.nodes ∙ ap (λ (n : Option PlainNode). through n (x ∷ k)) e
-
--- an edge
-pub seek_by_edge : (x : ℕ) (k : List ℕ) (t : Plain) (n : PlainNode) → edge_of x t.nodes ≡ Some n → seek_plain (x ∷ k) t ≡ onward (rest_past n.prefix (x ∷ k)) n.leaf n.under
-seek_by_edge x k t n e =
-    let parts = part n.prefix (x ∷ k) in
-    seek_edge x k t.nodes ∙ ap (λ (m : Option PlainNode). through m (x ∷ k)) e ∙ found_onward parts.1 parts.2 n.leaf n.under
+-- the second of two byte strings is a prefix of the first if nothing of it is left where they part
+pub prefix_tested : (p k : List ℕ) → starts_with nat_eq p k ≡ is_empty (part p k).2
+prefix_tested [] [] = refl
+prefix_tested [] (b ∷ k) = refl
+prefix_tested (a ∷ p) [] = refl
+prefix_tested (a ∷ p) (b ∷ k) =
+    elim (nat_eq a b) as (λ t. nat_eq a b ≡ t → (nat_eq b a && starts_with nat_eq p k) ≡ is_empty (let s : List ℕ × List ℕ × List ℕ = cond t (a ∷ (part p k).0, (part p k).1, (part p k).2) ([], a ∷ p, b ∷ k) in s.2)) [
+      | true ↦ λ e. ap (λ t. t && starts_with nat_eq p k) (same_byte a b true e) ∙ prefix_tested p k
+      | false ↦ λ e. ap (λ t. t && starts_with nat_eq p k) (same_byte a b false e)
+    ] refl
 
 -- ---- from node to node
 
@@ -106,41 +100,3 @@ child_shaped path x ns m s e = (edge_shaped path x ns (led x m) s e).shaped
 
 pub left_shorter : (x : ℕ) (p k after left : List ℕ) → k ≡ x ∷ after → Some left ≡ rest_past p after → length left < length k
 left_shorter x p k after left first some = omega (arith, ap length first, ap length (rest_past_is p after left (sym some)), length-append p left)
-
--- a look-up that is at a node whose path is known
-pub record IsOn (whole : Option Pair) (rest : List ℕ) (n : PlainNode) : Type 0 where
-  pub path : List ℕ
-  pub shaped : IsShaped path n.under
-  pub same : seek_plain rest (below n) ≡ whole
-
-pub on_root : (key : List ℕ) (t : Plain) (n : PlainNode) → HasShape t → below n ≡ t → IsOn (seek_plain key t) key n
-on_root key t n s is = record {
-  path = [];
-  shaped = subst (λ (u : Plain). IsShaped [] u.nodes) (sym is) s.nodes;
-  same = ap (seek_plain key) is;
-}
-
-module _ (whole : Option Pair) (k : List ℕ) (n : PlainNode) (on : IsOn whole k n) where
-  pub on_end : length k ≡ 0 → n.leaf ≡ whole
-  on_end e = ap (λ (z : List ℕ). seek_plain z (below n)) (sym (ended k e)) ∙ on.same
-
-  module _ (x : ℕ) (after : List ℕ) (first : k ≡ x ∷ after) where
-    pub on_no_edge : None ≡ edge_of x n.under → None ≡ whole
-    on_no_edge e = sym (ap (λ (z : List ℕ). seek_plain z (below n)) first ∙ seek_no_edge x after (below n) (sym e)) ∙ on.same
-
-    module _ (m : PlainNode) (e : Some (led x m) ≡ edge_of x n.under) where
-      by_edge : whole ≡ onward (rest_past m.prefix after) m.leaf m.under
-      by_edge =
-          sym on.same ∙ ap (λ (z : List ℕ). seek_plain z (below n)) first
-          ∙ seek_by_edge x after (below n) (led x m) (sym e)
-          ∙ ap (λ (r : Option (List ℕ)). onward r m.leaf m.under) (rest_past_label x m.prefix after)
-
-      pub on_parted : None ≡ rest_past m.prefix after → None ≡ whole
-      on_parted none = sym (by_edge ∙ ap (λ (r : Option (List ℕ)). onward r m.leaf m.under) (sym none))
-
-      pub on_edge : (left : List ℕ) → Some left ≡ rest_past m.prefix after → IsOn whole left m
-      on_edge left some = record {
-        path = on.path ++ x ∷ m.prefix;
-        shaped = child_shaped on.path x n.under m on.shaped e;
-        same = sym (by_edge ∙ ap (λ (r : Option (List ℕ)). onward r m.leaf m.under) (sym some));
-      }

@@ -1,3 +1,4 @@
+pub mod Descent
 pub mod OwnLeft
 pub mod Seek
 pub mod Siblings

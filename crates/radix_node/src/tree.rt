@@ -1,9 +1,10 @@
 //! Trees, and the look-up of a key.
+mod descent;
 mod longest;
 mod seek;
 mod watch;
 
-ghost use Rattle.std.specs.Prelude.{◌≡◌, ◌+◌, ◌≤◌, ◌<◌, ◌^◌, None, false, [], IfOk, OnOk, length, option_copied, option_map};
+ghost use Rattle.std.specs.Prelude.{◌≡◌, ◌+◌, ◌≤◌, ◌<◌, ◌^◌, None, false, [], IfOk, OnOk, length, option_copied};
 ghost use Rattle.watch_word.specs.Logs.{has_fired};
 ghost use Rattle.radix_node.specs.CellNode.{cell_node, cell_ref, tree_at};
 ghost use Rattle.radix_node.specs.Cells.{AreApart, AreBelow, AreOf, no_cells, plain_of};
@@ -11,11 +12,9 @@ ghost use Rattle.radix_node.specs.Node.{below, below_prefix, node_of, plain_node
 ghost use Rattle.radix_node.specs.Nodes.{pairs_of};
 ghost use Rattle.radix_node.specs.Pairs.{IsRising, find};
 ghost use Rattle.radix_node.specs.Shape.{HasShape};
-ghost use Rattle.radix_node.specs.inner.Seek.{seek_plain};
 
 use crate::edges::Edges;
 use crate::ids::Ids;
-use crate::leaf::Leaf;
 use crate::node::Node;
 use crate::node_ref::NodeRef;
 use mdb_datum::Row;
@@ -108,22 +107,7 @@ impl Tree {
         ensures value { option_copied result ≡ find key.now (pairs_of (plain_of self.now)) }
         ensures rising { IsRising (pairs_of (plain_of self.now)) }
     {
-        Some(self.leaf_of(key)?.row())
-    }
-
-    /// The leaf of a key.
-    fn leaf_of(&self, key: &[u8]) -> Option<&Leaf>
-        ensures leaf { option_map (λ l. l.now.pair) result
-            ≡ seek_plain key.now (plain_of self.now) }
-        ensures shape { HasShape (plain_of self.now) }
-    {
-        let mut node = self.root();
-        let mut rest = key;
-        while let Some((first, after)) = rest.split_first() {
-            node = node.child(*first)?;
-            rest = node.strip_prefix(after)?;
-        }
-        node.leaf()
+        Some(self.look_up(key).1?.row())
     }
 
     /// A second owner of the same nodes. It takes no memory. `AllocError` comes where the kit's

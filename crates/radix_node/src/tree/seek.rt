@@ -9,6 +9,7 @@ ghost use Rattle.radix_node.specs.Shape.{IsShaped};
 
 use crate::node::Node;
 use crate::tree::Tree;
+use crate::tree::descent::KeyEnd;
 
 impl Tree {
     /// The node that has exactly the keys that begin with a prefix, at it and under it, if there
@@ -20,16 +21,10 @@ impl Tree {
         ensures shape { IfSome result
             (λ n. let m = plain_node n.now in (path : Bytes) × IsShaped path m.under) }
     {
-        let mut node = self.root();
-        let mut rest = prefix;
-        while let Some((first, after)) = rest.split_first() {
-            node = node.child(*first)?;
-            match node.strip_prefix(after) {
-                Some(left) => rest = left,
-                None if node.prefix().starts_with(after) => return Some(node),
-                None => return None,
-            }
+        let (node, end) = self.descend(prefix);
+        match end {
+            KeyEnd::At | KeyEnd::Within => Some(node),
+            KeyEnd::Outside => None,
         }
-        Some(node)
     }
 }

@@ -1,15 +1,11 @@
 //! The watches of a key and of a prefix.
-ghost use Rattle.std.specs.Prelude.{◌≡◌, None, option_copied, if◌then◌else◌};
+ghost use Rattle.std.specs.Prelude.{◌≡◌, option_copied};
 ghost use Rattle.std.specs.Arc.{arc_value};
-ghost use Rattle.radix_node.specs.CellNode.{cell_node};
 ghost use Rattle.radix_node.specs.Cells.{plain_of};
 ghost use Rattle.radix_node.specs.Nodes.{pairs_of};
 ghost use Rattle.radix_node.specs.Pairs.{find};
-ghost use Rattle.radix_node.specs.Shape.{HasShape};
 ghost use Rattle.radix_node.specs.Watches.{get_watch, seek_watch};
-ghost use Rattle.radix_node.specs.inner.Walk.{walk_tree, end_leaf};
 
-use crate::node::Node;
 use crate::tree::Tree;
 use mdb_datum::Row;
 use std::sync::Arc;
@@ -24,10 +20,10 @@ impl Tree {
         ensures cell { arc_value result.0.now ≡ get_watch key.now self.now }
         ensures row { option_copied result.1 ≡ find key.now (pairs_of (plain_of self.now)) }
     {
-        let (node, ends) = self.walk(key);
-        match node.leaf() {
-            Some(leaf) if ends => (leaf.cell(), Some(leaf.row())),
-            _ => (node.cell(), None),
+        let (node, leaf) = self.look_up(key);
+        match leaf {
+            Some(leaf) => (leaf.cell(), Some(leaf.row())),
+            None => (node.cell(), None),
         }
     }
 
@@ -37,29 +33,6 @@ impl Tree {
     pub fn seek_watch(&self, prefix: &[u8]) -> &Arc<WatchCell>
         ensures { arc_value result.now ≡ seek_watch prefix.now self.now }
     {
-        self.walk(prefix).0.cell()
-    }
-
-    /// The last node that the walk of a key enters, and whether the key ends with the node's path.
-    fn walk(&self, key: &[u8]) -> (&Node, bool)
-        ensures cell { let n = cell_node result.0.now in let end = walk_tree key.now self.now in
-            n.cell ≡ end.node.cell }
-        ensures leaf { let n = cell_node result.0.now in
-            end_leaf (walk_tree key.now self.now) ≡ (if result.1 then n.leaf else None) }
-        ensures shape { HasShape (plain_of self.now) }
-    {
-        let mut node = self.root();
-        let mut rest = key;
-        while let Some((first, after)) = rest.split_first() {
-            let Some(child) = node.child(*first) else {
-                return (node, false);
-            };
-            let Some(left) = child.strip_prefix(after) else {
-                return (child, false);
-            };
-            node = child;
-            rest = left;
-        }
-        (node, true)
+        self.descend(prefix).0.cell()
     }
 }

@@ -4,4 +4,4 @@ use Rattle.radix_node.proofs.WatchesHold.{seek_watch_end}
 use Rattle.radix_node.proofs.tree.Tree.seek_watch.Goals as goal
 
 pub returns : goal.returns
-returns c = c.cell.ensures ∙ c.walk.ensures.cell ∙ sym (seek_watch_end c.args.self.now c.walk.ensures.shape c.args.prefix.now)
+returns c = c.cell.ensures ∙ c.descend.ensures.ends.cell ∙ sym (seek_watch_end c.args.self.now c.descend.ensures.shape c.args.prefix.now)

@@ -5,7 +5,7 @@ use Rattle.radix_node.specs.Node.{plain_node}
 use Rattle.radix_node.specs.Shape.{IsShaped}
 use Rattle.radix_node.specs.inner.Walk.{walk_tree}
 use Rattle.radix_node.proofs.WalkSteps.{IsWalkAt}
-use Rattle.radix_node.proofs.tree.Tree.walk.Given as goal
+use Rattle.radix_node.proofs.tree.Tree.descend.Given as goal
 
 -- the walk of the rest from this node ends where that of the key does
 abbrev pub invariant-loop-first : goal.invariant-loop-first
