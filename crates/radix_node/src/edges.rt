@@ -1,5 +1,6 @@
 //! The edges of a node.
-ghost use Rattle.std.specs.Prelude.{◌≡◌, ◌++◌, ◌∷◌, ◌+◌, ◌≤◌, ◌<◌, [], IfOk, IfErr, OnOk, OnErr, Some, Ok, Err, length, take, drop, map, option_map};
+ghost use Rattle.std.specs.Prelude.{◌≡◌, ◌++◌, ◌∷◌, ◌+◌, ◌≤◌, ◌<◌, [], IfOk, IfErr, OnOk, OnErr};
+ghost use Rattle.std.specs.Prelude.{Some, Ok, Err, length, take, drop, map, option_map};
 ghost use Rattle.std.specs.Slice.Iter.{iter_rest};
 ghost use Rattle.std.specs.List.{slice_get};
 ghost use Rattle.radix_node.specs.CellNode.{cell_edges, cell_put, led_node};

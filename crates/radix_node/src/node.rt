@@ -8,7 +8,8 @@ ghost use Rattle.std.specs.Arc.{arc_value};
 ghost use Rattle.radix_node.specs.CellNode.{cell_edge_of, cell_edges, cell_node, cell_ref, led};
 ghost use Rattle.radix_node.specs.Cells.{cells_in};
 ghost use Rattle.radix_node.specs.Nodes.{pairs_of, common};
-ghost use Rattle.radix_node.specs.Node.{leaf_pair, plain_node, node_of, nodes_in, edges_of, below_prefix, edge_of, labelled, rest_past};
+ghost use Rattle.radix_node.specs.Node.{leaf_pair, plain_node, node_of, nodes_in, edges_of};
+ghost use Rattle.radix_node.specs.Node.{below_prefix, edge_of, labelled, rest_past};
 ghost use Rattle.radix_node.specs.Edges.{EdgesRise};
 
 use crate::edges::Edges;

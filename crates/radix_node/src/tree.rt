@@ -4,7 +4,8 @@ mod longest;
 mod seek;
 mod watch;
 
-ghost use Rattle.std.specs.Prelude.{◌≡◌, ◌+◌, ◌≤◌, ◌<◌, ◌^◌, None, false, [], IfOk, OnOk, length, option_copied};
+ghost use Rattle.std.specs.Prelude.{◌≡◌, ◌+◌, ◌≤◌, ◌<◌, ◌^◌, None, false, [], IfOk, OnOk, length};
+ghost use Rattle.std.specs.Prelude.{option_copied};
 ghost use Rattle.watch_word.specs.Logs.{has_fired};
 ghost use Rattle.radix_node.specs.CellNode.{cell_node, cell_ref, tree_at};
 ghost use Rattle.radix_node.specs.Cells.{AreApart, AreBelow, AreOf, no_cells, plain_of};
