@@ -157,3 +157,6 @@ db_lent ℓ κ = search (sendable, db_sync) depth 20
 
 pub pass_lent : (ℓ : Lifetime) (κ : Lft) → IsSend (MutRef ℓ κ (Option.the_row Pass.the_row))
 pass_lent ℓ κ = search (sendable, pass_send) depth 20
+
+pub read_lent : (ℓ : Lifetime) (κ : Lft) → IsSend (ShrRef ℓ κ ReadTxn.the_row)
+read_lent ℓ κ = search (sendable, read_sync) depth 20

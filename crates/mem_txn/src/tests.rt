@@ -1,19 +1,17 @@
 //! What no clause says: that each call succeeds while there is memory.
-ghost use Rattle.std.specs.Prelude.{◌≡◌, [], IfOk};
+ghost use Rattle.std.specs.Prelude.{◌≡◌, [], IfOk, IfSome};
 ghost use Rattle.mem_txn.specs.Checked.{IsBeginning};
 ghost use Rattle.mem_txn.specs.Database.{IsCaller, IsOf};
 ghost use Rattle.mem_txn.specs.Transactions.{changes_of};
 
 mod callers;
-mod deferred;
 mod drawn;
 mod long_run;
-mod threads;
 mod watches;
 mod without_memory;
 mod worked;
 
-use crate::{CommitRefused, Committed, Db, Pass, Passes, ReadTxn, Receipt, WriteTxn};
+use crate::{BeginRefused, CommitRefused, Committed, Db, Pass, Passes, ReadTxn, Receipt, WriteTxn};
 use mdb_datum::{Datum, Items, Row, Text, read_doc};
 use mdb_schema::{Answer, Ask, Query, Rows, Schema, read_schema};
 use std::alloc::{AllocError, Global};
@@ -29,7 +27,22 @@ static SCHEMA: &str = r#"{"memdb":1,"tables":{
 /// Whether what was done is right.
 type Told = Result<bool, AllocError>;
 
-type Txn = WriteTxn<u8>;
+/// A transaction whose items aren't copied.
+type Txn = WriteTxn<String>;
+
+/// What the end of a transaction gives: the receipt of its commit, or nothing after an abort.
+type Done = Result<Option<Receipt<String>>, AllocError>;
+
+/// A question: what is asked, of which table and index, with which arguments.
+type Question = (Ask, &'static str, &'static str, &'static str);
+
+/// What is done in a transaction.
+trait Work {
+    /// Does it, and tells whether the transaction is to be committed. A wrong answer counts as want
+    /// of memory, which ends a test.
+    fn run(&mut self, alloc: Global, txn: &mut Txn) -> Told
+        ensures { (changes_of txn.new).caller ≡ (changes_of txn.old).caller };
+}
 
 /// The schema of two tables.
 fn schema_of(alloc: Global) -> Result<Schema, AllocError> {
@@ -39,58 +52,85 @@ fn schema_of(alloc: Global) -> Result<Schema, AllocError> {
     }
 }
 
-/// A database without rows, the list of its passes without the first one, and that.
-fn opened(alloc: Global) -> Result<(Db, Passes, Pass), AllocError>
-    ensures own { IfOk result (λ made. IsCaller made.0 1 made.2) }
-    ensures alone { IfOk result (λ made. made.0.callers ≡ 1) }
-    ensures rest { IfOk result (λ made. made.1 ≡ record { passes = []; made = 1 }) }
+/// A database of two callers, the list of its passes without them, and they.
+fn pair(alloc: Global) -> Result<(Db, Passes, Pass, Pass), AllocError>
+    ensures one { IfOk result (λ made. IsCaller made.0 1 made.2) }
+    ensures two { IfOk result (λ made. IsCaller made.0 2 made.3) }
+    ensures both { IfOk result (λ made. made.0.callers ≡ 2) }
+    ensures rest { IfOk result (λ made. made.1 ≡ record { passes = []; made = 2 }) }
 {
-    let (db, mut passes) = Db::create(alloc, schema_of(alloc)?, 1)?;
-    match passes.take() {
-        Some(pass) => Ok((db, passes, pass)),
-        None => unreachable!(),
+    let (db, mut passes) = Db::create(alloc, schema_of(alloc)?, 2)?;
+    match (passes.take(), passes.take()) {
+        (Some(one), Some(two)) => Ok((db, passes, one, two)),
+        _ => unreachable!(),
     }
 }
 
-/// The last state of a database, whose only pass is back.
-fn closed<R: Wait>(rt: &R, db: Db, mut passes: Passes, pass: Pass) -> ReadTxn
-    requires own { IsCaller db 1 pass }
-    requires alone { db.callers ≡ 1 }
-    requires rest { passes ≡ record { passes = []; made = 1 } }
+/// The last state, when both passes are back.
+fn closed<R: Wait>(rt: &R, db: Db, mut passes: Passes, one: Pass, two: Pass) -> ReadTxn
+    requires one { IsCaller db 1 one }
+    requires two { IsCaller db 2 two }
+    requires both { db.callers ≡ 2 }
+    requires rest { passes ≡ record { passes = []; made = 2 } }
 {
-    passes.give(pass);
+    passes.give(one);
+    passes.give(two);
     db.close(rt, passes)
 }
 
 /// The receipt of a transaction's commit.
-fn committed<D: Drop, R: Wait>(
-    rt: &R,
-    db: &Db,
-    txn: WriteTxn<D>,
-) -> (Pass, Result<Receipt<D>, AllocError>)
+fn committed<R: Wait>(rt: &R, db: &Db, txn: Txn) -> (Pass, Done)
     requires own { IsOf db.now (changes_of txn).caller }
     ensures own { IsCaller db.now (changes_of txn).caller.number result.0 }
     ensures more { IsBeginning (changes_of txn).caller result.0 }
     ensures book { let pass = result.0 in
-        IfOk result.1 (λ r. let log = r.log in log.book ≡ pass.book) }
+        IfOk result.1 (λ done. IfSome done (λ r. let log = r.log in log.book ≡ pass.book)) }
 {
     match txn.commit(rt, db) {
-        Ok(Committed { pass, receipt }) => (pass, Ok(receipt)),
+        Ok(Committed { pass, receipt }) => (pass, Ok(Some(receipt))),
         Err(CommitRefused { pass, cause: _ }) => (pass, Err(AllocError)),
     }
 }
 
-/// Ends a transaction by its commit or its abort.
-fn ended<R: Wait>(rt: &R, db: &Db, txn: Txn, commits: bool) -> (Pass, Result<(), AllocError>)
+/// Does some work in a transaction, and ends it by its commit or its abort.
+fn work_in<W: Work, R: Wait>(rt: &R, alloc: Global, db: &Db, txn: Txn, work: &mut W) -> (Pass, Done)
     requires own { IsOf db.now (changes_of txn).caller }
     ensures own { IsCaller db.now (changes_of txn).caller.number result.0 }
-    ensures same { let pass = result.0 in pass.book ≡ (changes_of txn).caller.book }
+    ensures more { IsBeginning (changes_of txn).caller result.0 }
+    ensures book { let pass = result.0 in
+        IfOk result.1 (λ done. IfSome done (λ r. let log = r.log in log.book ≡ pass.book)) }
 {
-    if !commits {
-        return (txn.abort(db), Ok(()));
+    let mut txn = txn;
+    match work.run(alloc, &mut txn) {
+        Ok(true) => committed(rt, db, txn),
+        Ok(false) => (txn.abort(db), Ok(None)),
+        Err(AllocError) => (txn.abort(db), Err(AllocError)),
     }
-    let (pass, receipt) = committed(rt, db, txn);
-    (pass, receipt.and(Ok(())))
+}
+
+/// Does some work in a new transaction of a caller.
+fn transact<W: Work, R: Wait>(
+    rt: &R,
+    alloc: Global,
+    db: &Db,
+    pass: Pass,
+    work: &mut W,
+) -> (Pass, Done)
+    requires own { IsOf db.now pass }
+    ensures own { IsCaller db.now pass.number result.0 }
+    ensures more { IsBeginning pass result.0 }
+    ensures book { let after = result.0 in
+        IfOk result.1 (λ done. IfSome done (λ r. let log = r.log in log.book ≡ after.book)) }
+{
+    match db.write(rt, pass) {
+        Ok(txn) => work_in(rt, alloc, db, txn, work),
+        Err(BeginRefused { pass, cause: _ }) => (pass, Err(AllocError)),
+    }
+}
+
+/// Whether a transaction was committed.
+fn is_made(done: Done) -> Told {
+    Ok(done?.is_some())
 }
 
 /// The row that a text is. Another text counts as want of memory, which ends a test.
@@ -120,11 +160,11 @@ fn query_at(
     Query::of(alloc, ask, table, index, args_of(alloc, args)?)
 }
 
-/// A question of an index of a table, with the arguments that a text lists.
-fn query_of(alloc: Global, ask: Ask, named: (&str, &str), args: &str) -> Result<Query, AllocError> {
-    let table = Text::of(alloc, named.0)?;
-    let index = Text::of(alloc, named.1)?;
-    query_at(alloc, ask, &table, &index, args)
+/// The question of these words.
+fn query_of(alloc: Global, question: &Question) -> Result<Query, AllocError> {
+    let table = Text::of(alloc, question.1)?;
+    let index = Text::of(alloc, question.2)?;
+    query_at(alloc, question.0, &table, &index, question.3)
 }
 
 /// Adds a line with a row's text.
@@ -143,16 +183,16 @@ fn lines_of(alloc: Global, rows: &Rows) -> Result<Vec<u8>, AllocError> {
     Ok(text)
 }
 
-/// Whether bytes are those of a text.
-fn is_text(bytes: Vec<u8>, expected: &str) -> bool {
-    bytes.as_slice() == expected.as_bytes()
+/// The text of an answer: the lines of its rows, or its row, or `none`.
+fn told_of(alloc: Global, answer: &Answer) -> Result<Vec<u8>, AllocError> {
+    match answer {
+        Answer::Many(rows) => lines_of(alloc, rows),
+        Answer::One(Some(row)) => Ok(row.doc()?),
+        Answer::One(None) => Ok(Vec::from_array(alloc, *b"none")?),
+    }
 }
 
-/// Whether an answer is the rows of these lines, or this row.
+/// Whether an answer has this text.
 fn is_told(alloc: Global, answer: &Answer, expected: &str) -> Told {
-    match answer {
-        Answer::Many(rows) => Ok(is_text(lines_of(alloc, rows)?, expected)),
-        Answer::One(Some(row)) => Ok(is_text(row.doc()?, expected)),
-        Answer::One(None) => Ok(expected == "none"),
-    }
+    Ok(told_of(alloc, answer)?.as_slice() == expected.as_bytes())
 }

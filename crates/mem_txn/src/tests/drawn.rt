@@ -1,8 +1,8 @@
 //! Rows drawn from a fixed sequence, and tables as plain lists of them.
 ghost use Rattle.std.specs.Prelude.{◌<◌};
 
-use super::{Told, is_told};
-use mdb_schema::Answer;
+use super::worked::{Asked, Line};
+use mdb_schema::Ask;
 use std::alloc::{AllocError, Global};
 
 /// Six names, each at three ages.
@@ -46,38 +46,33 @@ impl Drawn {
         }
     }
 
-    /// A drawn row of a drawn place, which is there afterwards or not.
-    pub fn write(&mut self, is_there: bool) -> Write {
-        let place = self.random.place();
+    /// The write of a drawn row at a drawn place, which is there afterwards or not, and its answer.
+    pub fn line(&mut self, is_there: bool) -> Line {
+        let place = self.random.below(12) as usize;
         let row = self.random.row(place);
         let held = self.plain[place];
         self.plain[place] = if is_there { Some(row) } else { None };
-        Write {
-            table: table_of(place),
-            text: text_of(row),
-            held,
-        }
+        (table_of(place), text_of(row), write_told(is_there, held))
     }
 }
 
-/// A row that is written: its table, its text, and the row of its name that was there.
-#[derive(Clone, Copy)]
-pub struct Write {
-    pub table: &'static str,
-    pub text: &'static str,
-    pub held: Option<usize>,
+/// What the insert of a row is answered, or its delete, where the row of its name is this one.
+fn write_told(is_insert: bool, held: Option<usize>) -> &'static str {
+    match held {
+        Some(_) if is_insert => "replaced",
+        Some(row) => text_of(row),
+        None if is_insert => "inserted",
+        None => "not-found",
+    }
 }
 
-/// A question for all rows, or for the users of an age: its table, its index, its arguments, and
-/// how the texts of its rows begin.
-pub type Question = (&'static str, &'static str, &'static str, &'static str);
-
-pub static QUESTIONS: [Question; 5] = [
-    ("users", "id", "[]", "{"),
-    ("users", "age", "[1]", "{\"age\":1"),
-    ("users", "age", "[2]", "{\"age\":2"),
-    ("users", "age", "[3]", "{\"age\":3"),
-    ("notes", "id", "[]", "{"),
+/// Questions for all rows, or for the users of an age, and how the texts of their rows begin.
+pub static QUESTIONS: [Asked; 5] = [
+    ((Ask::Get, "users", "id", "[]"), "{"),
+    ((Ask::Get, "users", "age", "[1]"), "{\"age\":1"),
+    ((Ask::Get, "users", "age", "[2]"), "{\"age\":2"),
+    ((Ask::Get, "users", "age", "[3]"), "{\"age\":3"),
+    ((Ask::Get, "notes", "id", "[]"), "{"),
 ];
 
 /// Numbers by Marsaglia's shifts, the same in each run.
@@ -98,15 +93,8 @@ impl Random {
         x % bound
     }
 
-    /// A place of a plain list.
-    pub fn place(&mut self) -> usize
-        ensures { result < 12 }
-    {
-        self.below(12) as usize
-    }
-
     /// A question.
-    pub fn question(&mut self) -> &'static Question {
+    pub fn question(&mut self) -> &'static Asked {
         &QUESTIONS[self.below(5) as usize]
     }
 
@@ -134,16 +122,16 @@ pub fn text_of(row: usize) -> &'static str {
 }
 
 /// Whether a question lists the row at a place.
-fn is_asked(place: usize, row: usize, question: &Question) -> bool {
-    table_of(place) == question.0 && text_of(row).starts_with(question.3)
+fn is_asked(place: usize, row: usize, asked: &Asked) -> bool {
+    table_of(place) == asked.0.1 && text_of(row).starts_with(asked.1)
 }
 
 /// Takes out the rows that a question lists, and gives their number.
-pub fn wipe_plain(plain: &mut Plain, question: &Question) -> u64 {
+pub fn wipe_plain(plain: &mut Plain, asked: &Asked) -> u64 {
     let mut count = 0u64;
     for place in 0..12 {
         if let Some(row) = plain[place] {
-            if is_asked(place, row, question) {
+            if is_asked(place, row, asked) {
                 plain[place] = None;
                 count = count.saturating_add(1);
             }
@@ -152,35 +140,27 @@ pub fn wipe_plain(plain: &mut Plain, question: &Question) -> u64 {
     count
 }
 
-fn add_line(lines: &mut String, line: &str) -> Result<(), AllocError> {
-    lines.push_str(line)?;
-    lines.push('\n')
-}
-
 /// Adds the line of the row at a place, where a question lists it.
 fn add_asked(
     lines: &mut String,
     place: usize,
     held: Option<usize>,
-    question: &Question,
+    asked: &Asked,
 ) -> Result<(), AllocError> {
     match held {
-        Some(row) if is_asked(place, row, question) => add_line(lines, text_of(row)),
+        Some(row) if is_asked(place, row, asked) => {
+            lines.push_str(text_of(row))?;
+            lines.push('\n')
+        }
         _ => Ok(()),
     }
 }
 
 /// The lines of the rows that a question lists.
-fn listed(alloc: Global, plain: &Plain, question: &Question) -> Result<String, AllocError> {
+pub fn listed(alloc: Global, plain: &Plain, asked: &Asked) -> Result<String, AllocError> {
     let mut lines = String::new(alloc);
     for (place, held) in plain.iter().enumerate() {
-        add_asked(&mut lines, place, *held, question)?;
+        add_asked(&mut lines, place, *held, asked)?;
     }
     Ok(lines)
-}
-
-/// Whether an answer lists the rows of a plain list.
-pub fn is_alike(alloc: Global, answer: &Answer, plain: &Plain, question: &Question) -> Told {
-    let lines = listed(alloc, plain, question)?;
-    is_told(alloc, answer, &lines)
 }

@@ -5,117 +5,39 @@ ghost use Rattle.std.specs.Prelude.{◌≡◌};
 ghost use Rattle.mem_txn.specs.Database.{IsCaller};
 ghost use Rattle.mem_txn.specs.Transactions.{changes_of};
 
-use super::drawn::{Drawn, Plain, QUESTIONS, Question, is_alike, text_of, wipe_plain};
+use super::drawn::{Drawn, Plain, QUESTIONS, listed, wipe_plain};
 use super::watches::watched_of;
-use super::worked::commit_all;
-use super::{Told, Txn, closed, ended, lines_of, opened, query_of, row_of};
-use crate::{BeginRefused, Db, Held, Pass, ReadTxn, Snapshot, TxnWriteError};
-use mdb_datum::Row;
-use mdb_schema::{Answer, Ask, AskError, Query, WriteError};
+use super::worked::{Asked, Steps, is_deleted, is_kept, is_own, is_put, is_read, is_wiped};
+use super::{Question, Told, Txn, Work, closed, is_made, pair, query_of, told_of, transact};
+use crate::{Db, Held, Pass, ReadTxn};
+use mdb_schema::{Ask, Query};
 use std::alloc::{AllocError, Global};
 use std::marker::Model;
 use std::sync::Wait;
 use std::test::Fail;
 use watch_word::Front;
 
-/// Whether an insert is answered alike.
-fn insert_both(alloc: Global, drawn: &mut Drawn, txn: &mut Txn) -> Told
+/// Whether a transaction answers a question as the plain lists.
+fn ask_both(alloc: Global, plain: &Plain, txn: &mut Txn, asked: &Asked) -> Told
     ensures { (changes_of txn.new).caller ≡ (changes_of txn.old).caller }
 {
-    let put = drawn.write(true);
-    match txn.insert(put.table, &row_of(alloc, put.text)?) {
-        Ok(replaced) => Ok(replaced == put.held.is_some()),
-        Err(_) => Err(AllocError),
-    }
+    is_own(alloc, txn, &asked.0, &listed(alloc, plain, asked)?)
 }
 
-/// Whether a row is the one that was held.
-fn is_held(row: &Row, held: Option<usize>) -> Told {
-    let text = text_of(held.unwrap_or(18));
-    Ok(row.doc()?.as_slice() == text.as_bytes())
-}
-
-/// Whether a delete is answered so, where this row was held.
-fn is_deleted(answer: Result<Row, TxnWriteError>, held: Option<usize>) -> Told {
-    match answer {
-        Ok(old) => is_held(&old, held),
-        Err(TxnWriteError::Refused(WriteError::NotFound)) => Ok(held.is_none()),
-        Err(_) => Err(AllocError),
-    }
-}
-
-/// Whether a delete is answered alike.
-fn delete_both(alloc: Global, drawn: &mut Drawn, txn: &mut Txn) -> Told
-    ensures { (changes_of txn.new).caller ≡ (changes_of txn.old).caller }
-{
-    let gone = drawn.write(false);
-    let row = row_of(alloc, gone.text)?;
-    is_deleted(txn.delete(gone.table, &row), gone.held)
-}
-
-fn asked(alloc: Global, question: &Question) -> Result<Query, AllocError> {
-    query_of(alloc, Ask::Get, (question.0, question.1), question.2)
-}
-
-/// Whether a wipe is answered alike.
-fn wipe_both(alloc: Global, drawn: &mut Drawn, txn: &mut Txn, question: &Question) -> Told
-    ensures { (changes_of txn.new).caller ≡ (changes_of txn.old).caller }
-{
-    let count = wipe_plain(&mut drawn.plain, question);
-    match txn.delete_all(&asked(alloc, question)?) {
-        Ok(told) => Ok(told == count),
-        Err(_) => Err(AllocError),
-    }
-}
-
-/// Whether a transaction answers alike.
-fn ask_both(alloc: Global, plain: &Plain, txn: &mut Txn, question: &Question) -> Told
-    ensures { (changes_of txn.new).caller ≡ (changes_of txn.old).caller }
-{
-    match txn.ask(&asked(alloc, question)?) {
-        Ok(answer) => is_alike(alloc, &answer, plain, question),
-        Err(_) => Err(AllocError),
-    }
-}
-
-/// Whether the snapshot of a transaction answers alike.
-fn snapshot_both(alloc: Global, plain: &Plain, txn: &mut Txn, question: &Question) -> Told
+/// Whether the snapshot of a transaction does.
+fn snapshot_both(alloc: Global, plain: &Plain, txn: &mut Txn, asked: &Asked) -> Told
     ensures { (changes_of txn.new).caller ≡ (changes_of txn.old).caller }
 {
     match txn.snapshot() {
-        Ok(snapshot) => is_kept(alloc, &snapshot, plain, question),
+        Ok(kept) => is_kept(alloc, &kept, &asked.0, &listed(alloc, plain, asked)?),
         Err(_) => Err(AllocError),
     }
 }
 
-/// Whether an answer to a question is alike. A refusal ends the test.
-fn is_answered(
-    alloc: Global,
-    answer: Result<Answer, AskError>,
-    plain: &Plain,
-    question: &Question,
-) -> Told {
-    match answer {
-        Ok(answer) => is_alike(alloc, &answer, plain, question),
-        Err(_) => Err(AllocError),
-    }
-}
-
-fn is_kept(alloc: Global, snapshot: &Snapshot, plain: &Plain, question: &Question) -> Told {
-    let answer = snapshot.ask(&asked(alloc, question)?);
-    is_answered(alloc, answer, plain, question)
-}
-
-/// Whether a read transaction answers a question alike.
-fn is_read(alloc: Global, read: &ReadTxn, plain: &Plain, question: &Question) -> Told {
-    let answer = read.ask(&asked(alloc, question)?);
-    is_answered(alloc, answer, plain, question)
-}
-
-/// Whether a read transaction answers each question alike.
+/// Whether a read transaction answers each question as the plain lists.
 pub fn are_read(alloc: Global, read: &ReadTxn, plain: &Plain) -> Told {
-    for question in &QUESTIONS {
-        if !is_read(alloc, read, plain, question)? {
+    for asked in &QUESTIONS {
+        if !is_read(alloc, read, &asked.0, &listed(alloc, plain, asked)?)? {
             return Ok(false);
         }
     }
@@ -126,13 +48,13 @@ pub fn are_read(alloc: Global, read: &ReadTxn, plain: &Plain) -> Told {
 fn operate(alloc: Global, drawn: &mut Drawn, txn: &mut Txn) -> Told
     ensures { (changes_of txn.new).caller ≡ (changes_of txn.old).caller }
 {
-    let question = drawn.random.question();
+    let asked = drawn.random.question();
     match drawn.random.below(12) {
-        0 => wipe_both(alloc, drawn, txn, question),
-        1 => ask_both(alloc, &drawn.plain, txn, question),
-        2 => snapshot_both(alloc, &drawn.plain, txn, question),
-        3..=5 => delete_both(alloc, drawn, txn),
-        _ => insert_both(alloc, drawn, txn),
+        0 => is_wiped(alloc, txn, &asked.0, wipe_plain(&mut drawn.plain, asked)),
+        1 => ask_both(alloc, &drawn.plain, txn, asked),
+        2 => snapshot_both(alloc, &drawn.plain, txn, asked),
+        3..=5 => is_deleted(alloc, txn, &drawn.line(false)),
+        _ => is_put(alloc, txn, &drawn.line(true)),
     }
 }
 
@@ -148,72 +70,40 @@ fn operate_often(alloc: Global, drawn: &mut Drawn, txn: &mut Txn) -> Told
     Ok(true)
 }
 
-/// Ends a transaction by its commit or its abort.
-fn end<R: Wait>(rt: &R, db: &Db, txn: Txn, commits: bool) -> (Pass, Told)
-    requires own { IsCaller db.now 1 (changes_of txn).caller }
-    ensures own { IsCaller db.now 1 result.0 }
-    ensures same { let pass = result.0 in pass.book ≡ (changes_of txn).caller.book }
-{
-    let (pass, done) = ended(rt, db, txn, commits);
-    (pass, done.and(Ok(true)))
-}
-
-/// Runs a transaction to its end, and tells whether it is answered alike.
-fn run_begun<R: Wait>(rt: &R, alloc: Global, db: &Db, txn: Txn, drawn: &mut Drawn) -> (Pass, Told)
-    requires own { IsCaller db.now 1 (changes_of txn).caller }
-    ensures own { IsCaller db.now 1 result.0 }
-    ensures same { let pass = result.0 in pass.book ≡ (changes_of txn).caller.book }
-{
-    let mut txn = txn;
-    let before = drawn.plain;
-    let commits = drawn.random.below(4) != 0;
-    let told = operate_often(alloc, drawn, &mut txn);
-    if !commits {
-        drawn.plain = before;
-    }
-    match told {
-        Ok(true) => end(rt, db, txn, commits),
-        told => (txn.abort(db), told),
+impl Work for Drawn {
+    fn run(&mut self, alloc: Global, txn: &mut Txn) -> Told {
+        let before = self.plain;
+        let commits = self.random.below(4) != 0;
+        let told = operate_often(alloc, self, txn)?;
+        if !commits {
+            self.plain = before;
+        }
+        if told { Ok(commits) } else { Err(AllocError) }
     }
 }
-
-/// Runs a transaction.
-fn run<R: Wait>(rt: &R, alloc: Global, db: &Db, pass: Pass, drawn: &mut Drawn) -> (Pass, Told)
-    requires own { IsCaller db.now 1 pass }
-    ensures own { IsCaller db.now 1 result.0 }
-    ensures same { let after = result.0 in after.book ≡ pass.book }
-{
-    match db.write(rt, pass) {
-        Ok(txn) => run_begun(rt, alloc, db, txn, drawn),
-        Err(BeginRefused { pass, cause: _ }) => (pass, Err(AllocError)),
-    }
-}
-
-/// What is asked, of which table and index, with which arguments.
-type Asked = (Ask, (&'static str, &'static str), &'static str);
 
 /// The questions that are watched, each twice.
-static ASKED: [Asked; 20] = [
-    (Ask::First, ("users", "id"), r#"["a"]"#),
-    (Ask::First, ("users", "id"), r#"["ab"]"#),
-    (Ask::Last, ("users", "id"), r#"["abc"]"#),
-    (Ask::First, ("users", "id"), r#"["b"]"#),
-    (Ask::First, ("users", "id"), r#"["ba"]"#),
-    (Ask::First, ("users", "id"), r#"["c"]"#),
-    (Ask::First, ("users", "id"), r#"["abcd"]"#),
-    (Ask::First, ("users", "id"), r#"[]"#),
-    (Ask::Last, ("users", "id"), r#"[]"#),
-    (Ask::Get, ("users", "id"), r#"["ab"]"#),
-    (Ask::Get, ("users", "id_prefix"), r#"["a"]"#),
-    (Ask::Get, ("users", "id_prefix"), r#"["ab"]"#),
-    (Ask::GetReverse, ("users", "id_prefix"), r#"["b"]"#),
-    (Ask::Get, ("users", "id"), r#"[]"#),
-    (Ask::Get, ("users", "age"), r#"[1]"#),
-    (Ask::Get, ("users", "age"), r#"[2]"#),
-    (Ask::Last, ("users", "age"), r#"[3]"#),
-    (Ask::Get, ("notes", "id"), r#"[]"#),
-    (Ask::First, ("notes", "id"), r#"["ab"]"#),
-    (Ask::Get, ("notes", "id_prefix"), r#"["a"]"#),
+static ASKED: [Question; 20] = [
+    (Ask::First, "users", "id", r#"["a"]"#),
+    (Ask::First, "users", "id", r#"["ab"]"#),
+    (Ask::Last, "users", "id", r#"["abc"]"#),
+    (Ask::First, "users", "id", r#"["b"]"#),
+    (Ask::First, "users", "id", r#"["ba"]"#),
+    (Ask::First, "users", "id", r#"["c"]"#),
+    (Ask::First, "users", "id", r#"["abcd"]"#),
+    (Ask::First, "users", "id", r#"[]"#),
+    (Ask::Last, "users", "id", r#"[]"#),
+    (Ask::Get, "users", "id", r#"["ab"]"#),
+    (Ask::Get, "users", "id_prefix", r#"["a"]"#),
+    (Ask::Get, "users", "id_prefix", r#"["ab"]"#),
+    (Ask::GetReverse, "users", "id_prefix", r#"["b"]"#),
+    (Ask::Get, "users", "id", r#"[]"#),
+    (Ask::Get, "users", "age", r#"[1]"#),
+    (Ask::Get, "users", "age", r#"[2]"#),
+    (Ask::Last, "users", "age", r#"[3]"#),
+    (Ask::Get, "notes", "id", r#"[]"#),
+    (Ask::First, "notes", "id", r#"["ab"]"#),
+    (Ask::Get, "notes", "id_prefix", r#"["a"]"#),
 ];
 
 /// A held watch with a log of its book, and the answer that it was given; seen as the watch.
@@ -239,28 +129,12 @@ impl Model for Kept {
         let log = k.log in cell.book ≡ log.book };
 }
 
-impl Kept {
-    /// Whether its cell has fired.
-    fn is_fired(&self) -> bool {
-        self.held.watch().moved(&self.log).fired
-    }
-}
-
-/// The rows of an answer, one a line.
-fn told_of(alloc: Global, answer: &Answer) -> Result<Vec<u8>, AllocError> {
-    match answer {
-        Answer::Many(rows) => lines_of(alloc, rows),
-        Answer::One(Some(row)) => Ok(row.doc()?),
-        Answer::One(None) => Ok(Vec::new(alloc)),
-    }
-}
-
-/// The watch of a question in a state, whose log is of the same book.
-fn watch_of(alloc: Global, read: &ReadTxn, log: &Front, query: &Query) -> Result<Kept, AllocError>
-    requires { log.now.book ≡ read.now.book }
+/// A held watch with a log of its book, and the answer that it was given.
+fn kept_with(held: Held, log: &Front, told: Result<Vec<u8>, AllocError>) -> Result<Kept, AllocError>
+    requires { let h = held in let spot = h.spot in let cell = spot.watch in
+        cell.book ≡ log.now.book }
 {
-    let (answer, held) = watched_of(read, query)?;
-    let told = told_of(alloc, &answer)?;
+    let told = told?;
     Ok(Kept {
         held,
         log: log.share(),
@@ -268,23 +142,31 @@ fn watch_of(alloc: Global, read: &ReadTxn, log: &Front, query: &Query) -> Result
     })
 }
 
+/// The watch of a question in a state, whose log is of the same book.
+fn watch_of(alloc: Global, read: &ReadTxn, log: &Front, query: &Query) -> Result<Kept, AllocError>
+    requires { log.now.book ≡ read.now.book }
+{
+    let (answer, held) = watched_of(read, query)?;
+    kept_with(held, log, told_of(alloc, &answer))
+}
+
 /// The same of a question of the list.
 fn watch_asked(
     alloc: Global,
     read: &ReadTxn,
     log: &Front,
-    asked: &Asked,
+    question: &Question,
 ) -> Result<Kept, AllocError>
     requires { log.now.book ≡ read.now.book }
 {
-    let query = query_of(alloc, asked.0, asked.1, asked.2)?;
+    let query = query_of(alloc, question)?;
     watch_of(alloc, read, log, &query)
 }
 
 /// Whether a watch has fired exactly where its question has another cell now, and else its answer
 /// is as it was.
 fn is_right(kept: &Kept, next: &Kept) -> bool {
-    let fired = kept.is_fired();
+    let fired = kept.held.watch().moved(&kept.log).fired;
     fired == (next.held.id() != kept.held.id())
         && (fired || next.told.as_slice() == kept.told.as_slice())
 }
@@ -365,9 +247,9 @@ fn run_read<R: Wait>(
     ensures own { IsCaller db.now 1 result.0 }
     ensures same { let after = result.0 in after.book ≡ pass.book }
 {
-    let (mut pass, told) = run(rt, alloc, db, pass, drawn);
-    if told != Ok(true) {
-        return (pass, told);
+    let (mut pass, done) = transact(rt, alloc, db, pass, drawn);
+    if is_made(done).is_err() {
+        return (pass, Err(AllocError));
     }
     let told = match db.read(rt, &mut pass) {
         Ok(read) => is_right_read(alloc, &read, &drawn.plain, watches, log, turn),
@@ -409,13 +291,36 @@ fn second(read: &ReadTxn) -> Result<ReadTxn, AllocError> {
 }
 
 /// A snapshot of a snapshot.
-fn kept_of<R: Wait>(rt: &R, db: &Db, pass: &mut Pass) -> Result<ReadTxn, AllocError>
+pub fn kept_of<R: Wait>(rt: &R, db: &Db, pass: &mut Pass) -> Result<ReadTxn, AllocError>
     requires own { IsCaller db.now 1 pass.old }
     ensures own { IsCaller db.now 1 pass.new }
     ensures same { pass.new.book ≡ pass.old.book }
 {
     let read = db.read(rt, pass)?;
     second(&read.snapshot()?)
+}
+
+/// Runs transactions, and tells whether a state that is kept stays as it is.
+fn outlives<R: Wait>(
+    rt: &R,
+    alloc: Global,
+    db: &Db,
+    pass: Pass,
+    drawn: &mut Drawn,
+    watches: &mut Vec<Kept>,
+    log: &Front,
+    kept: &ReadTxn,
+) -> (Pass, Told)
+    requires own { IsCaller db.now 1 pass }
+    requires log { log.now.book ≡ pass.book }
+    ensures { IsCaller db.now 1 result.0 }
+{
+    let before = drawn.plain;
+    let (pass, told) = run_often(rt, alloc, db, pass, drawn, watches, log, 2_000);
+    match told {
+        Ok(true) => (pass, are_read(alloc, kept, &before)),
+        told => (pass, told),
+    }
 }
 
 /// Runs transactions, and tells whether a snapshot stays as it is over the later ones.
@@ -436,15 +341,9 @@ fn is_kept_long<R: Wait>(
     if first != Ok(true) {
         return (pass, first);
     }
-    let before = drawn.plain;
-    let kept = match kept_of(rt, db, &mut pass) {
-        Ok(kept) => kept,
-        Err(_) => return (pass, Err(AllocError)),
-    };
-    let (pass, next) = run_often(rt, alloc, db, pass, &mut drawn, watches, log, 2_000);
-    match next {
-        Ok(true) => (pass, are_read(alloc, &kept, &before)),
-        told => (pass, told),
+    match kept_of(rt, db, &mut pass) {
+        Ok(kept) => outlives(rt, alloc, db, pass, &mut drawn, watches, log, &kept),
+        Err(_) => (pass, Err(AllocError)),
     }
 }
 
@@ -489,18 +388,18 @@ fn run_all<R: Wait>(rt: &R, alloc: Global, db: &Db, pass: Pass) -> (Pass, Told)
     requires own { IsCaller db.now 1 pass }
     ensures { IsCaller db.now 1 result.0 }
 {
-    let (pass, first) = commit_all(rt, alloc, db, pass, &[]);
+    let (pass, first) = transact(rt, alloc, db, pass, &mut Steps(&[]));
     match first {
-        Ok(receipt) => run_watched(rt, alloc, db, pass, &receipt.log),
-        Err(_) => (pass, Err(AllocError)),
+        Ok(Some(receipt)) => run_watched(rt, alloc, db, pass, &receipt.log),
+        _ => (pass, Err(AllocError)),
     }
 }
 
 /// Whether a long run in a new database is right.
 fn is_always_right<R: Wait>(rt: &R, alloc: Global) -> Told {
-    let (db, passes, pass) = opened(alloc)?;
-    let (pass, told) = run_all(rt, alloc, &db, pass);
-    drop(closed(rt, db, passes, pass));
+    let (db, passes, one, two) = pair(alloc)?;
+    let (one, told) = run_all(rt, alloc, &db, one);
+    drop(closed(rt, db, passes, one, two));
     told
 }
 

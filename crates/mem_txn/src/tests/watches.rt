@@ -6,9 +6,8 @@ ghost use Rattle.mem_txn.specs.Checked.{IsBeginning, IsHeldBy};
 ghost use Rattle.mem_txn.specs.Database.{IsCaller};
 ghost use Rattle.mem_txn.specs.Held.{IsHeldOf};
 
-use super::callers::{closed, pair};
-use super::worked::{Asked, IDS, Step, query_as, write_all};
-use super::{Told, is_told};
+use super::worked::{Asked, Step, Steps};
+use super::{Told, closed, is_made, is_told, pair, query_of, transact};
 use crate::pass_laws::{asked_watches_are_held, held_watches_outlast_commits};
 use crate::{Db, Held, Look, Pass, ReadTxn};
 use mdb_schema::{Answer, Ask, Query};
@@ -21,25 +20,26 @@ use std::test::Fail;
 type Case = (&'static str, &'static [Step], Asked, bool);
 
 /// Two users, whom commit 1 stores.
-static FIRST: [Step; 2] = [
+const FIRST: &[Step] = &[
     Step::Insert(("users", r#"{"name":"foo","age":1}"#, "inserted")),
     Step::Insert(("users", r#"{"name":"football","age":2}"#, "inserted")),
 ];
 
-const FOO: Asked = (Ask::First, IDS, r#"["foo"]"#, r#"{"age":1,"name":"foo"}"#);
+const FOO: Asked = (
+    (Ask::First, "users", "id", r#"["foo"]"#),
+    r#"{"age":1,"name":"foo"}"#,
+);
 
-const NO_FOOL: Asked = (Ask::First, IDS, r#"["fool"]"#, "none");
+const NO_FOOL: Asked = ((Ask::First, "users", "id", r#"["fool"]"#), "none");
 
-const NO_FOOT: Asked = (Ask::First, IDS, r#"["foot"]"#, "none");
+const NO_FOOT: Asked = ((Ask::First, "users", "id", r#"["foot"]"#), "none");
 
 const BOTH: Asked = (
-    Ask::Get,
-    ("users", "id_prefix"),
-    r#"["fo"]"#,
+    (Ask::Get, "users", "id_prefix", r#"["fo"]"#),
     "{\"age\":1,\"name\":\"foo\"}\n{\"age\":2,\"name\":\"football\"}\n",
 );
 
-const NO_NOTE: Asked = (Ask::First, ("notes", "id"), r#"["n"]"#, "none");
+const NO_NOTE: Asked = ((Ask::First, "notes", "id", r#"["n"]"#), "none");
 
 const FOOL: Step = Step::Insert(("users", r#"{"name":"fool","age":3}"#, "inserted"));
 
@@ -47,7 +47,11 @@ const FOOT: Step = Step::Insert(("users", r#"{"name":"foot","age":3}"#, "inserte
 
 const FOOP: Step = Step::Insert(("users", r#"{"name":"foop","age":3}"#, "inserted"));
 
-const NO_FOOTBALL: Step = Step::Delete(("users", r#"{"name":"football"}"#, "deleted"));
+const NO_FOOTBALL: Step = Step::Delete((
+    "users",
+    r#"{"name":"football"}"#,
+    r#"{"age":2,"name":"football"}"#,
+));
 
 const A_NOTE: Step = Step::Insert(("notes", r#"{"name":"n"}"#, "inserted"));
 
@@ -81,24 +85,30 @@ pub fn watched_of(read: &ReadTxn, query: &Query) -> Result<(Answer, Held), Alloc
     }
 }
 
+/// A held watch, where its answer is right.
+fn held_where(right: Told, held: Held) -> Result<Held, AllocError>
+    ensures { IfOk result (λ h. h ≡ held) }
+{
+    match right {
+        Ok(true) => Ok(held),
+        _ => Err(AllocError),
+    }
+}
+
 /// The held watch of a question that has this answer.
 fn held_so(alloc: Global, read: &ReadTxn, query: &Query, told: &str) -> Result<Held, AllocError>
     ensures { IfOk result (λ h. IsHeldOf read.now query.now h) }
 {
     let (answer, held) = watched_of(read, query)?;
-    if is_told(alloc, &answer, told)? {
-        Ok(held)
-    } else {
-        Err(AllocError)
-    }
+    held_where(is_told(alloc, &answer, told), held)
 }
 
 /// The same of a question of a list.
 fn held_of(alloc: Global, read: &ReadTxn, asked: &Asked) -> Result<Held, AllocError>
     ensures { IfOk result (λ h. (q : query.Query) × IsHeldOf read.now q h) }
 {
-    let query = query_as(alloc, asked)?;
-    held_so(alloc, read, &query, asked.3)
+    let query = query_of(alloc, &asked.0)?;
+    held_so(alloc, read, &query, asked.1)
 }
 
 /// The same, asked after all commits that there are.
@@ -124,16 +134,18 @@ fn has_moved(held: &Held, read: &ReadTxn) -> Told {
     Ok(again.id() != held.id())
 }
 
-/// What a check tells after the second commit.
-fn look_of(fires: bool) -> Look {
-    if fires {
+/// Whether a check after the second commit tells so, and the question has another cell exactly
+/// where the watch fires.
+fn is_look(look: Look, moved: Told, fires: bool) -> Told {
+    let expected = if fires {
         Look::Fired { at: 2 }
     } else {
         Look::Quiet { at: 2 }
-    }
+    };
+    Ok(look == expected && moved? == fires)
 }
 
-/// Whether a check tells so, and the question has another cell exactly where the watch fires.
+/// Whether a watch is found so.
 fn is_found<R: Wait>(rt: &R, db: &Db, pass: &mut Pass, held: &Held, fires: bool) -> Told
     requires own { IsCaller db.now 1 pass.old }
     requires held { IsHeldBy pass.old held.now }
@@ -141,7 +153,7 @@ fn is_found<R: Wait>(rt: &R, db: &Db, pass: &mut Pass, held: &Held, fires: bool)
 {
     let look = db.check(rt, pass, held)?;
     let read = db.read(rt, pass)?;
-    Ok(look == look_of(fires) && has_moved(held, &read)? == fires)
+    is_look(look, has_moved(held, &read), fires)
 }
 
 /// The second commit, of the first of two callers or of the other one.
@@ -151,9 +163,9 @@ fn write_one<R: Wait>(
     db: &Db,
     one: Pass,
     two: Pass,
-    steps: &[Step],
+    steps: &'static [Step],
     own: bool,
-) -> (Pass, Pass, Result<(), AllocError>)
+) -> (Pass, Pass, Told)
     requires one { IsCaller db.now 1 one }
     requires two { IsCaller db.now 2 two }
     ensures one { IsCaller db.now 1 result.0 }
@@ -161,11 +173,11 @@ fn write_one<R: Wait>(
     ensures more { IsBeginning one result.0 }
 {
     if own {
-        let (one, done) = write_all(rt, alloc, db, one, steps);
-        (one, two, done)
+        let (one, done) = transact(rt, alloc, db, one, &mut Steps(steps));
+        (one, two, is_made(done))
     } else {
-        let (two, done) = write_all(rt, alloc, db, two, steps);
-        (one, two, done)
+        let (two, done) = transact(rt, alloc, db, two, &mut Steps(steps));
+        (one, two, is_made(done))
     }
 }
 
@@ -186,9 +198,9 @@ fn fires_after<R: Wait>(
     ensures one { IsCaller db.now 1 result.0 }
     ensures two { IsCaller db.now 2 result.1 }
 {
-    let (mut one, two, done) = write_one(rt, alloc, db, one, two, case.1, own);
-    if done.is_err() {
-        return (one, two, Err(AllocError));
+    let (mut one, two, made) = write_one(rt, alloc, db, one, two, case.1, own);
+    if made != Ok(true) {
+        return (one, two, made);
     }
     held_watches_outlast_commits(&one);
     let told = is_found(rt, db, &mut one, held, case.3);
@@ -207,13 +219,13 @@ fn hold_behind<R: Wait>(
     ensures own { IsCaller db.now 1 result.0 }
     ensures held { let after = result.0 in IfOk result.1 (λ h. IsHeldBy after h) }
 {
-    let (mut pass, done) = write_all(rt, alloc, db, pass, &FIRST);
-    match done {
-        Ok(()) => {
+    let (mut pass, done) = transact(rt, alloc, db, pass, &mut Steps(FIRST));
+    match is_made(done) {
+        Ok(true) => {
             let held = hold(rt, alloc, db, &mut pass, asked);
             (pass, held)
         }
-        Err(_) => (pass, Err(AllocError)),
+        _ => (pass, Err(AllocError)),
     }
 }
 

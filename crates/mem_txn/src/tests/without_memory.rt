@@ -4,10 +4,9 @@ ghost use Rattle.std.specs.Prelude.{◌≡◌};
 ghost use Rattle.mem_txn.specs.Database.{IsCaller};
 ghost use Rattle.mem_txn.specs.Transactions.{changes_of};
 
-use super::callers::{closed, pair};
 use super::drawn::{Drawn, Plain, table_of, text_of};
 use super::long_run::are_read;
-use super::{Told, Txn, row_of};
+use super::{Told, Txn, closed, pair, row_of};
 use crate::{BeginError, BeginRefused, CommitError, CommitRefused, Committed, Db, Pass, SnapError};
 use std::alloc::{AllocError, Global};
 use std::sync::Wait;
@@ -57,6 +56,31 @@ fn end<R: Wait>(
     }
 }
 
+/// Whether the snapshot of a transaction tells that it is spoiled.
+fn is_spoiled(txn: &mut Txn) -> bool
+    ensures { (changes_of txn.new).caller ≡ (changes_of txn.old).caller }
+{
+    matches!(txn.snapshot(), Err(SnapError::Spoiled))
+}
+
+/// Ends it so, and tells whether a snapshot before is answered right too.
+fn end_shown<R: Wait>(
+    rt: &R,
+    db: &Db,
+    txn: Txn,
+    spoiled: bool,
+    before: Plain,
+    plain: &mut Plain,
+) -> (Pass, Told)
+    requires own { IsCaller db.now 1 (changes_of txn).caller }
+    ensures { IsCaller db.now 1 result.0 }
+{
+    let mut txn = txn;
+    let told = is_spoiled(&mut txn) == spoiled;
+    let (pass, right) = end(rt, db, txn, spoiled, before, plain);
+    (pass, Ok(right && told))
+}
+
 /// Tries a transaction, and tells whether it is answered right. Then these are the rows.
 fn try_begun<R: Wait>(rt: &R, alloc: Global, db: &Db, txn: Txn, drawn: &mut Drawn) -> (Pass, Told)
     requires own { IsCaller db.now 1 (changes_of txn).caller }
@@ -65,11 +89,7 @@ fn try_begun<R: Wait>(rt: &R, alloc: Global, db: &Db, txn: Txn, drawn: &mut Draw
     let mut txn = txn;
     let before = drawn.plain;
     match insert_some(alloc, drawn, &mut txn) {
-        Ok(spoiled) => {
-            let told = matches!(txn.snapshot(), Err(SnapError::Spoiled)) == spoiled;
-            let (pass, right) = end(rt, db, txn, spoiled, before, &mut drawn.plain);
-            (pass, Ok(right && told))
-        }
+        Ok(spoiled) => end_shown(rt, db, txn, spoiled, before, &mut drawn.plain),
         Err(_) => (txn.abort(db), Err(AllocError)),
     }
 }

@@ -1,43 +1,33 @@
 //! Worked examples: transactions on a database, each write and question with its answer.
-ghost use Rattle.std.specs.Prelude.{◌≡◌, IfOk};
-ghost use Rattle.mem_txn.specs.Checked.{IsBeginning};
-ghost use Rattle.mem_txn.specs.Database.{IsCaller, IsOf};
+ghost use Rattle.std.specs.Prelude.{◌≡◌};
+ghost use Rattle.mem_txn.specs.Database.{IsCaller};
 ghost use Rattle.mem_txn.specs.Transactions.{changes_of};
 
-use super::{Told, Txn, closed, committed, is_told, opened, query_of, row_of};
-use crate::{BeginRefused, Db, Pass, ReadTxn, Receipt, Snapshot, TxnAskError, TxnWriteError};
+use super::{Question, Told, Txn, Work, closed, is_told, pair, query_of, row_of, transact};
+use crate::{
+    Db, DeferredList, Pass, ReadTxn, Receipt, Snapshot, TxnAskError, TxnWipeError, TxnWriteError,
+};
+use mdb_datum::Row;
 use mdb_schema::{Answer, Ask, AskError, Query, WriteError};
 use std::alloc::{AllocError, Global};
 use std::sync::Wait;
 use std::test::Fail;
 
-/// A question: what is asked, of which table and index, with which arguments, and its answer.
-pub type Asked = (
-    Ask,
-    (&'static str, &'static str),
-    &'static str,
-    &'static str,
-);
+/// A question and its answer.
+pub type Asked = (Question, &'static str);
 
-/// What a commit gives.
-pub type Done = Result<Receipt<u8>, AllocError>;
-
-/// A write: its table, its row and its answer.
+/// A write: its table, its row and its answer. That of a delete is the row taken out.
 pub type Line = (&'static str, &'static str, &'static str);
 
 /// A step of a transaction.
 pub enum Step {
     Insert(Line),
     Delete(Line),
-    /// The users whose ids begin so are taken out, and so many are there.
-    Wipe(&'static str, u64),
+    /// The rows that a question lists are taken out, and so many are there.
+    Wipe(Question, u64),
     Tell(Asked),
+    Defer(&'static str),
 }
-
-/// The users by their ids.
-pub const IDS: (&str, &str) = ("users", "id");
-
-const AGES: (&str, &str) = ("users", "age");
 
 /// The word of a refused write, with the name of its index.
 fn write_word(error: TxnWriteError) -> &'static str {
@@ -76,49 +66,100 @@ fn is_word(expected: &str, word: &str) -> Told {
     Ok(expected == word)
 }
 
+/// The word of an insert.
+fn put_word(replaced: bool) -> &'static str {
+    if replaced { "replaced" } else { "inserted" }
+}
+
 /// Whether a row is put so.
-fn is_put(alloc: Global, txn: &mut Txn, line: &Line) -> Told
+pub fn is_put(alloc: Global, txn: &mut Txn, line: &Line) -> Told
     ensures { (changes_of txn.new).caller ≡ (changes_of txn.old).caller }
 {
     match txn.insert(line.0, &row_of(alloc, line.1)?) {
-        Ok(replaced) => Ok(line.2 == if replaced { "replaced" } else { "inserted" }),
+        Ok(replaced) => is_word(line.2, put_word(replaced)),
         Err(error) => is_word(line.2, write_word(error)),
     }
+}
+
+/// Whether a row has this text.
+pub fn is_row(row: &Row, expected: &str) -> Told {
+    Ok(row.doc()?.as_slice() == expected.as_bytes())
 }
 
 /// Whether a row is taken out so.
-fn is_deleted(alloc: Global, txn: &mut Txn, line: &Line) -> Told
+pub fn is_deleted(alloc: Global, txn: &mut Txn, line: &Line) -> Told
     ensures { (changes_of txn.new).caller ≡ (changes_of txn.old).caller }
 {
     match txn.delete(line.0, &row_of(alloc, line.1)?) {
-        Ok(_) => Ok(line.2 == "deleted"),
+        Ok(old) => is_row(&old, line.2),
         Err(error) => is_word(line.2, write_word(error)),
     }
 }
 
-/// Whether so many users are taken out whose ids begin so.
-fn is_wiped(alloc: Global, txn: &mut Txn, prefix: &str, count: u64) -> Told
+/// Takes out the rows that a question lists.
+fn wiped(txn: &mut Txn, query: &Query, by_prefix: bool) -> Result<u64, TxnWipeError>
     ensures { (changes_of txn.new).caller ≡ (changes_of txn.old).caller }
 {
-    match txn.delete_prefix(&query_of(alloc, Ask::Get, ("users", "id_prefix"), prefix)?) {
+    if by_prefix {
+        txn.delete_prefix(query)
+    } else {
+        txn.delete_all(query)
+    }
+}
+
+/// Whether so many rows are taken out that a question lists.
+pub fn is_wiped(alloc: Global, txn: &mut Txn, question: &Question, count: u64) -> Told
+    ensures { (changes_of txn.new).caller ≡ (changes_of txn.old).caller }
+{
+    let query = query_of(alloc, question)?;
+    match wiped(txn, &query, question.2.ends_with("_prefix")) {
         Ok(gone) => Ok(gone == count),
         Err(_) => Err(AllocError),
     }
 }
 
-/// A question of a list.
-pub fn query_as(alloc: Global, asked: &Asked) -> Result<Query, AllocError> {
-    query_of(alloc, asked.0, asked.1, asked.2)
+/// Whether an answer is this one, or a refusal of this word.
+fn is_answered(alloc: Global, answer: Result<Answer, AskError>, expected: &str) -> Told {
+    match answer {
+        Ok(answer) => is_told(alloc, &answer, expected),
+        Err(error) => is_word(expected, ask_word(error)),
+    }
+}
+
+/// What a transaction answers; one that is spoiled found no memory.
+fn own_answer(answer: Result<Answer, TxnAskError>) -> Result<Answer, AskError> {
+    match answer {
+        Ok(answer) => Ok(answer),
+        Err(TxnAskError::Refused(error)) => Err(error),
+        Err(TxnAskError::Spoiled) => Err(AskError::Memory),
+    }
 }
 
 /// Whether a transaction answers a question so.
-fn is_own(alloc: Global, txn: &mut Txn, asked: &Asked) -> Told
+pub fn is_own(alloc: Global, txn: &mut Txn, question: &Question, expected: &str) -> Told
     ensures { (changes_of txn.new).caller ≡ (changes_of txn.old).caller }
 {
-    match txn.ask(&query_as(alloc, asked)?) {
-        Ok(answer) => is_told(alloc, &answer, asked.3),
-        Err(TxnAskError::Refused(error)) => is_word(asked.3, ask_word(error)),
-        Err(TxnAskError::Spoiled) => Ok(false),
+    let answer = txn.ask(&query_of(alloc, question)?);
+    is_answered(alloc, own_answer(answer), expected)
+}
+
+/// Whether a snapshot answers a question so.
+pub fn is_kept(alloc: Global, kept: &Snapshot, question: &Question, expected: &str) -> Told {
+    is_answered(alloc, kept.ask(&query_of(alloc, question)?), expected)
+}
+
+/// Whether a read transaction answers a question so.
+pub fn is_read(alloc: Global, read: &ReadTxn, question: &Question, expected: &str) -> Told {
+    is_answered(alloc, read.ask(&query_of(alloc, question)?), expected)
+}
+
+/// Whether an item is deferred.
+fn is_deferred(alloc: Global, txn: &mut Txn, item: &str) -> Told
+    ensures { (changes_of txn.new).caller ≡ (changes_of txn.old).caller }
+{
+    match txn.defer(String::from_str(alloc, item)?) {
+        Ok(()) => Ok(true),
+        Err(_) => Err(AllocError),
     }
 }
 
@@ -129,8 +170,9 @@ fn is_done(alloc: Global, txn: &mut Txn, step: &Step) -> Told
     match step {
         Step::Insert(line) => is_put(alloc, txn, line),
         Step::Delete(line) => is_deleted(alloc, txn, line),
-        Step::Wipe(prefix, count) => is_wiped(alloc, txn, prefix, *count),
-        Step::Tell(asked) => is_own(alloc, txn, asked),
+        Step::Wipe(question, count) => is_wiped(alloc, txn, question, *count),
+        Step::Tell(asked) => is_own(alloc, txn, &asked.0, asked.1),
+        Step::Defer(item) => is_deferred(alloc, txn, item),
     }
 }
 
@@ -146,204 +188,270 @@ fn are_done(alloc: Global, txn: &mut Txn, steps: &[Step]) -> Told
     Ok(true)
 }
 
-/// Ends a transaction of these steps by its commit.
-fn commit_begun<R: Wait>(rt: &R, alloc: Global, db: &Db, txn: Txn, steps: &[Step]) -> (Pass, Done)
-    requires own { IsOf db.now (changes_of txn).caller }
-    ensures own { IsCaller db.now (changes_of txn).caller.number result.0 }
-    ensures more { IsBeginning (changes_of txn).caller result.0 }
-    ensures book { let pass = result.0 in
-        IfOk result.1 (λ r. let log = r.log in log.book ≡ pass.book) }
-{
-    let mut txn = txn;
-    match are_done(alloc, &mut txn, steps) {
-        Ok(true) => committed(rt, db, txn),
-        _ => (txn.abort(db), Err(AllocError)),
+/// Steps that are committed where each is answered so, and else aborted.
+#[derive(Drop)]
+pub struct Steps(pub &'static [Step]);
+
+impl Work for Steps {
+    fn run(&mut self, alloc: Global, txn: &mut Txn) -> Told {
+        are_done(alloc, txn, self.0)
     }
 }
 
-/// Makes these steps a commit, and gives its receipt. Another answer ends the test.
-pub fn commit_all<R: Wait>(
-    rt: &R,
-    alloc: Global,
-    db: &Db,
-    pass: Pass,
-    steps: &[Step],
-) -> (Pass, Done)
-    requires own { IsOf db.now pass }
-    ensures own { IsCaller db.now pass.number result.0 }
-    ensures more { IsBeginning pass result.0 }
-    ensures book { let after = result.0 in
-        IfOk result.1 (λ r. let log = r.log in log.book ≡ after.book) }
-{
-    match db.write(rt, pass) {
-        Ok(txn) => commit_begun(rt, alloc, db, txn, steps),
-        Err(BeginRefused { pass, cause: _ }) => (pass, Err(AllocError)),
-    }
-}
-
-/// The same, where the receipt isn't looked at.
-pub fn write_all<R: Wait>(
-    rt: &R,
-    alloc: Global,
-    db: &Db,
-    pass: Pass,
-    steps: &[Step],
-) -> (Pass, Result<(), AllocError>)
-    requires own { IsOf db.now pass }
-    ensures own { IsCaller db.now pass.number result.0 }
-    ensures more { IsBeginning pass result.0 }
-{
-    let (pass, done) = commit_all(rt, alloc, db, pass, steps);
-    (pass, done.and(Ok(())))
-}
-
-/// Whether these steps are answered so in a transaction that is aborted.
-fn abort_all<R: Wait>(rt: &R, alloc: Global, db: &Db, pass: Pass, steps: &[Step]) -> (Pass, Told)
-    requires own { IsCaller db.now 1 pass }
-    ensures { IsCaller db.now 1 result.0 }
-{
-    match db.write(rt, pass) {
-        Ok(txn) => {
-            let mut txn = txn;
-            let told = are_done(alloc, &mut txn, steps);
-            (txn.abort(db), told)
-        }
-        Err(BeginRefused { pass, cause: _ }) => (pass, Err(AllocError)),
-    }
-}
-
-/// A script of two transactions: their steps, whether the second one is committed, and questions of
-/// what is read then.
-struct Script {
+/// A transaction: its steps up to a snapshot, a question of that when all is over, the steps after
+/// it, whether they are committed, the items that the commit hands out, in the order in which they
+/// were deferred, the number of the last commit then, and questions of what is read.
+struct Turn {
     first: &'static [Step],
+    kept: Asked,
     next: &'static [Step],
     commits: bool,
+    items: &'static [&'static str],
+    number: u64,
     questions: &'static [Asked],
 }
 
-/// Plays a script's second transaction.
-fn play_next<R: Wait>(rt: &R, alloc: Global, db: &Db, pass: Pass, script: &Script) -> (Pass, Told)
-    requires own { IsCaller db.now 1 pass }
-    ensures { IsCaller db.now 1 result.0 }
+/// A transaction that is played, and its snapshot.
+#[derive(Drop)]
+struct Play {
+    turn: &'static Turn,
+    kept: Option<Snapshot>,
+}
+
+/// The snapshot after some steps of a transaction.
+fn snapshot_after(alloc: Global, txn: &mut Txn, steps: &[Step]) -> Result<Snapshot, AllocError>
+    ensures { (changes_of txn.new).caller ≡ (changes_of txn.old).caller }
 {
-    if !script.commits {
-        return abort_all(rt, alloc, db, pass, script.next);
+    if !are_done(alloc, txn, steps)? {
+        return Err(AllocError);
     }
-    let (pass, done) = write_all(rt, alloc, db, pass, script.next);
-    (pass, done.and(Ok(true)))
+    match txn.snapshot() {
+        Ok(snapshot) => Ok(snapshot),
+        Err(_) => Err(AllocError),
+    }
 }
 
-/// Plays both.
-fn play<R: Wait>(rt: &R, alloc: Global, db: &Db, pass: Pass, script: &Script) -> (Pass, Told)
-    requires own { IsCaller db.now 1 pass }
-    ensures { IsCaller db.now 1 result.0 }
+/// The snapshot between the steps of a transaction.
+fn between(alloc: Global, txn: &mut Txn, turn: &Turn) -> Result<Snapshot, AllocError>
+    ensures { (changes_of txn.new).caller ≡ (changes_of txn.old).caller }
 {
-    let (pass, done) = write_all(rt, alloc, db, pass, script.first);
-    match done {
-        Ok(()) => play_next(rt, alloc, db, pass, script),
-        Err(_) => (pass, Err(AllocError)),
+    let snapshot = snapshot_after(alloc, txn, turn.first)?;
+    if are_done(alloc, txn, turn.next)? {
+        Ok(snapshot)
+    } else {
+        Err(AllocError)
     }
 }
 
-/// Whether an answer is this one, or a refusal of this word.
-fn is_answered(alloc: Global, answer: Result<Answer, AskError>, expected: &str) -> Told {
-    match answer {
-        Ok(answer) => is_told(alloc, &answer, expected),
-        Err(error) => is_word(expected, ask_word(error)),
+impl Work for Play {
+    fn run(&mut self, alloc: Global, txn: &mut Txn) -> Told {
+        self.kept = Some(between(alloc, txn, self.turn)?);
+        Ok(self.turn.commits)
     }
 }
 
-/// Whether a read transaction answers a question so.
-fn is_read(alloc: Global, read: &ReadTxn, asked: &Asked) -> Told {
-    is_answered(alloc, read.ask(&query_as(alloc, asked)?), asked.3)
+/// Whether an item is there, and is this one.
+fn is_item(item: Option<&String>, expected: &str) -> bool {
+    match item {
+        Some(item) => item.as_str() == expected,
+        None => false,
+    }
+}
+
+/// Whether these items are found by their places, last first.
+fn are_placed(items: &DeferredList<String>, expected: &[&str]) -> bool {
+    for (at, item) in expected.iter().rev().enumerate() {
+        if !is_item(items.get(at), item) {
+            return false;
+        }
+    }
+    items.get(expected.len()).is_none() && items.len() == expected.len()
+}
+
+/// Takes an item out, and tells whether it is this one.
+fn is_taken(items: &mut DeferredList<String>, expected: &str) -> bool {
+    is_item(items.take().as_ref(), expected)
+}
+
+/// Takes the items out, and tells whether they are these, last first.
+fn are_taken(items: &mut DeferredList<String>, expected: &[&str]) -> bool {
+    for item in expected.iter().rev() {
+        if !is_taken(items, item) {
+            return false;
+        }
+    }
+    items.take().is_none() && items.len() == 0
+}
+
+/// Whether a transaction's end gives what it should.
+fn is_received(receipt: Option<Receipt<String>>, turn: &Turn) -> bool {
+    let Some(receipt) = receipt else {
+        return !turn.commits;
+    };
+    let mut items = receipt.items;
+    turn.commits
+        && receipt.number == turn.number
+        && are_placed(&items, turn.items)
+        && are_taken(&mut items, turn.items)
 }
 
 /// Whether a read transaction on this commit answers each question so.
 fn are_read(alloc: Global, read: &ReadTxn, number: u64, questions: &[Asked]) -> Told {
     for asked in questions {
-        if !is_read(alloc, read, asked)? {
+        if !is_read(alloc, read, &asked.0, asked.1)? {
             return Ok(false);
         }
     }
     Ok(read.number() == number)
 }
 
-/// Whether a caller reads this commit, which answers each question so.
-fn reads_so<R: Wait>(
+/// Whether a snapshot and a later read transaction answer so, where the end was right.
+fn are_apart(alloc: Global, right: bool, play: &Play, read: &ReadTxn) -> Told {
+    let turn = play.turn;
+    match &play.kept {
+        Some(kept) if right => Ok(
+            is_kept(alloc, kept, &turn.kept.0, turn.kept.1)?
+                && are_read(alloc, read, turn.number, turn.questions)?,
+        ),
+        _ => Ok(false),
+    }
+}
+
+/// The same of what a caller reads now.
+fn is_left<R: Wait>(
     rt: &R,
     alloc: Global,
     db: &Db,
     pass: &mut Pass,
-    number: u64,
-    questions: &[Asked],
+    play: &Play,
+    right: bool,
 ) -> Told
     requires own { IsCaller db.now 1 pass.old }
     ensures { IsCaller db.now 1 pass.new }
 {
     let read = db.read(rt, pass)?;
-    are_read(alloc, &read, number, questions)
+    are_apart(alloc, right, play, &read)
 }
 
-/// Whether a script is answered so, and then what is read.
-fn is_played_on<R: Wait>(
+/// Whether a transaction is answered so, and what it leaves.
+fn is_played<R: Wait>(
     rt: &R,
     alloc: Global,
     db: &Db,
     pass: Pass,
-    script: &Script,
+    turn: &'static Turn,
 ) -> (Pass, Told)
     requires own { IsCaller db.now 1 pass }
     ensures { IsCaller db.now 1 result.0 }
 {
-    let (mut pass, told) = play(rt, alloc, db, pass, script);
-    let number = if script.commits { 2 } else { 1 };
-    let told = match told {
-        Ok(true) => reads_so(rt, alloc, db, &mut pass, number, script.questions),
-        told => told,
+    let mut play = Play { turn, kept: None };
+    let (mut pass, done) = transact(rt, alloc, db, pass, &mut play);
+    let told = match done {
+        Ok(receipt) => is_left(rt, alloc, db, &mut pass, &play, is_received(receipt, turn)),
+        Err(_) => Err(AllocError),
     };
     (pass, told)
 }
 
+/// Whether each transaction is answered so.
+fn are_played<R: Wait>(
+    rt: &R,
+    alloc: Global,
+    db: &Db,
+    pass: Pass,
+    script: &'static [Turn],
+) -> (Pass, Told)
+    requires own { IsCaller db.now 1 pass }
+    ensures { IsCaller db.now 1 result.0 }
+{
+    let mut pass = pass;
+    for turn in script {
+        let (next, told) = is_played(rt, alloc, db, pass, turn);
+        pass = next;
+        match told {
+            Ok(true) => {}
+            told => return (pass, told),
+        }
+    }
+    (pass, Ok(true))
+}
+
 /// The same in a new database.
-fn is_played<R: Wait>(rt: &R, alloc: Global, script: &Script) -> Told {
-    let (db, passes, pass) = opened(alloc)?;
-    let (pass, told) = is_played_on(rt, alloc, &db, pass, script);
-    drop(closed(rt, db, passes, pass));
+fn is_script<R: Wait>(rt: &R, alloc: Global, script: &'static [Turn]) -> Told {
+    let (db, passes, one, two) = pair(alloc)?;
+    let (one, told) = are_played(rt, alloc, &db, one, script);
+    drop(closed(rt, db, passes, one, two));
     told
 }
 
-const NO_USERS: Asked = (Ask::Get, IDS, "[]", "");
+const NO_USERS: Asked = ((Ask::Get, "users", "id", "[]"), "");
+
+const ANN: Asked = (
+    (Ask::Get, "users", "id", "[]"),
+    "{\"age\":3,\"name\":\"ann\"}\n",
+);
+
+const THREE: Asked = (
+    (Ask::Get, "users", "id", "[]"),
+    "{\"age\":4,\"name\":\"ann\"}\n{\"age\":2,\"name\":\"bob\"}\n{\"age\":1,\"name\":\"cy\"}\n",
+);
 
 const MAILS: Asked = (
-    Ask::Get,
-    ("users", "mail"),
-    "[]",
+    (Ask::Get, "users", "mail", "[]"),
     "{\"age\":1,\"mail\":\"m\",\"name\":\"ann\"}\n",
 );
 
-static SCRIPTS: [Script; 3] = [
-    Script {
+const ONES: Asked = (
+    (Ask::Get, "users", "age", "[1]"),
+    "{\"age\":1,\"name\":\"ann\"}\n{\"age\":1,\"name\":\"anna\"}\n{\"age\":1,\"name\":\"bob\"}\n",
+);
+
+const BOB: Asked = (
+    (Ask::Get, "users", "age", "[1]"),
+    "{\"age\":1,\"name\":\"bob\"}\n",
+);
+
+/// Rows are put, replaced and asked for.
+static PUTS: [Turn; 2] = [
+    Turn {
         first: &[Step::Insert(("users", r#"{"name":"ann","age":3}"#, "inserted"))],
-        next: &[
+        kept: ANN,
+        next: &[],
+        commits: true,
+        items: &[],
+        number: 1,
+        questions: &[ANN],
+    },
+    Turn {
+        first: &[
             Step::Insert(("users", r#"{"name":"ann","age":4}"#, "replaced")),
             Step::Insert(("users", r#"{"name":"cy","age":1}"#, "inserted")),
             Step::Insert(("users", r#"{"name":"bob","age":2}"#, "inserted")),
-            Step::Tell((Ask::First, IDS, r#"["ann"]"#, r#"{"age":4,"name":"ann"}"#)),
             Step::Tell((
-                Ask::Get,
-                IDS,
-                "[]",
-                "{\"age\":4,\"name\":\"ann\"}\n{\"age\":2,\"name\":\"bob\"}\n{\"age\":1,\"name\":\"cy\"}\n",
+                (Ask::First, "users", "id", r#"["ann"]"#),
+                r#"{"age":4,"name":"ann"}"#,
             )),
+            Step::Tell(THREE),
         ],
+        kept: THREE,
+        next: &[],
         commits: true,
+        items: &[],
+        number: 2,
         questions: &[
-            (Ask::Get, AGES, "[3]", ""),
-            (Ask::Get, AGES, "[4]", "{\"age\":4,\"name\":\"ann\"}\n"),
-            (Ask::Last, IDS, "[]", r#"{"age":1,"name":"cy"}"#),
+            ((Ask::Get, "users", "age", "[3]"), ""),
+            (
+                (Ask::Get, "users", "age", "[4]"),
+                "{\"age\":4,\"name\":\"ann\"}\n",
+            ),
+            ((Ask::Last, "users", "id", "[]"), r#"{"age":1,"name":"cy"}"#),
         ],
     },
-    Script {
+];
+
+/// A key that is taken refuses a row, and a row is taken out once.
+static MAILED: [Turn; 2] = [
+    Turn {
         first: &[
             Step::Insert(("users", r#"{"name":"ann","age":1,"mail":"m"}"#, "inserted")),
             Step::Insert((
@@ -354,16 +462,40 @@ static SCRIPTS: [Script; 3] = [
             Step::Insert(("users", r#"{"name":"bob","age":2}"#, "inserted")),
             Step::Tell(MAILS),
         ],
-        next: &[
-            Step::Delete(("users", r#"{"name":"bob"}"#, "deleted")),
+        kept: MAILS,
+        next: &[],
+        commits: true,
+        items: &[],
+        number: 1,
+        questions: &[MAILS],
+    },
+    Turn {
+        first: &[
+            Step::Delete(("users", r#"{"name":"bob"}"#, r#"{"age":2,"name":"bob"}"#)),
             Step::Delete(("users", r#"{"name":"bob"}"#, "not-found")),
         ],
+        kept: MAILS,
+        next: &[],
         commits: true,
-        questions: &[MAILS, (Ask::Get, AGES, "[2]", "")],
+        items: &[],
+        number: 2,
+        questions: &[MAILS, ((Ask::Get, "users", "age", "[2]"), "")],
     },
-    Script {
+];
+
+/// Writes and questions that are refused.
+static REFUSED: [Turn; 2] = [
+    Turn {
         first: &[],
-        next: &[
+        kept: NO_USERS,
+        next: &[],
+        commits: true,
+        items: &[],
+        number: 1,
+        questions: &[NO_USERS],
+    },
+    Turn {
+        first: &[
             Step::Insert(("user", r#"{"name":"a","age":1}"#, "unknown-table")),
             Step::Delete(("user", r#"{"name":"a","age":1}"#, "unknown-table")),
             Step::Insert(("users", r#"{"age":1}"#, "no-id")),
@@ -378,139 +510,105 @@ static SCRIPTS: [Script; 3] = [
             Step::Insert(("users", r#"{"name":"","age":1}"#, "no-id")),
             Step::Tell(NO_USERS),
         ],
+        kept: NO_USERS,
+        next: &[],
         commits: true,
+        items: &[],
+        number: 2,
         questions: &[
-            (Ask::Get, ("user", "id"), "[]", "unknown-table"),
-            (Ask::Get, ("users", "ids"), "[]", "unknown-index"),
-            (Ask::Get, ("users", "age_prefix"), "[1]", "no-prefix-form"),
-            (Ask::Get, AGES, r#"["1"]"#, "arg-kind"),
-            (Ask::Get, AGES, "[1,2]", "arg-count"),
-            (Ask::Longest, IDS, r#"["a"]"#, "no-prefix-name"),
+            ((Ask::Get, "user", "id", "[]"), "unknown-table"),
+            ((Ask::Get, "users", "ids", "[]"), "unknown-index"),
+            ((Ask::Get, "users", "age_prefix", "[1]"), "no-prefix-form"),
+            ((Ask::Get, "users", "age", r#"["1"]"#), "arg-kind"),
+            ((Ask::Get, "users", "age", "[1,2]"), "arg-count"),
+            ((Ask::Longest, "users", "id", r#"["a"]"#), "no-prefix-name"),
             (
-                Ask::Longest,
-                ("users", "tags_prefix"),
-                r#"["a"]"#,
+                (Ask::Longest, "users", "tags_prefix", r#"["a"]"#),
                 "not-unique",
             ),
         ],
     },
 ];
 
-#[test]
-fn transactions_are_answered(rt: HostRuntime) -> Result<(), Fail> {
-    for script in &SCRIPTS {
-        assert!(rt; is_played(&rt, rt.alloc(), script)?);
-    }
-    Ok(())
-}
-
-const THREE: Asked = (
-    Ask::Get,
-    AGES,
-    "[1]",
-    "{\"age\":1,\"name\":\"ann\"}\n{\"age\":1,\"name\":\"anna\"}\n{\"age\":1,\"name\":\"bob\"}\n",
-);
-
-static WIPE: Script = Script {
-    first: &[
-        Step::Insert(("users", r#"{"name":"ann","age":1}"#, "inserted")),
-        Step::Insert(("users", r#"{"name":"bob","age":1}"#, "inserted")),
-        Step::Insert(("users", r#"{"name":"anna","age":1}"#, "inserted")),
-        Step::Tell(THREE),
-    ],
-    next: &[
-        Step::Wipe(r#"["an"]"#, 2),
-        Step::Tell((Ask::Get, AGES, "[1]", "{\"age\":1,\"name\":\"bob\"}\n")),
-    ],
-    commits: false,
-    questions: &[THREE],
-};
-
-#[test]
-fn an_abort_undoes_a_wipe(rt: HostRuntime) -> Result<(), Fail> {
-    assert!(rt; is_played(&rt, rt.alloc(), &WIPE)?);
-    Ok(())
-}
-
-static ONE: [Step; 1] = [Step::Insert(("users", r#"{"name":"a","age":1}"#, "inserted"))];
-
-static NONE: [Step; 2] = [
-    Step::Delete(("users", r#"{"name":"a"}"#, "deleted")),
-    Step::Tell(NO_USERS),
+/// An abort undoes a wipe.
+static WIPED: [Turn; 2] = [
+    Turn {
+        first: &[
+            Step::Insert(("users", r#"{"name":"ann","age":1}"#, "inserted")),
+            Step::Insert(("users", r#"{"name":"bob","age":1}"#, "inserted")),
+            Step::Insert(("users", r#"{"name":"anna","age":1}"#, "inserted")),
+            Step::Tell(ONES),
+        ],
+        kept: ONES,
+        next: &[],
+        commits: true,
+        items: &[],
+        number: 1,
+        questions: &[ONES],
+    },
+    Turn {
+        first: &[
+            Step::Wipe((Ask::Get, "users", "id_prefix", r#"["an"]"#), 2),
+            Step::Tell(BOB),
+        ],
+        kept: BOB,
+        next: &[],
+        commits: false,
+        items: &[],
+        number: 1,
+        questions: &[ONES],
+    },
 ];
 
-static KEPT: Asked = (Ask::Get, IDS, "[]", "{\"age\":1,\"name\":\"a\"}\n");
+/// A snapshot between two writes outlives their abort.
+static ABORTED: [Turn; 1] = [Turn {
+    first: &[Step::Insert(("users", r#"{"name":"ann","age":3}"#, "inserted"))],
+    kept: ANN,
+    next: &[
+        Step::Delete(("users", r#"{"name":"ann"}"#, r#"{"age":3,"name":"ann"}"#)),
+        Step::Tell(NO_USERS),
+    ],
+    commits: false,
+    items: &[],
+    number: 0,
+    questions: &[NO_USERS],
+}];
 
-/// A snapshot after a write.
-fn snapshot_after(alloc: Global, txn: &mut Txn) -> Result<Snapshot, AllocError>
-    ensures { (changes_of txn.new).caller ≡ (changes_of txn.old).caller }
-{
-    if !are_done(alloc, txn, &ONE)? {
-        return Err(AllocError);
+/// The last item deferred comes first.
+static DEFERRED: [Turn; 1] = [Turn {
+    first: &[
+        Step::Defer("unlock"),
+        Step::Defer(""),
+        Step::Defer("notify ann"),
+        Step::Defer("notify bob"),
+    ],
+    kept: NO_USERS,
+    next: &[],
+    commits: true,
+    items: &["unlock", "", "notify ann", "notify bob"],
+    number: 1,
+    questions: &[NO_USERS],
+}];
+
+/// The script of a number.
+fn script_of(number: u32) -> &'static [Turn] {
+    match number {
+        0 => &PUTS,
+        1 => &MAILED,
+        2 => &REFUSED,
+        3 => &WIPED,
+        4 => &ABORTED,
+        _ => &DEFERRED,
     }
-    match txn.snapshot() {
-        Ok(snapshot) => Ok(snapshot),
-        Err(_) => Err(AllocError),
-    }
-}
-
-/// A snapshot between two writes.
-fn between(alloc: Global, txn: &mut Txn) -> Result<Snapshot, AllocError>
-    ensures { (changes_of txn.new).caller ≡ (changes_of txn.old).caller }
-{
-    let snapshot = snapshot_after(alloc, txn)?;
-    if are_done(alloc, txn, &NONE)? {
-        Ok(snapshot)
-    } else {
-        Err(AllocError)
-    }
-}
-
-/// The snapshot of a transaction that is aborted.
-fn outlived<R: Wait>(
-    rt: &R,
-    alloc: Global,
-    db: &Db,
-    pass: Pass,
-) -> (Pass, Result<Snapshot, AllocError>)
-    requires own { IsCaller db.now 1 pass }
-    ensures { IsCaller db.now 1 result.0 }
-{
-    match db.write(rt, pass) {
-        Ok(txn) => {
-            let mut txn = txn;
-            let kept = between(alloc, &mut txn);
-            (txn.abort(db), kept)
-        }
-        Err(BeginRefused { pass, cause: _ }) => (pass, Err(AllocError)),
-    }
-}
-
-/// Whether a snapshot has its row.
-fn is_kept(alloc: Global, kept: &Snapshot) -> Told {
-    is_answered(alloc, kept.ask(&query_as(alloc, &KEPT)?), KEPT.3)
-}
-
-static NOTHING: [Asked; 1] = [NO_USERS];
-
-/// Whether a snapshot has its row, and the last state none.
-fn are_apart(alloc: Global, kept: Result<Snapshot, AllocError>, last: &ReadTxn) -> Told {
-    match kept {
-        Ok(kept) => Ok(is_kept(alloc, &kept)? && are_read(alloc, last, 0, &NOTHING)?),
-        Err(_) => Err(AllocError),
-    }
-}
-
-/// Whether a snapshot stays, and the database has nothing of its transaction.
-fn is_outlived<R: Wait>(rt: &R, alloc: Global) -> Told {
-    let (db, passes, pass) = opened(alloc)?;
-    let (pass, kept) = outlived(rt, alloc, &db, pass);
-    let last = closed(rt, db, passes, pass);
-    are_apart(alloc, kept, &last)
 }
 
 #[test]
-fn a_snapshot_outlives_an_abort(rt: HostRuntime) -> Result<(), Fail> {
-    assert!(rt; is_outlived(&rt, rt.alloc())?);
+fn transactions_are_answered(rt: HostRuntime) -> Result<(), Fail> {
+    for number in 0..6 {
+        assert!(rt;
+            is_script(&rt, rt.alloc(), script_of(number))?,
+            "script {number}"
+        );
+    }
     Ok(())
 }

@@ -1,4 +1,4 @@
--- The closure borrows five things. One search through all of them gives up, so each is shown by
+-- The closure borrows six things. One search through all of them gives up, so each is shown by
 -- itself, and then their tuple.
 use base.Fml.{Lft}
 use denote.Builtin.{bool}
@@ -11,10 +11,11 @@ use mathlib.Core.List.{[], ◌∷◌}
 use mir.Syntax.{Lifetime, Sym}
 use Rattle.std.specs.contracts.alloc.Global
 use Rattle.std.specs.contracts.option.Option
-use Rattle.mem_txn.proofs.Threads.{db_lent, heap_lent, pass_lent}
+use Rattle.mem_txn.proofs.Threads.{db_lent, heap_lent, pass_lent, read_lent}
 use Rattle.mem_txn.specs.contracts.db.Db
 use Rattle.mem_txn.specs.contracts.pass.Pass
-use Rattle.mem_txn.proofs.tests.threads.side_by_side.Goals as goal
+use Rattle.mem_txn.specs.contracts.read_txn.ReadTxn
+use Rattle.mem_txn.proofs.tests.callers.side_by_side.Goals as goal
 
 pub join_mut-first-requires-send-F : goal.join_mut-first-requires-send-F
 join_mut-first-requires-send-F g c κs within =
@@ -23,11 +24,11 @@ join_mut-first-requires-send-F g c κs within =
     in
     let flag_lent : (ℓ : Lifetime) (κ : Lft) → IsSend (ShrRef ℓ κ bool) = λ ℓ κ. search sendable in
     let all_lent :
-    (ν : Sym) (r h d p f : NamedLft)
+    (ν : Sym) (r h d k p f : NamedLft)
     → IsSend (TupleAt ν ((shr_ref_field r (param 0 g.row.R) tt).row
     ∷ (shr_ref_field h Global.the_row tt).row ∷ (shr_ref_field d Db.the_row tt).row
-    ∷ (mut_ref_field p (Option.the_row Pass.the_row) tt).row ∷ (shr_ref_field f bool-field.row tt).row
-    ∷ [])) =
-    λ ν r h d p f. search (sendable, runtime_lent, heap_lent, db_lent, pass_lent, flag_lent) depth 20
+    ∷ (shr_ref_field k ReadTxn.the_row tt).row ∷ (mut_ref_field p (Option.the_row Pass.the_row) tt).row
+    ∷ (shr_ref_field f bool-field.row tt).row ∷ [])) =
+    λ ν r h d k p f. search (sendable, runtime_lent, heap_lent, db_lent, read_lent, pass_lent, flag_lent) depth 20
     in
     search (param_send, arg_send, all_lent)

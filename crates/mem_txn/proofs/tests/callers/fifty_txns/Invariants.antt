@@ -1,5 +1,5 @@
 use Rattle.mem_txn.specs.Database.{IsCaller}
-use Rattle.mem_txn.proofs.tests.callers.some_txns.Given as goal
+use Rattle.mem_txn.proofs.tests.callers.fifty_txns.Given as goal
 
 abbrev pub invariant-loop-own : goal.invariant-loop-own
 invariant-loop-own g l = IsCaller l.db l.initial.pass.number l.pass
