@@ -9,7 +9,7 @@ use mdb_datum::{Datum, Row};
 use radix_node::Tree;
 use std::alloc::{AllocError, Global};
 use std::test::Fail;
-use std::thread;
+use std::thread::{Threads, spawn};
 
 /// The four walks.
 #[derive(Clone, Copy)]
@@ -20,8 +20,9 @@ enum Kind {
     DownFrom,
 }
 
-const KINDS: [Kind; 4] = [Kind::Ascend, Kind::Descend, Kind::FromKey, Kind::DownFrom];
+const KINDS: &[Kind] = &[Kind::Ascend, Kind::Descend, Kind::FromKey, Kind::DownFrom];
 
+/// The walk of a kind, by a prefix or from a bound.
 fn walk(alloc: Global, tree: &Tree, kind: Kind, key: &[u8]) -> Result<Walk, AllocError> {
     match kind {
         Kind::Ascend => ascend(alloc, tree, key),
@@ -45,16 +46,25 @@ fn next_number(walk: &mut Walk) -> Result<Option<i128>, AllocError> {
     Ok(number_of(row.as_ref()))
 }
 
-/// Whether a walk gives the rows of these numbers, and then the end twice.
-fn gives(walk: &mut Walk, numbers: &[i128]) -> Result<bool, AllocError> {
+/// Whether the next rows of a walk are those of these numbers.
+fn gives_each(walk: &mut Walk, numbers: &[i128]) -> Result<bool, AllocError> {
     for number in numbers {
         if next_number(walk)? != Some(*number) {
             return Ok(false);
         }
     }
+    Ok(true)
+}
+
+/// Whether a walk gives the rows of these numbers, and then the end twice.
+fn gives(walk: &mut Walk, numbers: &[i128]) -> Result<bool, AllocError> {
+    if !gives_each(walk, numbers)? {
+        return Ok(false);
+    }
     Ok(next_number(walk)?.is_none() && next_number(walk)?.is_none())
 }
 
+/// Whether the walk of a kind gives the rows of these numbers.
 fn walk_gives(
     alloc: Global,
     tree: &Tree,
@@ -63,7 +73,7 @@ fn walk_gives(
     numbers: &[i128],
 ) -> Result<bool, AllocError> {
     let mut walk = walk(alloc, tree, kind, key)?;
-    Ok(gives(&mut walk, numbers)?)
+    gives(&mut walk, numbers)
 }
 
 /// A walk, and the numbers of the rows that it must give.
@@ -80,12 +90,16 @@ fn first_wrong(alloc: Global, tree: &Tree, cases: &[Case]) -> Result<Option<usiz
 }
 
 /// The place of the first case that is not so, in the tree of these keys.
-fn first_wrong_of(alloc: Global, keys: &[&[u8]], cases: &[Case]) -> Result<Option<usize>, Fail> {
+fn first_wrong_of(
+    alloc: Global,
+    keys: &[&[u8]],
+    cases: &[Case],
+) -> Result<Option<usize>, AllocError> {
     let tree = tree_of_keys(alloc, keys)?;
-    Ok(first_wrong(alloc, &tree, cases)?)
+    first_wrong(alloc, &tree, cases)
 }
 
-const NOTHING: [Case; 8] = [
+const NOTHING: &[Case] = &[
     (Kind::Ascend, b"", &[]),
     (Kind::Descend, b"", &[]),
     (Kind::FromKey, b"", &[]),
@@ -96,6 +110,7 @@ const NOTHING: [Case; 8] = [
     (Kind::DownFrom, b"a", &[]),
 ];
 
+/// Whether an empty tree has neither a first row nor a last one.
 fn has_no_ends(alloc: Global) -> Result<bool, AllocError> {
     let tree = empty_tree(alloc)?;
     Ok(first(&tree, b"").is_none() && last(&tree, b"").is_none())
@@ -103,15 +118,20 @@ fn has_no_ends(alloc: Global) -> Result<bool, AllocError> {
 
 #[test]
 fn an_empty_tree_gives_the_end_at_once(rt: HostRuntime) -> Result<(), Fail> {
-    let wrong = first_wrong_of(rt.alloc(), &[], &NOTHING)?;
+    let wrong = first_wrong_of(rt.alloc(), &[], NOTHING)?;
     assert!(rt; wrong.is_none(), "{wrong:?}");
+    Ok(())
+}
+
+#[test]
+fn an_empty_tree_has_no_ends(rt: HostRuntime) -> Result<(), Fail> {
     assert!(rt; has_no_ends(rt.alloc())?);
     Ok(())
 }
 
 /// The keys of texts end with 00. The first two are those of 255 and 256, each with the text after
 /// it.
-const STORED: [&[u8]; 8] = [
+const STORED: &[&[u8]] = &[
     b"\x00\xffx\x00",
     b"\x01\x00y\x00",
     b"ann\x00",
@@ -123,7 +143,7 @@ const STORED: [&[u8]; 8] = [
 ];
 
 /// A prefix tells a whole text by the end byte, and a bound is compared with whole keys.
-const WALKS: [Case; 13] = [
+const WALKS: &[Case] = &[
     (Kind::Ascend, b"", &[0, 1, 2, 3, 4, 5, 6, 7]),
     (Kind::Ascend, b"ann\x00", &[2]),
     (Kind::Ascend, b"ann", &[2, 3]),
@@ -141,15 +161,15 @@ const WALKS: [Case; 13] = [
 
 #[test]
 fn rows_come_in_the_order_of_their_keys(rt: HostRuntime) -> Result<(), Fail> {
-    let wrong = first_wrong_of(rt.alloc(), &STORED, &WALKS)?;
+    let wrong = first_wrong_of(rt.alloc(), STORED, WALKS)?;
     assert!(rt; wrong.is_none(), "{wrong:?}");
     Ok(())
 }
 
 /// The two keys part after `fooba`, the bytes of one edge.
-const PARTED: [&[u8]; 2] = [b"foobar", b"foobaz"];
+const PARTED: &[&[u8]] = &[b"foobar", b"foobaz"];
 
-const WITHIN: [Case; 12] = [
+const WITHIN: &[Case] = &[
     (Kind::Ascend, b"f", &[0, 1]),
     (Kind::Ascend, b"foob", &[0, 1]),
     (Kind::Ascend, b"fooba", &[0, 1]),
@@ -166,7 +186,7 @@ const WITHIN: [Case; 12] = [
 
 #[test]
 fn a_prefix_may_end_within_an_edge(rt: HostRuntime) -> Result<(), Fail> {
-    let wrong = first_wrong_of(rt.alloc(), &PARTED, &WITHIN)?;
+    let wrong = first_wrong_of(rt.alloc(), PARTED, WITHIN)?;
     assert!(rt; wrong.is_none(), "{wrong:?}");
     Ok(())
 }
@@ -176,7 +196,7 @@ fn ends_are(tree: &Tree, prefix: &[u8], low: Option<i128>, high: Option<i128>) -
     number_of(first(tree, prefix)) == low && number_of(last(tree, prefix)) == high
 }
 
-const ENDS: [(&[u8], Option<i128>, Option<i128>); 9] = [
+const ENDS: &[(&[u8], Option<i128>, Option<i128>)] = &[
     (b"", Some(0), Some(7)),
     (b"\x00", Some(0), Some(0)),
     (b"an", Some(2), Some(3)),
@@ -189,8 +209,8 @@ const ENDS: [(&[u8], Option<i128>, Option<i128>); 9] = [
 ];
 
 /// The place of the first prefix whose ends are others.
-fn first_wrong_ends(alloc: Global) -> Result<Option<usize>, Fail> {
-    let tree = tree_of_keys(alloc, &STORED)?;
+fn first_wrong_ends(alloc: Global) -> Result<Option<usize>, AllocError> {
+    let tree = tree_of_keys(alloc, STORED)?;
     Ok(ENDS.iter().position(|(prefix, low, high)| !ends_are(&tree, prefix, *low, *high)))
 }
 
@@ -229,6 +249,16 @@ fn numbers_of(
     Ok(numbers)
 }
 
+/// Whether the first and the last row under a prefix are those of the first and the last number.
+fn ends_are_of(tree: &Tree, prefix: &[u8], numbers: &[i128]) -> bool {
+    ends_are(
+        tree,
+        prefix,
+        numbers.first().copied(),
+        numbers.last().copied(),
+    )
+}
+
 /// Whether a walk gives the rows of the entries that it is to give, and for a prefix in order the
 /// first and the last of them are found.
 fn is_filter(
@@ -239,8 +269,7 @@ fn is_filter(
     asked: &[u8],
 ) -> Result<bool, AllocError> {
     let numbers = numbers_of(alloc, entries, kind, asked)?;
-    let (low, high) = (numbers.first().copied(), numbers.last().copied());
-    let ends = !matches!(kind, Kind::Ascend) || ends_are(tree, asked, low, high);
+    let ends = !matches!(kind, Kind::Ascend) || ends_are_of(tree, asked, &numbers);
     Ok(walk_gives(alloc, tree, kind, asked, &numbers)? && ends)
 }
 
@@ -251,7 +280,7 @@ fn are_filters(
     entries: &[Entry],
     asked: &[u8],
 ) -> Result<bool, AllocError> {
-    for kind in &KINDS {
+    for kind in KINDS {
         if !is_filter(alloc, tree, entries, *kind, asked)? {
             return Ok(false);
         }
@@ -259,10 +288,10 @@ fn are_filters(
     Ok(true)
 }
 
-const NESTED: [&[u8]; 7] = [b"", b"a", b"a\x00", b"ab", b"abc", b"b", b"\xff"];
+const NESTED: &[&[u8]] = &[b"", b"a", b"a\x00", b"ab", b"abc", b"b", b"\xff"];
 
 /// Keys, keys between them, and prefixes of them.
-const BOUNDS: [&[u8]; 14] = [
+const BOUNDS: &[&[u8]] = &[
     b"",
     b"\x00",
     b"a",
@@ -279,16 +308,39 @@ const BOUNDS: [&[u8]; 14] = [
     b"\xff\x00",
 ];
 
+/// The first bound from which a walk gives other rows.
+fn first_wrong_bound(
+    alloc: Global,
+    tree: &Tree,
+    entries: &[Entry],
+) -> Result<Option<&'static [u8]>, AllocError> {
+    for bound in BOUNDS {
+        if !are_filters(alloc, tree, entries, bound)? {
+            return Ok(Some(*bound));
+        }
+    }
+    Ok(None)
+}
+
+/// The same in the tree of entries.
+fn first_wrong_bound_of(
+    alloc: Global,
+    entries: &[Entry],
+) -> Result<Option<&'static [u8]>, AllocError> {
+    let tree = tree_of(alloc, entries)?;
+    first_wrong_bound(alloc, &tree, entries)
+}
+
+/// The same in the tree of nested keys.
+fn first_wrong_nested(alloc: Global) -> Result<Option<&'static [u8]>, AllocError> {
+    let entries = entries_of(alloc, NESTED)?;
+    first_wrong_bound_of(alloc, &entries)
+}
+
 #[test]
 fn bounds_hold_between_keys_and_at_prefixes_of_them(rt: HostRuntime) -> Result<(), Fail> {
-    let entries = entries_of(rt.alloc(), &NESTED)?;
-    let tree = tree_of(rt.alloc(), &entries)?;
-    for bound in &BOUNDS {
-        assert!(rt;
-            are_filters(rt.alloc(), &tree, &entries, bound)?,
-            "{bound:?}"
-        );
-    }
+    let wrong = first_wrong_nested(rt.alloc())?;
+    assert!(rt; wrong.is_none(), "{wrong:?}");
     Ok(())
 }
 
@@ -300,35 +352,55 @@ fn are_filters_at_a_draw(
     seed: &mut u32,
 ) -> Result<bool, AllocError> {
     let asked = drawn_key(alloc, seed)?;
-    Ok(are_filters(alloc, tree, entries, &asked)?)
+    are_filters(alloc, tree, entries, &asked)
 }
 
 /// The first of 500 draws at which a walk gives other rows.
-fn first_wrong_draw(alloc: Global, entries: &[Entry], seed: &mut u32) -> Result<Option<u16>, Fail> {
-    if entries.len() < 80 {
-        return Err(Fail::from("few keys"));
-    }
-    let tree = tree_of(alloc, entries)?;
+fn first_wrong_draw(
+    alloc: Global,
+    tree: &Tree,
+    entries: &[Entry],
+    seed: &mut u32,
+) -> Result<Option<u16>, AllocError> {
     for draw in 0..500 {
-        if !are_filters_at_a_draw(alloc, &tree, entries, seed)? {
+        if !are_filters_at_a_draw(alloc, tree, entries, seed)? {
             return Ok(Some(draw));
         }
     }
     Ok(None)
 }
 
+/// The same in the tree of entries, which are many.
+fn first_wrong_of_many(
+    alloc: Global,
+    entries: &[Entry],
+    seed: &mut u32,
+) -> Result<Option<u16>, Fail> {
+    if entries.len() < 80 {
+        return Err(Fail::from("few keys"));
+    }
+    let tree = tree_of(alloc, entries)?;
+    Ok(first_wrong_draw(alloc, &tree, entries, seed)?)
+}
+
+/// The same of drawn entries.
+fn first_wrong_drawn(alloc: Global) -> Result<Option<u16>, Fail> {
+    let mut seed = 1;
+    let entries = drawn_entries(alloc, &mut seed)?;
+    first_wrong_of_many(alloc, &entries, &mut seed)
+}
+
 #[test]
 fn two_thousand_walks_give_what_the_sorted_keys_give(rt: HostRuntime) -> Result<(), Fail> {
-    let mut seed = 1;
-    let entries = drawn_entries(rt.alloc(), &mut seed)?;
-    let wrong = first_wrong_draw(rt.alloc(), &entries, &mut seed)?;
+    let wrong = first_wrong_drawn(rt.alloc())?;
     assert!(rt; wrong.is_none(), "{wrong:?}");
     Ok(())
 }
 
 /// The longest key that the layers above make, whose prefixes are the deepest tree.
-const LONGEST: [u8; 2048] = [b'a'; 2048];
+static LONGEST: [u8; 2048] = [b'a'; 2048];
 
+/// The numbers from 0 to a last one.
 fn numbers_to(alloc: Global, last: u16) -> Result<Vec<i128>, AllocError> {
     let mut numbers = Vec::new(alloc);
     for number in 0..=last {
@@ -337,20 +409,38 @@ fn numbers_to(alloc: Global, last: u16) -> Result<Vec<i128>, AllocError> {
     Ok(numbers)
 }
 
-fn goes_up(alloc: Global, tree: &Tree) -> Result<bool, AllocError> {
-    let numbers = numbers_to(alloc, 2048)?;
+/// Whether a walk by the empty prefix and one from a bound give the rows of these numbers.
+fn both_give(
+    alloc: Global,
+    tree: &Tree,
+    prefixed: Kind,
+    bounded: Kind,
+    bound: &[u8],
+    numbers: &[i128],
+) -> Result<bool, AllocError> {
     Ok(
-        walk_gives(alloc, tree, Kind::Ascend, b"", &numbers)?
-            && walk_gives(alloc, tree, Kind::FromKey, b"", &numbers)?,
+        walk_gives(alloc, tree, prefixed, b"", numbers)?
+            && walk_gives(alloc, tree, bounded, bound, numbers)?,
     )
 }
 
+/// Whether the two walks in order give the rows of all lengths.
+fn goes_up(alloc: Global, tree: &Tree) -> Result<bool, AllocError> {
+    let numbers = numbers_to(alloc, 2048)?;
+    both_give(alloc, tree, Kind::Ascend, Kind::FromKey, b"", &numbers)
+}
+
+/// Whether the two walks in falling order do.
 fn goes_down(alloc: Global, tree: &Tree) -> Result<bool, AllocError> {
     let mut numbers = numbers_to(alloc, 2048)?;
     numbers.reverse();
-    Ok(
-        walk_gives(alloc, tree, Kind::Descend, b"", &numbers)?
-            && walk_gives(alloc, tree, Kind::DownFrom, &LONGEST, &numbers)?,
+    both_give(
+        alloc,
+        tree,
+        Kind::Descend,
+        Kind::DownFrom,
+        &LONGEST,
+        &numbers,
     )
 }
 
@@ -360,25 +450,34 @@ fn goes_deep(alloc: Global, tree: &Tree) -> Result<bool, AllocError> {
     Ok(goes_up(alloc, tree)? && goes_down(alloc, tree)? && ends_are(tree, b"", Some(0), Some(2048)))
 }
 
+/// The same of the deepest tree.
+fn longest_goes_deep(alloc: Global) -> Result<bool, AllocError> {
+    let tree = chain(alloc, &LONGEST)?;
+    goes_deep(alloc, &tree)
+}
+
 #[test]
 fn walks_go_deep_on_the_main_stack(rt: HostRuntime) -> Result<(), Fail> {
-    let tree = chain(rt.alloc(), &LONGEST)?;
-    assert!(rt; goes_deep(rt.alloc(), &tree)?);
+    assert!(rt; longest_goes_deep(rt.alloc())?);
     Ok(())
 }
 
-// The thread is the only owner of the tree, and lets go of its nodes.
-#[test]
-fn walks_go_deep_in_a_thread(rt: HostRuntime) -> Result<(), Fail> {
-    let alloc = rt.alloc();
-    let tree = chain(alloc, &LONGEST)?;
-    let Ok(child) = thread::spawn(&rt, move || goes_deep(alloc, &tree)) else {
+/// Whether they do in a thread, which is the only owner of the tree, and lets go of its nodes.
+fn goes_deep_elsewhere<R: Threads>(rt: &R, alloc: Global, tree: Tree) -> Result<bool, Fail> {
+    let Ok(child) = spawn(rt, move || goes_deep(alloc, &tree)) else {
         return Err(Fail::from("no thread"));
     };
-    assert!(rt; child.join(&rt)?);
+    Ok(child.join(rt)?)
+}
+
+#[test]
+fn walks_go_deep_in_a_thread(rt: HostRuntime) -> Result<(), Fail> {
+    let tree = chain(rt.alloc(), &LONGEST)?;
+    assert!(rt; goes_deep_elsewhere(&rt, rt.alloc(), tree)?);
     Ok(())
 }
 
+/// Takes what threads may share.
 fn assert_shareable<T: Send + Sync>(_value: &T) {}
 
 #[test]

@@ -19,17 +19,24 @@ pub fn drawn_key(alloc: Global, seed: &mut u32) -> Result<Vec<u8>, AllocError> {
     Ok(key)
 }
 
-/// Entries of drawn keys, sorted.
-pub fn drawn_entries(alloc: Global, seed: &mut u32) -> Result<Vec<Entry>, AllocError> {
+/// Drawn keys as they come, some of them more than once.
+fn drawn_keys(alloc: Global, seed: &mut u32) -> Result<Vec<Vec<u8>>, AllocError> {
     let mut keys = Vec::new(alloc);
     for _ in 0..160 {
         keys.push(drawn_key(alloc, seed)?)?;
     }
+    Ok(keys)
+}
+
+/// Entries of drawn keys, sorted.
+pub fn drawn_entries(alloc: Global, seed: &mut u32) -> Result<Vec<Entry>, AllocError> {
+    let mut keys = drawn_keys(alloc, seed)?;
     keys.sort()?;
     keys.dedup();
     numbered(alloc, keys)
 }
 
+/// The entries of keys, each with its place among them for its number.
 fn numbered(alloc: Global, keys: Vec<Vec<u8>>) -> Result<Vec<Entry>, AllocError> {
     let mut entries = Vec::new(alloc);
     for key in keys {
