@@ -19,6 +19,7 @@ fn is_row(row: Option<&Row>, number: i128) -> bool {
     }
 }
 
+/// Whether these are the labels of edges, in their order.
 fn labels_are(edges: &Edges, labels: &[u8]) -> bool {
     edges.len() == labels.len()
         && edges
@@ -27,6 +28,7 @@ fn labels_are(edges: &Edges, labels: &[u8]) -> bool {
             .all(|(e, label)| e.label() == *label)
 }
 
+/// Whether a node has this prefix, a leaf where that is said, and edges of these labels.
 fn is_node(node: &Node, prefix: &[u8], has_leaf: bool, labels: &[u8]) -> bool {
     node.prefix() == prefix && node.leaf().is_some() == has_leaf && labels_are(node.edges(), labels)
 }

@@ -219,6 +219,7 @@ fn tree_of_bytes(alloc: Global) -> Result<Tree, AllocError> {
     frozen(work_of_bytes(alloc, &row)?)
 }
 
+/// Whether the node under `k` has 256 edges.
 fn has_all_bytes(tree: &Tree) -> bool {
     match tree.seek(b"k") {
         Some(node) => node.edges().len() == 256,

@@ -12,6 +12,7 @@ use std::sync::Arc;
 use std::test::Fail;
 use watch_word::{Front, WatchCell, open_book, open_cell};
 
+/// The members that a text reads as.
 #[tactic(auto, using(mdb_datum::proofs::Variants::doc_of_members))]
 fn members(alloc: Global, text: &str) -> Result<Members, Fail>
     ensures { IfOk result (λ m. IsCanonicalRow (of.members_of m)) }

@@ -86,6 +86,7 @@ fn put_gives_the_old_edge(rt: HostRuntime) -> Result<(), Fail> {
     Ok(())
 }
 
+/// Whether one edge takes the place of the second and the third.
 fn spliced(edges: &Edges, alloc: Global) -> Result<bool, AllocError>
     requires { 3 ≤ length (edges_of edges.now) }
 {
@@ -93,6 +94,7 @@ fn spliced(edges: &Edges, alloc: Global) -> Result<bool, AllocError>
     Ok(labels_are(&within, b"axd"))
 }
 
+/// Whether a copy is without the third edge, and another one has all four.
 fn cut(edges: &Edges) -> Result<bool, AllocError>
     requires { 3 ≤ length (edges_of edges.now) }
 {
@@ -126,6 +128,7 @@ static AFTER_FOO: [(&[u8], Option<&[u8]>, usize); 4] = [
     (b"", None, 0),
 ];
 
+/// Whether a node tells of each key what it has after the prefix, and the common bytes.
 fn is_after(node: &Node, keys: &[(&[u8], Option<&[u8]>, usize)]) -> bool {
     for (key, rest, common) in keys {
         if node.strip_prefix(key) != *rest || node.common_prefix_len(key) != *common {

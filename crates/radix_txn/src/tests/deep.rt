@@ -35,6 +35,7 @@ fn take_deep(work: &mut Work) -> Result<bool, AllocError> {
     Ok(take_deepest(work)? && take_half(work)?)
 }
 
+/// Whether there are 2,049 keys, the longest among them, and as many nodes.
 fn is_deep(tree: &Tree) -> bool {
     tree.get(&LETTERS).is_some()
         && tree.longest(&LETTERS).is_some()

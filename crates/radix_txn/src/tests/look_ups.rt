@@ -10,6 +10,7 @@ static FORKED: [&[u8]; 3] = [b"foo\0", b"foot\0", b"football\0"];
 /// Each begins the next one, and has its length for its number.
 static NESTED: [&[u8]; 4] = [b"", b"a", b"ab", b"abc"];
 
+/// Whether a node has this prefix, a leaf where that is said, and edges of these labels.
 fn is_node(node: &Node, prefix: &[u8], has_leaf: bool, labels: &[u8]) -> bool {
     node.prefix() == prefix && node.leaf().is_some() == has_leaf && labels_are(node.edges(), labels)
 }
@@ -33,6 +34,7 @@ static NODES: [Line; 9] = [
     (b"football\0", b"all\0", true, b""),
 ];
 
+/// Whether the prefix of a line leads to its node.
 fn leads_to_one(tree: &Tree, (path, prefix, has_leaf, labels): Line) -> bool {
     match tree.seek(path) {
         Some(node) => is_node(node, prefix, has_leaf, labels),
@@ -40,6 +42,7 @@ fn leads_to_one(tree: &Tree, (path, prefix, has_leaf, labels): Line) -> bool {
     }
 }
 
+/// Whether the prefix of each line does.
 fn leads_to(tree: &Tree, nodes: &[Line]) -> bool {
     for line in nodes {
         if !leads_to_one(tree, *line) {
@@ -58,6 +61,7 @@ fn a_prefix_leads_to_the_node_of_its_keys(rt: HostRuntime) -> Result<(), Fail> {
 
 static NOWHERE: [&[u8]; 6] = [b"g", b"fa", b"foo\0\0", b"fooz", b"footbz", b"football\0x"];
 
+/// Whether none of these prefixes leads to a node.
 fn leads_nowhere(tree: &Tree, prefixes: &[&[u8]]) -> bool {
     for prefix in prefixes {
         if tree.seek(prefix).is_some() {
@@ -89,6 +93,7 @@ static THERE: [(&[u8], bool); 10] = [
     (b"footballs\0", false),
 ];
 
+/// Whether each of these keys is found exactly where that is said.
 fn finds(tree: &Tree, keys: &[(&[u8], bool)]) -> bool {
     for (key, there) in keys {
         if tree.get(key).is_some() != *there {
@@ -115,6 +120,7 @@ static LONGEST: [(&[u8], u64); 6] = [
     (b"abcd", 3),
 ];
 
+/// Whether the row of the longest prefix of each key has its number.
 fn finds_longest(tree: &Tree, keys: &[(&[u8], u64)]) -> bool {
     for (key, number) in keys {
         if !is_row(tree.longest(key), *number) {
@@ -148,6 +154,7 @@ fn keys_that_begin_each_other_are_told_apart(rt: HostRuntime) -> Result<(), Fail
 
 static LONG: [u8; 2048] = [b'k'; 2048];
 
+/// Whether the key of 2,048 bytes is there, and the one that is a byte shorter is not.
 fn has_long(tree: &Tree) -> bool {
     tree.get(&LONG).is_some() && tree.get(&LONG[..2047]).is_none()
 }

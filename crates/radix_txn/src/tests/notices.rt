@@ -30,6 +30,7 @@ static INSERTS: [Line; 10] = [
     (b"foo\0", b"foo\0", true, true),
 ];
 
+/// Whether a notice has the cell of an id.
 fn has(notice: &Notice, id: u64) -> bool {
     for at in 0..notice.len() {
         if notice.cell(at).is_some_and(|cell| cell.id() == id) {
@@ -48,12 +49,14 @@ fn is_told(notice: &Notice, old: u64, new: u64, fires: bool) -> bool {
 /// it.
 type Told = (&'static [u8], bool, bool);
 
+/// Whether both watches of a key are told as is said.
 fn tells(old: &Tree, new: &Tree, notice: &Notice, (key, get, seek): Told) -> bool {
     let (was, is) = (old.get_watch(key).0.id(), new.get_watch(key).0.id());
     let (under_was, under_is) = (old.seek_watch(key).id(), new.seek_watch(key).id());
     is_told(notice, was, is, get) && is_told(notice, under_was, under_is, seek)
 }
 
+/// Whether all watches are.
 fn tells_each(old: &Tree, new: &Tree, notice: &Notice, watches: &[Told]) -> bool {
     for told in watches {
         if !tells(old, new, notice, *told) {
@@ -104,6 +107,7 @@ fn inserted(alloc: Global, key: &[u8]) -> Result<Begun, AllocError> {
     Ok((work, old))
 }
 
+/// Whether an insert of a line has the watches of its key told as is said.
 fn insert_tells(alloc: Global, (written, key, get, seek): Line) -> Result<bool, AllocError> {
     let (work, old) = inserted(alloc, written)?;
     ends_with(work, &old, (key, get, seek))

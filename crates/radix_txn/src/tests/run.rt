@@ -17,6 +17,7 @@ static LETTERS: [u8; 4] = [0, b'a', b'b', 255];
 struct Random(u64);
 
 impl Random {
+    /// A number below a bound.
     fn below(&mut self, bound: u64) -> u64
         requires { 0 < bound }
         ensures { result < bound }
@@ -62,6 +63,7 @@ fn put_gives(
     Ok(is_same_row(row.as_ref(), old))
 }
 
+/// Puts a key with a number.
 fn put_both(
     work: &mut Work,
     plain: &mut Plain,
@@ -72,11 +74,13 @@ fn put_both(
     put_gives(work, key, number, old)
 }
 
+/// Takes out a key.
 fn take_both(work: &mut Work, plain: &mut Plain, key: &Vec<u8>) -> Result<bool, AllocError> {
     let old = work.take(key)?;
     Ok(is_same_row(old.as_ref(), plain.remove(key)))
 }
 
+/// Takes out the keys that begin with a prefix.
 fn take_all_both(work: &mut Work, plain: &mut Plain, prefix: &[u8]) -> Result<bool, AllocError> {
     let before = plain.len() as u64;
     plain.retain(|key, _| !key.starts_with(prefix));
@@ -84,6 +88,7 @@ fn take_all_both(work: &mut Work, plain: &mut Plain, prefix: &[u8]) -> Result<bo
     Ok(gone == before.saturating_sub(plain.len() as u64))
 }
 
+/// Makes a write that is drawn.
 fn write_both(
     random: &mut Random,
     work: &mut Work,
@@ -100,6 +105,7 @@ fn write_both(
     }
 }
 
+/// Whether the tree has as many keys as the map, and each with its number.
 fn is_same(work: &Work, plain: &Plain) -> bool {
     let txn = work.txn();
     if txn.spoiled() || txn.len() != plain.len() as u64 {

@@ -35,6 +35,7 @@ pub fn is_row(row: Option<&Row>, number: u64) -> bool {
     }
 }
 
+/// Whether there is a datum, and it is the number.
 fn is_number(datum: Option<&Datum>, number: u64) -> bool {
     match datum {
         Some(Datum::Whole(n)) => *n == i128::from(number),
@@ -78,18 +79,21 @@ impl Work {
         Ok(Work { txn, front, ids })
     }
 
+    /// The transaction.
     pub fn txn(&self) -> &TreeTxn
         ensures { result.now ≡ self.now }
     {
         &self.txn
     }
 
+    /// Whether a write of a key is in order.
     fn is_ready(&self, key: &[u8]) -> bool
         ensures { result ≡ true → (length key.now ≤ 2048) × (self.now.spoiled ≡ false) }
     {
         key.len() <= 2_048 && !self.txn.spoiled()
     }
 
+    /// Puts a row under a key, and gives the old row.
     pub fn put(&mut self, key: &[u8], row: &Row) -> Result<Option<Row>, AllocError> {
         if !self.is_ready(key) || self.ids.left() < 4_096 {
             return Err(AllocError);
@@ -97,6 +101,7 @@ impl Work {
         self.txn.insert(&self.front, &mut self.ids, key, row)
     }
 
+    /// Takes out a key, and gives its row.
     pub fn take(&mut self, key: &[u8]) -> Result<Option<Row>, AllocError> {
         if !self.is_ready(key) || self.ids.left() < 4_096 {
             return Err(AllocError);
@@ -104,6 +109,7 @@ impl Work {
         self.txn.delete(&self.front, &mut self.ids, key)
     }
 
+    /// Takes out the keys that begin with a prefix, and tells how many there were.
     pub fn take_all(&mut self, prefix: &[u8]) -> Result<u64, AllocError> {
         if !self.is_ready(prefix) || self.ids.left() < 4_096 {
             return Err(AllocError);
@@ -123,6 +129,7 @@ impl Work {
         Ok(self.txn.len())
     }
 
+    /// The present tree.
     pub fn stand(&mut self) -> Result<Tree, AllocError> {
         if self.txn.spoiled() {
             return Err(AllocError);
@@ -136,6 +143,7 @@ impl Work {
         Ok(())
     }
 
+    /// The present tree and the notice, which end the transaction.
     pub fn freeze(self) -> Result<(Tree, Notice), AllocError> {
         let Work { txn, .. } = self;
         if txn.spoiled() {
@@ -178,6 +186,7 @@ pub fn work_of(alloc: Global, keys: &[&[u8]]) -> Result<Work, AllocError> {
     Ok(work)
 }
 
+/// Puts these keys in turn, each with its place for its number.
 fn put_each(alloc: Global, work: &mut Work, keys: &[&[u8]]) -> Result<(), AllocError> {
     for (place, key) in keys.iter().enumerate() {
         put_number(alloc, work, key, place as u64)?;
@@ -221,6 +230,7 @@ pub fn tree_of(alloc: Global, keys: &[&[u8]]) -> Result<Tree, AllocError> {
 
 // ---- trees
 
+/// Whether these are the labels of edges, in their order.
 pub fn labels_are(edges: &Edges, labels: &[u8]) -> bool {
     edges.len() == labels.len()
         && edges
@@ -229,6 +239,7 @@ pub fn labels_are(edges: &Edges, labels: &[u8]) -> bool {
             .all(|(e, label)| e.label() == *label)
 }
 
+/// Whether the prefix of a line leads to its node.
 fn is_node(tree: &Tree, (path, prefix, has_leaf, labels): Line) -> bool {
     let Some(node) = tree.seek(path) else {
         return false;
@@ -285,6 +296,7 @@ fn push_delete(alloc: Global, writes: &mut Vec<Write>, prefix: &[u8]) -> Result<
     Ok(writes.push(Write::DeletePrefix { prefix })?)
 }
 
+/// An insert of a row under a key.
 fn insert_of(alloc: Global, key: &[u8], row: &Row) -> Result<Write, AllocError>
     requires { length key.now ≤ 2048 }
     ensures { IfOk result (λ w. IsShort w) }
