@@ -1,6 +1,7 @@
 //! Whole sessions: scripts with the text of their answers, worked from the format of both.
 ghost use Rattle.std.specs.Prelude.{◌≡◌, [], IfOk};
-ghost use Rattle.mem_txn.specs.Database.{IsCaller, IsOf, Opening, new_callers};
+ghost use Rattle.mem_txn.specs.Database.{IsOf, Opening, new_callers};
+ghost use Rattle.mem_txn.specs.inner.CallerOf.{IsCaller};
 
 use crate::Session;
 use client_script::{Script, read_script};

@@ -44,10 +44,6 @@ cells_seen p = record { schema = p.schema; commits = p.seen; trees = p.trees }
 abbrev pub IsOf : Database → Caller → Type 0
 IsOf db p = (p.database ≡ db.database) × (p.schema ≡ db.schema)
 
--- it is the pass of caller n
-abbrev pub IsCaller : Database → ℕ → Caller → Type 0
-IsCaller db n p = IsOf db p × (p.number ≡ n)
-
 abbrev pub AreOf : Database → List Caller → Type 0
 AreOf db [] = Unit {0}
 AreOf db (p ∷ ps) = IsOf db p × AreOf db ps

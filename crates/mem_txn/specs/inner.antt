@@ -1,4 +1,5 @@
 pub mod Accepted
+pub mod CallerOf
 pub mod ChangesView
 pub mod Commits
 pub mod EmptyTables

@@ -1,16 +1,19 @@
 //! A write transaction, but for its deferred items.
-ghost use Rattle.std.specs.Prelude.{◌≡◌, ◌≤◌, ◌<◌, ◌+◌, ◌^◌, false, [], IfOk, MatchResult, All, Some, length, map, slice_get};
+ghost use Rattle.std.specs.Prelude.{◌≡◌, ◌≤◌, ◌<◌, ◌+◌, ◌^◌, false, [], IfOk, MatchResult, All};
+ghost use Rattle.std.specs.Prelude.{Some, length, map, slice_get};
 ghost use Rattle.mdb_schema.specs.Answer.{ask};
 ghost use Rattle.mdb_schema.specs.LawfulSchema.{IsLawfulTable};
 ghost use Rattle.mdb_schema.specs.Wipe.{wipe, wipe_by_prefix};
 ghost use Rattle.mdb_schema.specs.Write.{put, remove, put_row, remove_row};
-ghost use Rattle.mem_txn.specs.Changes.{AnswersTxnAsk, AnswersTxnWipe, AnswersTxnWrite, begun, gives_replaced, gives_row, present, view_at};
+ghost use Rattle.mem_txn.specs.Changes.{AnswersTxnAsk, AnswersTxnWipe, AnswersTxnWrite, begun};
+ghost use Rattle.mem_txn.specs.Changes.{gives_replaced, gives_row, present, view_at};
 ghost use Rattle.mem_txn.specs.Checked.{IdsTellCells};
 ghost use Rattle.mem_txn.specs.Database.{IsOf, state_seen};
 ghost use Rattle.mem_txn.specs.inner.ChangesView.{AreCounted, AreSince, IsBase};
 ghost use Rattle.mem_txn.specs.inner.Commits.{IsNextOf};
 ghost use Rattle.mem_txn.specs.inner.Ended.{EndWith};
-ghost use Rattle.mem_txn.specs.inner.VersionTables.{AreWithin, IsSound, Joins, StandFor, is_memory, schemas_of, standing, state_of, trees_of};
+ghost use Rattle.mem_txn.specs.inner.VersionTables.{AreWithin, IsSound, Joins, StandFor, is_memory};
+ghost use Rattle.mem_txn.specs.inner.VersionTables.{schemas_of, standing, state_of, trees_of};
 ghost use Rattle.mem_txn.specs.inner.Wipes.{wipe_by};
 
 use crate::accepted::{Accepted, Kind};

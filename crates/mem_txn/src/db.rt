@@ -1,7 +1,8 @@
 //! Databases.
 ghost use Rattle.std.specs.Prelude.{◌≡◌, ◌≤◌, ◌<◌, IfOk, length};
 ghost use Rattle.mdb_schema.specs.History.{History};
-ghost use Rattle.mem_txn.specs.Database.{AreAll, AreOf, HasRead, HasSeen, IsOf, IsWhole, Opening, new_callers, reading_of, view_after};
+ghost use Rattle.mem_txn.specs.Database.{AreAll, AreOf, HasRead, HasSeen, IsOf, IsWhole, Opening};
+ghost use Rattle.mem_txn.specs.Database.{new_callers, reading_of, view_after};
 
 use crate::pass::Pass;
 use crate::passes::Passes;

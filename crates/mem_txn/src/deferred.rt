@@ -1,5 +1,6 @@
 //! Deferred items.
-ghost use Rattle.std.specs.Prelude.{◌≡◌, ◌∷◌, [], MatchOption, length, option_copied, reverse, slice_get};
+ghost use Rattle.std.specs.Prelude.{◌≡◌, ◌∷◌, [], MatchOption, length, option_copied, reverse};
+ghost use Rattle.std.specs.Prelude.{slice_get};
 ghost use Rattle.mem_txn.specs.Transactions.{deferred_items};
 
 /// The items that a commit hands out, last deferred first.

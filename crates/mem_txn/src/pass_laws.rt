@@ -1,6 +1,7 @@
 //! What is known of every pass, as laws of the definitions. The functions do nothing: their
 //! contracts are the laws.
-ghost use Rattle.mem_txn.specs.CellHistory.{AreComplete, KeepUntouched, MovesAreTouches, StayAway, WatchesHold};
+ghost use Rattle.mem_txn.specs.CellHistory.{AreComplete, KeepUntouched, MovesAreTouches, StayAway};
+ghost use Rattle.mem_txn.specs.CellHistory.{WatchesHold};
 ghost use Rattle.mem_txn.specs.Checked.{AskedIsHeld, HeldLonger, HeldStays, IdsTellCells};
 ghost use Rattle.mem_txn.specs.Database.{cells_seen};
 ghost use Rattle.mem_txn.specs.Transactions.{changes_of};

@@ -1,7 +1,8 @@
 //! What no clause says: that each call succeeds while there is memory.
 ghost use Rattle.std.specs.Prelude.{◌≡◌, [], IfOk, IfSome};
 ghost use Rattle.mem_txn.specs.Checked.{IsBeginning};
-ghost use Rattle.mem_txn.specs.Database.{IsCaller, IsOf};
+ghost use Rattle.mem_txn.specs.Database.{IsOf};
+ghost use Rattle.mem_txn.specs.inner.CallerOf.{IsCaller};
 ghost use Rattle.mem_txn.specs.Transactions.{changes_of};
 
 mod callers;
@@ -150,6 +151,7 @@ fn args_of(alloc: Global, text: &str) -> Result<Items, AllocError> {
     }
 }
 
+/// The question of these words, of an index of a table.
 fn query_at(
     alloc: Global,
     ask: Ask,

@@ -5,7 +5,8 @@ ghost use Rattle.mdb_schema.specs.Answer.{ask_rows};
 ghost use Rattle.mdb_schema.specs.Refusals.{AnswersAsk};
 ghost use Rattle.mdb_schema.specs.Write.{put_row, remove_row};
 ghost use Rattle.mem_txn.specs.Changes.{gives_replaced, gives_row};
-ghost use Rattle.mem_txn.specs.inner.VersionTables.{AnswersRows, HasChanged, IsWithin, standing, unwritten};
+ghost use Rattle.mem_txn.specs.inner.VersionTables.{AnswersRows, HasChanged, IsWithin, standing};
+ghost use Rattle.mem_txn.specs.inner.VersionTables.{unwritten};
 ghost use Rattle.mem_txn.specs.inner.Ended.{EndsWith};
 ghost use Rattle.mem_txn.specs.inner.Wipes.{AnswersGone, wiped_by};
 

@@ -1,9 +1,11 @@
 //! The tables of a write transaction.
-ghost use Rattle.std.specs.Prelude.{◌≡◌, ◌<◌, ◌++◌, ◌∷◌, [], false, IfOk, OnOk, ℕ, All, List, Option, length, map, option_to_list, Some};
+ghost use Rattle.std.specs.Prelude.{◌≡◌, ◌<◌, ◌++◌, ◌∷◌, [], false, IfOk, OnOk, ℕ, All, List};
+ghost use Rattle.std.specs.Prelude.{Option, length, map, option_to_list, Some};
 ghost use Rattle.std.specs.Arc.{arc_value};
 ghost use Rattle.mdb_schema.specs.Write.{put_row, remove_row};
 ghost use Rattle.mem_txn.specs.Changes.{gives_replaced, gives_row};
-ghost use Rattle.mem_txn.specs.inner.VersionTables.{AnswersAskAt, AnswersAt, AreWithin, HasChanged, IsSound, standing, trees_of, unwritten};
+ghost use Rattle.mem_txn.specs.inner.VersionTables.{AnswersAskAt, AnswersAt, AreWithin, HasChanged};
+ghost use Rattle.mem_txn.specs.inner.VersionTables.{IsSound, standing, trees_of, unwritten};
 ghost use Rattle.mem_txn.specs.inner.Ended.{EndWith, EndsWith};
 ghost use Rattle.watch_word.specs.Logs.{Cell};
 ghost use Rattle.mem_txn.specs.inner.Wipes.{AnswersGoneAt, wiped_by};

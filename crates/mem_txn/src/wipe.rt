@@ -1,5 +1,6 @@
 //! Wipes of a table, for a write transaction.
-ghost use Rattle.std.specs.Prelude.{◌≡◌, ◌⊎◌, ◌≤◌, ◌<◌, ◌+◌, ◌*◌, ◌^◌, ◌++◌, ◌∷◌, [], false, All, IfErr, MatchResult, OnErr, OnOk, length, take};
+ghost use Rattle.std.specs.Prelude.{◌≡◌, ◌⊎◌, ◌≤◌, ◌<◌, ◌+◌, ◌*◌, ◌^◌, ◌++◌, ◌∷◌, [], false, All};
+ghost use Rattle.std.specs.Prelude.{IfErr, MatchResult, OnErr, OnOk, length, take};
 ghost use Rattle.mdb_schema.specs.Wipe.{removals};
 ghost use Rattle.mdb_schema.specs.Write.{remove};
 ghost use Rattle.mem_txn.specs.inner.VersionTables.{IsSound, IsWithin, unwritten};

@@ -3,7 +3,8 @@ ghost use Rattle.std.specs.Prelude.{◌≡◌, ◌++◌, ◌∷◌, [], IfErr, O
 ghost use Rattle.mdb_schema.specs.Answer.{ask};
 ghost use Rattle.mdb_schema.specs.Wipe.{wipe, wipe_by_prefix};
 ghost use Rattle.mdb_schema.specs.Write.{put, remove};
-ghost use Rattle.mem_txn.specs.Changes.{AnswersTxnAsk, AnswersTxnWipe, AnswersTxnWrite, gives_replaced, gives_row, present, present_view};
+ghost use Rattle.mem_txn.specs.Changes.{AnswersTxnAsk, AnswersTxnWipe, AnswersTxnWrite};
+ghost use Rattle.mem_txn.specs.Changes.{gives_replaced, gives_row, present, present_view};
 ghost use Rattle.mem_txn.specs.Database.{IsOf};
 ghost use Rattle.mem_txn.specs.Transactions.{AnswersCommit, AnswersSnapshot, changes_of, items_of};
 

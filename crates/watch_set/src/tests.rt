@@ -1,7 +1,8 @@
 //! What no clause says: that each call succeeds while there is memory, by a worked row.
 ghost use Rattle.std.specs.Prelude.{◌≡◌, [], IfOk};
 ghost use Rattle.mem_txn.specs.Checked.{IsHeldBy};
-ghost use Rattle.mem_txn.specs.Database.{Caller, IsCaller, reading_of};
+ghost use Rattle.mem_txn.specs.Database.{Caller, reading_of};
+ghost use Rattle.mem_txn.specs.inner.CallerOf.{IsCaller};
 ghost use Rattle.mem_txn.specs.Transactions.{changes_of};
 ghost use Rattle.watch_set.specs.Checks.{KeepsHeld};
 ghost use Rattle.watch_set.specs.Members.{AreHeldBy, watches_of};

@@ -1,6 +1,7 @@
 //! Sessions of two callers of one database, step by step.
 ghost use Rattle.std.specs.Prelude.{◌≡◌, [], IfOk};
-ghost use Rattle.mem_txn.specs.Database.{IsCaller, IsOf};
+ghost use Rattle.mem_txn.specs.Database.{IsOf};
+ghost use Rattle.mem_txn.specs.inner.CallerOf.{IsCaller};
 
 use super::{schema_of, script_of};
 use crate::{Session, Stepped};

@@ -1,5 +1,6 @@
 //! Sessions that are carried out step by step.
-ghost use Rattle.mem_txn.specs.Database.{IsCaller, IsOf};
+ghost use Rattle.mem_txn.specs.Database.{IsOf};
+ghost use Rattle.mem_txn.specs.inner.CallerOf.{IsCaller};
 
 use super::{Case, close, opened, tells, users};
 use crate::{Session, Stepped};

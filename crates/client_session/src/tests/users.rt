@@ -1,5 +1,6 @@
 //! Sessions over keys, notes, rules and users.
-ghost use Rattle.mem_txn.specs.Database.{IsCaller, IsOf};
+ghost use Rattle.mem_txn.specs.Database.{IsOf};
+ghost use Rattle.mem_txn.specs.inner.CallerOf.{IsCaller};
 
 use super::{Case, all_answered, close, opened, tells};
 use crate::Session;

@@ -1,7 +1,8 @@
 //! Callers that share a database, one after the other, and at the same time on threads of their
 //! own.
 ghost use Rattle.std.specs.Prelude.{◌≡◌, [], Some};
-ghost use Rattle.mem_txn.specs.Database.{Caller, IsCaller, IsOf};
+ghost use Rattle.mem_txn.specs.Database.{Caller, IsOf};
+ghost use Rattle.mem_txn.specs.inner.CallerOf.{IsCaller};
 ghost use Rattle.mem_txn.specs.Transactions.{changes_of};
 
 use super::long_run::kept_of;
@@ -35,6 +36,7 @@ struct Own {
 }
 
 impl Work for Own {
+    /// Puts the row in.
     fn run(&mut self, alloc: Global, txn: &mut Txn) -> Told {
         let row = own_row(alloc, self.caller, self.own, txn.number())?;
         match txn.insert("users", &row) {
@@ -335,8 +337,10 @@ fn a_try_finds_a_transaction_taken_and_then_begins(rt: HostRuntime) -> Result<()
     Ok(())
 }
 
+/// Takes what may be sent to a thread.
 fn may_be_sent<T: Send>(_value: &T) {}
 
+/// Takes what may be sent and shared.
 fn may_be_shared<T: Send + Sync>(_value: &T) {}
 
 /// Callers on threads share a database and what it answers from, each with a pass of its own. The

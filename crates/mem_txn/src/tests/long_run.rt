@@ -2,7 +2,7 @@
 //! held watches. After each transaction a watch has fired exactly where its question has
 //! another cell, and else the answer is as it was.
 ghost use Rattle.std.specs.Prelude.{◌≡◌};
-ghost use Rattle.mem_txn.specs.Database.{IsCaller};
+ghost use Rattle.mem_txn.specs.inner.CallerOf.{IsCaller};
 ghost use Rattle.mem_txn.specs.Transactions.{changes_of};
 
 use super::drawn::{Drawn, Plain, QUESTIONS, listed, wipe_plain};
@@ -71,6 +71,7 @@ fn operate_often(alloc: Global, drawn: &mut Drawn, txn: &mut Txn) -> Told
 }
 
 impl Work for Drawn {
+    /// Makes drawn operations. The plain lists are as before where they aren't committed.
     fn run(&mut self, alloc: Global, txn: &mut Txn) -> Told {
         let before = self.plain;
         let commits = self.random.below(4) != 0;
@@ -286,6 +287,7 @@ fn run_often<R: Wait>(
     (pass, Ok(true))
 }
 
+/// A second owner of a state.
 fn second(read: &ReadTxn) -> Result<ReadTxn, AllocError> {
     read.snapshot()
 }
@@ -363,6 +365,7 @@ fn run_watched<R: Wait>(rt: &R, alloc: Global, db: &Db, pass: Pass, log: &Front)
     }
 }
 
+/// The watches of all questions, of what is read first.
 fn first_watches<R: Wait>(
     rt: &R,
     alloc: Global,

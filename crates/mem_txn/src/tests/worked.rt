@@ -1,6 +1,6 @@
 //! Worked examples: transactions on a database, each write and question with its answer.
 ghost use Rattle.std.specs.Prelude.{◌≡◌};
-ghost use Rattle.mem_txn.specs.Database.{IsCaller};
+ghost use Rattle.mem_txn.specs.inner.CallerOf.{IsCaller};
 ghost use Rattle.mem_txn.specs.Transactions.{changes_of};
 
 use super::{Question, Told, Txn, Work, closed, is_told, pair, query_of, row_of, transact};
@@ -193,6 +193,7 @@ fn are_done(alloc: Global, txn: &mut Txn, steps: &[Step]) -> Told
 pub struct Steps(pub &'static [Step]);
 
 impl Work for Steps {
+    /// Takes the steps.
     fn run(&mut self, alloc: Global, txn: &mut Txn) -> Told {
         are_done(alloc, txn, self.0)
     }
@@ -244,6 +245,7 @@ fn between(alloc: Global, txn: &mut Txn, turn: &Turn) -> Result<Snapshot, AllocE
 }
 
 impl Work for Play {
+    /// Takes the steps, and keeps the snapshot between them.
     fn run(&mut self, alloc: Global, txn: &mut Txn) -> Told {
         self.kept = Some(between(alloc, txn, self.turn)?);
         Ok(self.turn.commits)

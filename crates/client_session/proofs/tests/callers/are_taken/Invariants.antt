@@ -1,4 +1,4 @@
-use Rattle.mem_txn.specs.Database.{IsCaller}
+use Rattle.mem_txn.specs.inner.CallerOf.{IsCaller}
 use Rattle.client_session.proofs.tests.callers.are_taken.Given as goal
 
 abbrev pub invariant-loop-at : goal.invariant-loop-at

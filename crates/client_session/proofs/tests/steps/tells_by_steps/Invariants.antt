@@ -1,4 +1,4 @@
-use Rattle.mem_txn.specs.Database.{IsCaller}
+use Rattle.mem_txn.specs.inner.CallerOf.{IsCaller}
 use Rattle.client_session.proofs.tests.steps.tells_by_steps.Given as goal
 
 abbrev pub invariant-loop : goal.invariant-loop
