@@ -52,7 +52,7 @@ pub fn tree_with(
     ensures onward { OnOk result (IsOnward cells.old cells.new) }
 {
     let root = tree.root();
-    let leaf = made::new_leaf(root.edges().allocator(), key, row, cells)?;
+    let leaf = made::new_leaf(root, key, row, cells)?;
     let Inserted { node, old } = insert(root, key, leaf, cells)?;
     let len = len_after(tree.len(), &old)?;
     Ok((Tree::of_root(node, len), old))

@@ -14,9 +14,9 @@ use radix_node::{Edges, Leaf, Node, NodeRef};
 use std::alloc::{AllocError, Global};
 use std::sync::Arc;
 
-/// A leaf with a copy of the key.
+/// A leaf with a copy of the key, made by the allocator of a node.
 pub fn new_leaf(
-    alloc: Global,
+    node: &Node,
     key: &[u8],
     row: &Row,
     cells: &mut Cells,
@@ -28,6 +28,7 @@ pub fn new_leaf(
     ensures drawn { OnOk result (cells.new ≡ one_drawn cells.old) }
     ensures begun { cells.old.first ≤ cells.old.next }
 {
+    let alloc = node.edges().allocator();
     let cell = cells.draw(alloc)?;
     Leaf::of(alloc, key, row, cell)
 }

@@ -250,11 +250,10 @@ impl TreeTxn {
         ensures spoiled { self.new.spoiled ≡ is_err result }
     {
         match write {
-            Write::Insert { key, row } => drop(self.insert(front, ids, key, row)?),
-            Write::Delete { key } => drop(self.delete(front, ids, key)?),
-            Write::DeletePrefix { prefix } => drop(self.delete_prefix(front, ids, prefix)?),
+            Write::Insert { key, row } => self.insert(front, ids, key, row).and(Ok(())),
+            Write::Delete { key } => self.delete(front, ids, key).and(Ok(())),
+            Write::DeletePrefix { prefix } => self.delete_prefix(front, ids, prefix).and(Ok(())),
         }
-        Ok(())
     }
 
     /// Makes the writes one after another, and leaves what a plain sorted map has after them. It is
