@@ -3,13 +3,18 @@ ghost use Rattle.std.specs.Prelude.{◌≡◌, ◌∷◌, List, ◌+◌, ◌*◌
 ghost use Rattle.std.specs.Arc.{arc_value};
 ghost use Rattle.std.specs.List.{All};
 ghost use Rattle.mdb_datum.specs.Bytes.{Bytes};
-ghost use Rattle.radix_node.specs.Cells.{AreBelow, AreOf, plain_of};
+ghost use Rattle.radix_node.specs.Cells.{AreBelow, AreOf, pieces_of, plain_of, root_of};
+ghost use Rattle.radix_node.specs.Nodes.{pairs_of};
 ghost use Rattle.radix_node.specs.Pairs.{find, put, without, without_prefix};
 ghost use Rattle.radix_node.specs.Paths.{Has, IsPath, paths_of_plain};
+ghost use Rattle.radix_node.specs.Shape.{HasShape};
 ghost use Rattle.radix_txn.specs.Kept.{AreWritten, deleted_key, deleted_keys};
 ghost use Rattle.radix_txn.specs.Notice.{IsDrawn};
 ghost use Rattle.radix_txn.specs.Txn.{txn_pairs};
+ghost use Rattle.radix_txn.specs.declared.target.Target.TheVariants.{Key};
+ghost use Rattle.radix_txn.specs.inner.Outside.{AllIn, outside_node};
 ghost use Rattle.radix_txn.specs.inner.Removal.{TakesNone, kept_pairs, old_row, taken_keys};
+ghost use Rattle.radix_txn.specs.inner.Steps.{Ledger, Steps};
 ghost use Rattle.radix_txn.specs.Write.{IsShort, after_write, after_writes, all_keys, write_keys};
 
 use crate::cells::Cells;
@@ -70,12 +75,9 @@ impl TreeTxn {
         ensures unchanged { OnErr result (self.new.tree ≡ self.old.tree) }
         ensures spoiled { self.new.spoiled ≡ is_err result }
     {
-        // Brings the first tree's shape into the proof of what is kept.
-        let _ = self.start.root();
         self.spoiled = true;
-        let mut cells = begin(&mut self.state, front, ids)?;
-        let (tree, old) = tree_with(&self.state.tree, key, row, &mut cells)?;
-        settle(&mut self.state, ids, tree, cells);
+        let cells = begin(&self.start, &mut self.state, front, ids)?;
+        let old = put_with(&mut self.state, ids, key, row, cells)?;
         self.spoiled = false;
         Ok(old)
     }
@@ -202,10 +204,8 @@ impl TreeTxn {
         ensures unchanged { OnErr result (self.new.tree ≡ self.old.tree) }
         ensures spoiled { self.new.spoiled ≡ is_err result }
     {
-        // Brings the first tree's shape into the proof of what is kept.
-        let _ = self.start.root();
         self.spoiled = true;
-        let mut cells = begin(&mut self.state, front, ids)?;
+        let mut cells = begin(&self.start, &mut self.state, front, ids)?;
         let taken = remove::take(&self.state.tree, key, target, &mut cells)?;
         let Some(taken) = taken else {
             restore(&mut self.state, cells);
@@ -338,7 +338,12 @@ impl TreeTxn {
 }
 
 /// Where a write gets its cells, and what has become of the first tree's so far.
-fn begin(state: &mut State, front: &Front, ids: &Ids) -> Result<Cells, AllocError>
+fn begin(
+    start: &Tree,
+    state: &mut State,
+    front: &Front,
+    ids: &Ids,
+) -> Result<Cells, AllocError>
     requires book { front.now.book ≡ ids.now.book }
     requires begun { state.old.changed ≡ true → state.old.first ≤ ids.now.next }
     ensures tree { state.new.tree ≡ state.old.tree }
@@ -350,7 +355,10 @@ fn begin(state: &mut State, front: &Front, ids: &Ids) -> Result<Cells, AllocErro
       next = ids.now.next;
       left = map arc_value state.old.left.items;
     }) }
+    ensures shape { HasShape (plain_of start.now) }
 {
+    // Brings the first tree's shape into the proof of what is kept.
+    let _ = start.root();
     let front = front.share();
     let ids = ids.share()?;
     let first = if state.changed {
@@ -366,6 +374,47 @@ fn begin(state: &mut State, front: &Front, ids: &Ids) -> Result<Cells, AllocErro
         first,
         left,
     })
+}
+
+/// Puts a row under a key with new cells, and gives the old row.
+fn put_with(
+    state: &mut State,
+    ids: &mut Ids,
+    key: &[u8],
+    row: &Row,
+    cells: Cells,
+) -> Result<Option<Row>, AllocError>
+    requires left { cells.next + length key.now + 3 ≤ 2 ^ 63 }
+    requires below { AreBelow cells.next state.old.tree }
+
+    ensures pairs { OnOk result (pairs_of (plain_of state.new.tree)
+        ≡ put key.now row.now (pairs_of (plain_of state.old.tree))) }
+    ensures old { IfOk result (λ r. r ≡ find key.now (pairs_of (plain_of state.old.tree))) }
+
+    ensures cells { let drawn : Ledger = record {
+          log = cells.log;
+          first = state.new.first;
+          next = ids.new.next;
+          left = map arc_value state.new.left.items;
+        } in
+        OnOk result (Steps (pieces_of state.old.tree) cells (pieces_of state.new.tree) drawn) }
+    ensures fresh { OnOk result (cells.next ≤ state.new.tree.cell.id) }
+    ensures stays { OnOk result (AllIn
+        (outside_node Key key.now (root_of state.old.tree)) (pieces_of state.new.tree)) }
+    ensures shapes { OnOk result
+        (HasShape (plain_of state.old.tree) × HasShape (plain_of state.new.tree)) }
+    ensures few { OnOk result (ids.new.next ≤ cells.next + length key.now + 3) }
+    ensures first { OnOk result (state.new.first ≡ cells.first) }
+    ensures changed { OnOk result (state.new.changed ≡ true) }
+    ensures book { OnOk result (ids.new.book ≡ cells.log.book) }
+
+    ensures tree { OnErr result (state.new.tree ≡ state.old.tree) }
+    ensures ids { OnErr result (ids.new ≡ ids.old) }
+{
+    let mut cells = cells;
+    let (tree, old) = tree_with(&state.tree, key, row, &mut cells)?;
+    settle(state, ids, tree, cells);
+    Ok(old)
 }
 
 /// What a write that changes nothing leaves.

@@ -114,7 +114,7 @@ returns-clause-written c keys =
     let stays = subst (λ o. IfSome o (λ (t : Taken). AllIn (outside_node target key (root_of held)) (pieces_of t.tree))) c.in-Some.is c.in_ok-taken.ensures.stays in
     let shapes = subst (λ o. IfSome o (λ (t : Taken). HasShape (plain_of held) × HasShape (plain_of t.tree))) c.in-Some.is c.in_ok-taken.ensures.shapes in
     subst (λ (t : Txn). AreWritten t.start t.tree keys → AreWritten c.self.inside.start c.settle.new.state.tree (taken_keys target key (txn_pairs t) keys)) c.self.view_is
-    (λ before. taken_ends c.self.inside.start s.tree held c.in-Some.taken.tree c.settle.new.state.tree c.in_ok-cells.ensures.tree c.settle.ensures.tree c.root.ensures.shape shapes keys before target key c.in-Some.taken.row c.in-Some.taken.count stays taken)
+    (λ before. taken_ends c.self.inside.start s.tree held c.in-Some.taken.tree c.settle.new.state.tree c.in_ok-cells.ensures.tree c.settle.ensures.tree c.in_ok-cells.ensures.shape shapes keys before target key c.in-Some.taken.row c.in-Some.taken.count stays taken)
 
 pub returns-in_default-clause-written : goal.returns-in_default-clause-written
 returns-in_default-clause-written c keys =
