@@ -1,5 +1,5 @@
 //! The writes of a transaction.
-ghost use Rattle.std.specs.Prelude.{◌≡◌, ◌∷◌, List, ◌+◌, ◌*◌, ◌≤◌, ◌<◌, ◌↔◌, ◌^◌, ℕ, IfOk, IfNone, OnErr, OnOk, true, false, if◌then◌else◌, is_err, length, map, take};
+ghost use Rattle.std.specs.Prelude.{◌≡◌, ◌∷◌, List, ◌+◌, ◌*◌, ◌≤◌, ◌<◌, ◌↔◌, ◌^◌, ℕ, IfOk, IfNone, IfSome, OnErr, OnOk, true, false, if◌then◌else◌, is_err, length, map, take};
 ghost use Rattle.std.specs.Arc.{arc_value};
 ghost use Rattle.std.specs.List.{All};
 ghost use Rattle.mdb_datum.specs.Bytes.{Bytes};
@@ -13,7 +13,7 @@ ghost use Rattle.radix_txn.specs.Notice.{IsDrawn};
 ghost use Rattle.radix_txn.specs.Txn.{txn_pairs};
 ghost use Rattle.radix_txn.specs.declared.target.Target.TheVariants.{Key};
 ghost use Rattle.radix_txn.specs.inner.Outside.{AllIn, outside_node};
-ghost use Rattle.radix_txn.specs.inner.Removal.{TakesNone, kept_pairs, old_row, taken_keys};
+ghost use Rattle.radix_txn.specs.inner.Removal.{IsAbsent, IsTaken, TakesNone, kept_pairs, old_row, taken_keys};
 ghost use Rattle.radix_txn.specs.inner.Steps.{Ledger, Steps};
 ghost use Rattle.radix_txn.specs.Write.{IsShort, after_write, after_writes, all_keys, write_keys};
 
@@ -205,20 +205,17 @@ impl TreeTxn {
         ensures spoiled { self.new.spoiled ≡ is_err result }
     {
         self.spoiled = true;
-        let mut cells = begin(&self.start, &mut self.state, front, ids)?;
-        let taken = remove::take(&self.state.tree, key, target, &mut cells)?;
-        let Some(taken) = taken else {
-            restore(&mut self.state, cells);
+        let cells = begin(&self.start, &mut self.state, front, ids)?;
+        let taken = take_with(&mut self.state, ids, key, target, cells)?;
+        let Some(deleted) = taken else {
             self.spoiled = false;
             return Ok(Deleted {
                 row: None,
                 count: 0,
             });
         };
-        let Taken { tree, row, count } = taken;
-        settle(&mut self.state, ids, tree, cells);
         self.spoiled = false;
-        Ok(Deleted { row, count })
+        Ok(deleted)
     }
 
     /// Makes a write.
@@ -415,6 +412,61 @@ fn put_with(
     let (tree, old) = tree_with(&state.tree, key, row, &mut cells)?;
     settle(state, ids, tree, cells);
     Ok(old)
+}
+
+/// Takes out the keys of a target with new cells, if there are any.
+fn take_with(
+    state: &mut State,
+    ids: &mut Ids,
+    key: &[u8],
+    target: Target,
+    cells: Cells,
+) -> Result<Option<Deleted>, AllocError>
+    requires left { cells.next + length key.now + 1 ≤ 2 ^ 63 }
+    requires below { AreBelow cells.next state.old.tree }
+
+    ensures taken { IfOk result (λ o. IfSome o (λ d. IsTaken target key.now
+        (pairs_of (plain_of state.old.tree)) (pairs_of (plain_of state.new.tree))
+        d.row d.count)) }
+    ensures cells { let drawn : Ledger = record {
+          log = cells.log;
+          first = state.new.first;
+          next = ids.new.next;
+          left = map arc_value state.new.left.items;
+        } in
+        IfOk result (λ o. IfSome o (λ d.
+        Steps (pieces_of state.old.tree) cells (pieces_of state.new.tree) drawn)) }
+    ensures fresh { IfOk result (λ o. IfSome o (λ d. cells.next ≤ state.new.tree.cell.id)) }
+    ensures stays { IfOk result (λ o. IfSome o (λ d. AllIn
+        (outside_node target key.now (root_of state.old.tree)) (pieces_of state.new.tree))) }
+    ensures shapes { IfOk result (λ o. IfSome o (λ d. HasShape (plain_of state.old.tree)
+        × HasShape (plain_of state.new.tree))) }
+    ensures few { IfOk result (λ o. IfSome o (λ d.
+        ids.new.next ≤ cells.next + length key.now + 1)) }
+    ensures began { IfOk result (λ o. IfSome o (λ d. state.new.first ≡ cells.first)) }
+    ensures changed { IfOk result (λ o. IfSome o (λ d. state.new.changed ≡ true)) }
+    ensures book { IfOk result (λ o. IfSome o (λ d. ids.new.book ≡ cells.log.book)) }
+
+    ensures absent { IfOk result
+        (λ o. IfNone o (IsAbsent target key.now (pairs_of (plain_of state.old.tree)))) }
+    ensures still { IfOk result (λ o. IfNone o (state.new.changed ≡ state.old.changed)) }
+    ensures first { IfOk result (λ o. IfNone o (state.new.first ≡ state.old.first)) }
+    ensures gone { IfOk result
+        (λ o. IfNone o (map arc_value state.new.left.items ≡ cells.left)) }
+    ensures ids { IfOk result (λ o. IfNone o (ids.new ≡ ids.old)) }
+    ensures same { IfOk result (λ o. IfNone o (state.new.tree ≡ state.old.tree)) }
+
+    ensures tree { OnErr result (state.new.tree ≡ state.old.tree) }
+    ensures undrawn { OnErr result (ids.new ≡ ids.old) }
+{
+    let mut cells = cells;
+    let Some(taken) = remove::take(&state.tree, key, target, &mut cells)? else {
+        restore(state, cells);
+        return Ok(None);
+    };
+    let Taken { tree, row, count } = taken;
+    settle(state, ids, tree, cells);
+    Ok(Some(Deleted { row, count }))
 }
 
 /// What a write that changes nothing leaves.
