@@ -20,8 +20,9 @@ use Rattle.radix_txn.specs.inner.Pieces.{led, inside, inside_of}
 use Rattle.radix_txn.specs.inner.Removal.{covers}
 use Rattle.radix_txn.proofs.CellInserts.{at_gap, at_place}
 use Rattle.radix_txn.proofs.CellRemains.{no_first, one_only}
-use Rattle.radix_txn.proofs.Outside.{all_in_is, all_in_then, below_inside, edge_inside, edge_past, inner_split, outside_edge, outside_inner, stays_beside}
+use Rattle.radix_txn.proofs.Outside.{all_in_is, all_in_then, below_inside, edge_past, inner_split, outside_edge, outside_inner, staying_in, stays_beside}
 use Rattle.radix_txn.proofs.PairCounts.{ended}
+use Rattle.radix_txn.proofs.Split.{past_none, past_some}
 
 -- ---- at the end of a key
 
@@ -78,13 +79,22 @@ module _ (x : ℕ) (k rest : Bytes) (first : rest ≡ x ∷ k) (n m old new : Ce
       (edges_stay Key x k rest first n at (at + 1) ks js (at_place at (cells_list n.under) (led (x ∷ []) old) there) edge m.leaf m.under (ap (λ (w : CellNode). w.leaf) is) (ap (λ (w : CellNode). w.under) is))
       (below_inside m.leaf m.under)
 
-  -- that keeps all within
-  pub split_stays : AllIn (inside old) (inside new) → AllIn (outside_node Key rest n) (inside m)
-  split_stays inner = one_stays (all_in_then _ _ _ (edge_inside Key x k old) inner)
+  -- that keeps what stays there
+  pub edge_stays : (let s = part old.prefix k in AllIn (staying Key s.1 s.2 old.leaf old.under (outside Key s.2 old.under)) (inside new)) → AllIn (outside_node Key rest n) (inside m)
+  edge_stays inner = one_stays (subst (λ (zs : List Piece). AllIn zs (inside new)) (sym (outside_edge Key x k old)) inner)
 
-  -- that goes on with the rest of the key
-  pub onward_stays : (left : Bytes) → (part old.prefix k).1 ≡ [] → (part old.prefix k).2 ≡ left → AllIn (outside_node Key left old) (inside new) → AllIn (outside_node Key rest n) (inside m)
-  onward_stays left none is_left inner = one_stays (subst (λ (zs : List Piece). AllIn zs (inside new)) (sym (edge_past Key x k left old none is_left)) inner)
+-- all within the node
+pub split_stays : (k : Bytes) (old new : CellNode) → AllIn (inside old) (inside new) → let s = part old.prefix k in AllIn (staying Key s.1 s.2 old.leaf old.under (outside Key s.2 old.under)) (inside new)
+split_stays k old new inner =
+    let s = part old.prefix k in
+    all_in_then _ _ _ (staying_in Key s.1 s.2 old.leaf old.under (outside Key s.2 old.under) (outside_inner Key s.2 old.under)) inner
+
+-- or what is outside the rest of the key
+pub onward_stays : (k left : Bytes) (old new : CellNode) → Some left ≡ rest_past old.prefix k → AllIn (outside_node Key left old) (inside new) → let s = part old.prefix k in AllIn (staying Key s.1 s.2 old.leaf old.under (outside Key s.2 old.under)) (inside new)
+onward_stays k left old new some inner =
+    let s = part old.prefix k in
+    let past = past_some s.1 s.2 left some in
+    subst (λ (zs : List Piece). AllIn zs (inside new)) (λ i. staying Key (sym past.0 i) (sym past.1 i) old.leaf old.under (outside Key (sym past.1 i) old.under)) inner
 
 -- a node is split: a copy of it is under the upper one
 under_stays : (lower : CellNode) (ns : List CellNode) → Has lower ns → AllIn (inside lower) (node_pieces (cells_in ns))
@@ -108,14 +118,6 @@ lower_there beside lower other =
     ] refl
 
 -- ---- deletes
-
-past_some : (p k left : Bytes) → Some left ≡ left_of p k → (p ≡ []) × (k ≡ left)
-past_some [] k left e = let same : left ≡ k = cc in (refl, sym same)
-past_some (y ∷ p) k left e = absurd cc
-
-past_none : (p k : Bytes) → None ≡ left_of p k → (y : ℕ) × (q : Bytes) × (p ≡ y ∷ q)
-past_none [] k e = absurd cc
-past_none (y ∷ p) k e = (y, p, refl)
 
 module _ (target : Target) (x : ℕ) (k rest : Bytes) (first : rest ≡ x ∷ k) (n old : CellNode) (at : ℕ) (there : slice_get (cells_list n.under) at ≡ Some (led (x ∷ []) old)) (leaf : Option CellLeaf) (under : CellNodes) (same : leaf ≡ n.leaf) where
   -- the node at the edge is left with others

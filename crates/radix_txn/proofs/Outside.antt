@@ -39,7 +39,7 @@ pub below_inside : (leaf : Option CellLeaf) (under : CellNodes) → AllIn (below
 below_inside leaf under = all_in_both (leaf_pieces leaf) (inner_pieces under) (leaf_pieces leaf) (node_pieces under) (all_in_same (leaf_pieces leaf)) (inner_nodes under)
 
 -- of one node
-staying_in : (target : Target) (p k : Bytes) (leaf : Option CellLeaf) (under : CellNodes) (below : List Piece) → AllIn below (inner_pieces under) → AllIn (staying target p k leaf under below) (inside_of leaf under)
+pub staying_in : (target : Target) (p k : Bytes) (leaf : Option CellLeaf) (under : CellNodes) (below : List Piece) → AllIn below (inner_pieces under) → AllIn (staying target p k leaf under below) (inside_of leaf under)
 staying_in target [] (z ∷ k) leaf under below f x h = all_in_then (leaf_pieces leaf ++ below) (below_pieces leaf under) (inside_of leaf under) (all_in_both (leaf_pieces leaf) below (leaf_pieces leaf) (inner_pieces under) (all_in_same (leaf_pieces leaf)) f) (below_inside leaf under) x h
 staying_in Key [] [] leaf under below f x h = Has-right x (leaf_pieces leaf) (node_pieces under) (inner_nodes under x (f x h))
 staying_in Prefix [] [] leaf under below f x h = absurd h

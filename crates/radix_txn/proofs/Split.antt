@@ -8,13 +8,21 @@ use Rattle.mdb_datum.specs.Row.{Pair}
 use Rattle.radix_node.specs.Nodes.{Nodes, no_nodes, node, part, common}
 use Rattle.radix_node.specs.inner.Seek.{seek, seek_plain, found}
 use Rattle.radix_node.specs.Edges.{edge_put}
-use Rattle.radix_node.specs.Node.{PlainNode, nodes_in, below}
+use Rattle.radix_node.specs.Node.{PlainNode, nodes_in, below, left_of, rest_past}
 use Rattle.radix_node.proofs.Parts.{HeadsDiffer, part_parts}
 use Rattle.radix_node.proofs.ByteCompare.{what_equal}
 use Rattle.radix_txn.specs.inner.Edits.{insert}
 use Rattle.radix_txn.specs.inner.PutAt.{grown_parts, grown_node}
 use Rattle.radix_txn.specs.inner.Below.{over, insert_below, leaf_node}
 use Rattle.radix_txn.proofs.EditPlaces.{found_at}
+
+pub past_some : (p k left : List ℕ) → Some left ≡ left_of p k → (p ≡ []) × (k ≡ left)
+past_some [] k left e = let same : left ≡ k = cc in (refl, sym same)
+past_some (y ∷ p) k left e = absurd cc
+
+pub past_none : (p k : List ℕ) → None ≡ left_of p k → (y : ℕ) × (q : List ℕ) × (p ≡ y ∷ q)
+past_none [] k e = absurd cc
+past_none (y ∷ p) k e = (y, p, refl)
 
 module _ (p k : List ℕ) (n : ℕ) (is : n ≡ length (common p k)) where
   pub first_rest : drop n p ≡ (part p k).1
@@ -41,6 +49,22 @@ module _ (p k : List ℕ) (n : ℕ) (is : n ≡ length (common p k)) where
       ended : (xs : List ℕ) → length xs ≡ 0 → xs ≡ []
       ended [] e = refl
       ended (x ∷ xs) e = absurd (omega (arith, e))
+
+  -- the rest doesn't begin with the prefix, or it does
+  pub apart_long : None ≡ rest_past p k → n < length p
+  apart_long none =
+      let parts = part_parts p k in
+      let more = past_none (part p k).1 (part p k).2 none in
+      omega (arith, is, ap length parts.first, length-append (part p k).0 (part p k).1, ap length more.2)
+
+  pub onward_long : (left : List ℕ) → Some left ≡ rest_past p k → length p ≤ n
+  onward_long left some =
+      let parts = part_parts p k in
+      let past = past_some (part p k).1 (part p k).2 left some in
+      omega (arith, is, ap length parts.first, length-append (part p k).0 (part p k).1, ap length past.0)
+
+  pub onward_rest : (left : List ℕ) → Some left ≡ rest_past p k → drop n k ≡ left
+  onward_rest left some = second_rest ∙ (past_some (part p k).1 (part p k).2 left some).1
 
   first_whole : length p ≤ n → (part p k).0 ≡ p
   first_whole le = let parts = part_parts p k in sym (parts.first ∙ ap (λ (z : List ℕ). (part p k).0 ++ z) (first_none le) ∙ append-nil (part p k).0)
@@ -126,6 +150,23 @@ module _ (k : List ℕ) (m : PlainNode) (n : ℕ) (is : n ≡ length (common m.p
       onward : (l : List ℕ) → found [] l m.leaf (seek l m.under) ≡ seek_plain l (below m)
       onward [] = refl
       onward (x ∷ l) = refl
+
+-- what is left of a key goes on below the node
+module _ (k left : List ℕ) (m : PlainNode) (some : Some left ≡ rest_past m.prefix k) where
+  pub left_grown : (pair : Pair) → grown_node pair k m ≡ over m (insert_below pair left (below m))
+  left_grown pair =
+      let n = length (common m.prefix k) in
+      grown_onward pair k m n refl (onward_long m.prefix k n refl left some)
+      ∙ ap (λ (z : List ℕ). over m (insert_below pair z (below m))) (onward_rest m.prefix k n refl left some)
+
+  pub left_found : found_at k m ≡ seek_plain left (below m)
+  left_found =
+      let n = length (common m.prefix k) in
+      found_below k m n refl (onward_long m.prefix k n refl left some)
+      ∙ ap (λ (z : List ℕ). seek_plain z (below m)) (onward_rest m.prefix k n refl left some)
+
+pub apart_found : (k : List ℕ) (m : PlainNode) → None ≡ rest_past m.prefix k → found_at k m ≡ None
+apart_found k m none = let n = length (common m.prefix k) in found_split k m n refl (apart_long m.prefix k n refl none)
 
 -- ---- the rests themselves
 

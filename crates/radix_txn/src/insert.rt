@@ -6,15 +6,15 @@ ghost use Rattle.watch_word.specs.Logs.{Cell};
 ghost use Rattle.radix_node.specs.CellNode.{cell_edges, cell_node, cell_put, cell_ref, led_node};
 ghost use Rattle.radix_node.specs.Edges.{edge_put};
 ghost use Rattle.radix_node.specs.Cells.{AreBelow, CellNode, a_leaf, cells_in, no_cells, pieces_of, plain_of, root_of};
-ghost use Rattle.radix_node.specs.Node.{PlainNode, below_prefix, edge_node, edges_of, leaf_pair, node_of, nodes_in, plain_node};
-ghost use Rattle.radix_node.specs.Nodes.{common, pairs_of};
+ghost use Rattle.radix_node.specs.Node.{PlainNode, below_prefix, edge_node, edges_of, leaf_pair, node_of, nodes_in, plain_node, rest_past};
+ghost use Rattle.radix_node.specs.Nodes.{common, pairs_of, part};
 ghost use Rattle.radix_node.specs.Pairs.{find, put};
 ghost use Rattle.radix_node.specs.Shape.{HasShape};
-ghost use Rattle.radix_node.specs.inner.Seek.{seek_plain};
+ghost use Rattle.radix_node.specs.inner.Seek.{found, seek, seek_plain};
 ghost use Rattle.radix_node.specs.inner.Siblings.{cells_list, nodes_list};
 ghost use Rattle.radix_txn.specs.declared.target.Target.TheVariants.{Key};
 ghost use Rattle.radix_txn.specs.inner.Below.{IsShapedBelow, insert_below, leaf_node, over, row_in};
-ghost use Rattle.radix_txn.specs.inner.Outside.{AllIn, outside_node};
+ghost use Rattle.radix_txn.specs.inner.Outside.{AllIn, outside, outside_node, staying};
 ghost use Rattle.radix_txn.specs.inner.Pieces.{inside, led, whole};
 ghost use Rattle.radix_txn.specs.inner.PutAt.{grown_node};
 ghost use Rattle.radix_txn.specs.inner.Steps.{IsNextOf, IsOnward, Steps, one_drawn, one_left};
@@ -77,6 +77,7 @@ struct Inserted {
 
 /// The node with a leaf at the end of the rest of its key, where `rest` is what the key has after
 /// the node's path.
+#[cycle(insert)]
 fn insert(
     node: &Node,
     rest: &[u8],
@@ -109,17 +110,70 @@ fn insert(
         Err(at) => return add_edge(node, at, *first, after, leaf, cells),
     };
     let child = edge.node();
-    let shared = child.common_prefix_len(after);
-    if shared < child.prefix().len() {
-        let child = split(child, shared, after, leaf, cells)?;
-        let below = Inserted {
-            node: child,
-            old: None,
-        };
-        return above(node, at, *first, below, cells);
-    }
-    let below = insert(child, &after[shared..], leaf, cells)?;
+    let below = insert_under(child, after, leaf, cells)?;
     above(node, at, *first, below, cells)
+}
+
+/// What stands in the node's place at its edge with a leaf at the end of the rest of its key, where
+/// `rest` is what the key has after the path that leads to the edge.
+#[cycle(insert)]
+fn insert_under(
+    node: &Node,
+    rest: &[u8],
+    leaf: Arc<Leaf, Global>,
+    cells: &mut Cells,
+) -> Result<Inserted, AllocError>
+    requires shape { let n = plain_node node.now in IsShapedBelow n.under }
+    requires left { cells.old.next + length rest.now + 2 ≤ 2 ^ 63 }
+
+    ensures node { IfOk result
+        (λ r. node_of r.node ≡ grown_node (leaf_pair leaf) rest.now (plain_node node.now)) }
+    ensures old { let n = plain_node node.now in let parts = part n.prefix rest.now in
+        IfOk result
+        (λ r. r.old ≡ row_in (found parts.1 parts.2 n.leaf (seek parts.2 n.under))) }
+
+    ensures cells { IfOk result (λ r. (front : Bytes) → Steps
+        (a_leaf (arc_value leaf) ∷ whole (led front (cell_node node.now))) cells.old
+        (whole (led front (cell_ref r.node))) cells.new) }
+    ensures stays { let n = cell_node node.now in let parts = part n.prefix rest.now in
+        IfOk result (λ r. AllIn
+        (staying Key parts.1 parts.2 n.leaf n.under (outside Key parts.2 n.under))
+        (inside (cell_ref r.node))) }
+    ensures few { OnOk result (cells.new.next ≤ cells.old.next + length rest.now + 2) }
+    ensures onward { OnOk result (IsOnward cells.old cells.new) }
+{
+    let Some(left) = node.strip_prefix(rest) else {
+        return insert_apart(node, rest, leaf, cells);
+    };
+    insert(node, left, leaf, cells)
+}
+
+/// What the node is split into, with the leaf, where the rest of its key doesn't begin with the
+/// node's prefix.
+fn insert_apart(
+    node: &Node,
+    rest: &[u8],
+    leaf: Arc<Leaf, Global>,
+    cells: &mut Cells,
+) -> Result<Inserted, AllocError>
+    requires apart { let n = plain_node node.now in None ≡ rest_past n.prefix rest.now }
+    requires left { cells.old.next + length rest.now + 2 ≤ 2 ^ 63 }
+
+    ensures node { IfOk result
+        (λ r. node_of r.node ≡ grown_node (leaf_pair leaf) rest.now (plain_node node.now)) }
+    ensures old { IfOk result (λ r. r.old ≡ None) }
+
+    ensures cells { IfOk result (λ r. (front : Bytes) → Steps
+        (a_leaf (arc_value leaf) ∷ whole (led front (cell_node node.now))) cells.old
+        (whole (led front (cell_ref r.node))) cells.new) }
+    ensures stays { IfOk result
+        (λ r. AllIn (inside (cell_node node.now)) (inside (cell_ref r.node))) }
+    ensures few { OnOk result (cells.new.next ≤ cells.old.next + length rest.now + 2) }
+    ensures onward { OnOk result (IsOnward cells.old cells.new) }
+{
+    let shared = node.common_prefix_len(rest);
+    let node = split(node, shared, rest, leaf, cells)?;
+    Ok(Inserted { node, old: None })
 }
 
 /// The node with a node made anew at its edge at a place, which has this label.
