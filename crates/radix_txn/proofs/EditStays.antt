@@ -8,7 +8,7 @@ use Rattle.mdb_datum.specs.Bytes.{Bytes}
 use Rattle.watch_word.specs.Logs.{Cell}
 use Rattle.radix_node.specs.CellNode.{cell_put, tree_at}
 use Rattle.radix_node.specs.Cells.{CellLeaf, CellNode, CellNodes, CellTree, Piece, leaf_pieces, node_pieces, cells_in, pieces_of, root_of}
-use Rattle.radix_node.specs.Node.{left_of, rest_past}
+use Rattle.radix_node.specs.Node.{rest_past}
 use Rattle.radix_node.specs.Nodes.{first_order, part}
 use Rattle.radix_node.specs.Paths.{Has}
 use Rattle.radix_node.specs.inner.Siblings.{cells_list}

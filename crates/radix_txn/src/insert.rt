@@ -1,12 +1,15 @@
 //! The insert of a key.
-ghost use Rattle.std.specs.Prelude.{◌≡◌, ◌∷◌, [], ◌++◌, ◌<◌, ◌≤◌, ◌+◌, ◌^◌, None, Some, IfOk, OnOk, if◌then◌else◌, is_some, length, take, drop};
+ghost use Rattle.std.specs.Prelude.{◌≡◌, ◌∷◌, [], ◌++◌, ◌<◌, ◌≤◌, ◌+◌, ◌^◌, None, Some, IfOk, OnOk};
+ghost use Rattle.std.specs.Prelude.{if◌then◌else◌, is_some, length, take, drop};
 ghost use Rattle.std.specs.Arc.{arc_value};
 ghost use Rattle.mdb_datum.specs.Bytes.{Bytes};
 ghost use Rattle.watch_word.specs.Logs.{Cell};
 ghost use Rattle.radix_node.specs.CellNode.{cell_edges, cell_node, cell_put, cell_ref, led_node};
 ghost use Rattle.radix_node.specs.Edges.{edge_put};
-ghost use Rattle.radix_node.specs.Cells.{AreBelow, CellNode, a_leaf, cells_in, no_cells, pieces_of, plain_of, root_of};
-ghost use Rattle.radix_node.specs.Node.{PlainNode, below_prefix, edge_node, edges_of, leaf_pair, node_of, nodes_in, plain_node, rest_past};
+ghost use Rattle.radix_node.specs.Cells.{AreBelow, CellNode, a_leaf, cells_in, no_cells, pieces_of};
+ghost use Rattle.radix_node.specs.Cells.{plain_of, root_of};
+ghost use Rattle.radix_node.specs.Node.{PlainNode, below_prefix, edge_node, edges_of, leaf_pair};
+ghost use Rattle.radix_node.specs.Node.{node_of, nodes_in, plain_node, rest_past};
 ghost use Rattle.radix_node.specs.Nodes.{common, pairs_of, part};
 ghost use Rattle.radix_node.specs.Pairs.{find, put};
 ghost use Rattle.radix_node.specs.Shape.{HasShape};

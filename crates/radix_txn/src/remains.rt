@@ -1,17 +1,20 @@
 //! What a delete leaves of a node.
-ghost use Rattle.std.specs.Prelude.{◌≡◌, ◌++◌, ◌∷◌, ◌+◌, ◌<◌, ◌≤◌, ◌^◌, [], List, None, IfOk, OnOk, length, take, drop, option_map, option_to_list};
+ghost use Rattle.std.specs.Prelude.{◌≡◌, ◌++◌, ◌∷◌, ◌+◌, ◌<◌, ◌≤◌, ◌^◌, [], List, None, IfOk, OnOk};
+ghost use Rattle.std.specs.Prelude.{length, take, drop, option_map, option_to_list};
 ghost use Rattle.std.specs.Arc.{arc_value};
 ghost use Rattle.mdb_datum.specs.Bytes.{Bytes};
 ghost use Rattle.watch_word.specs.Logs.{Cell};
 ghost use Rattle.radix_node.specs.CellNode.{cell_edges, cell_node, cell_ref, led_node};
 ghost use Rattle.radix_node.specs.Cells.{CellNode, cells_in, no_cells, node_pieces};
-ghost use Rattle.radix_node.specs.Node.{edge_node, edges_of, leaf_pair, nodes_in, node_of, plain_node};
+ghost use Rattle.radix_node.specs.Node.{edge_node, edges_of, leaf_pair, nodes_in, node_of};
+ghost use Rattle.radix_node.specs.Node.{plain_node};
 ghost use Rattle.radix_node.specs.Nodes.{no_nodes};
 ghost use Rattle.radix_node.specs.inner.Siblings.{cells_list, nodes_list};
 ghost use Rattle.radix_txn.specs.inner.Below.{settled_node};
 ghost use Rattle.radix_txn.specs.inner.Outside.{AllIn, below_pieces, inner_pieces};
 ghost use Rattle.radix_txn.specs.inner.Pieces.{inside, inside_of, led, ref_list, whole};
-ghost use Rattle.radix_txn.specs.inner.Remains.{remains_of, own_leaf, own_nodes, pieces_left, stays_left};
+ghost use Rattle.radix_txn.specs.inner.Remains.{remains_of, own_leaf, own_nodes, pieces_left};
+ghost use Rattle.radix_txn.specs.inner.Remains.{stays_left};
 ghost use Rattle.radix_txn.specs.inner.Steps.{IsNextOf, IsOnward, Steps, one_drawn};
 
 use crate::cells::Cells;

@@ -1,9 +1,12 @@
 //! Both deletes are one walk down: to the end of a key, or to the node that a prefix leads to.
-ghost use Rattle.std.specs.Prelude.{◌≡◌, ◌<◌, ◌≤◌, ◌+◌, ◌++◌, ◌^◌, [], List, None, Some, true, false, IfOk, IfSome, IfNone, OnErr, OnOk, length, take, drop, option_to_list};
+ghost use Rattle.std.specs.Prelude.{◌≡◌, ◌<◌, ◌≤◌, ◌+◌, ◌++◌, ◌^◌, [], List, None, Some, true};
+ghost use Rattle.std.specs.Prelude.{false, IfOk, IfSome, IfNone, OnErr, OnOk, length, take, drop};
+ghost use Rattle.std.specs.Prelude.{option_to_list};
 ghost use Rattle.std.specs.List.{slice_get};
 ghost use Rattle.mdb_datum.specs.Bytes.{Bytes};
 ghost use Rattle.radix_node.specs.CellNode.{cell_node, led_node};
-ghost use Rattle.radix_node.specs.Cells.{AreBelow, CellNode, cells_in, pieces_of, plain_of, root_of};
+ghost use Rattle.radix_node.specs.Cells.{AreBelow, CellNode, cells_in, pieces_of, plain_of};
+ghost use Rattle.radix_node.specs.Cells.{root_of};
 ghost use Rattle.radix_node.specs.Node.{below, below_prefix, edge_node, nodes_in, plain_node};
 ghost use Rattle.radix_node.specs.Nodes.{pairs_of};
 ghost use Rattle.radix_node.specs.Shape.{HasShape};
@@ -11,8 +14,10 @@ ghost use Rattle.radix_node.specs.inner.Siblings.{cells_list, nodes_list};
 ghost use Rattle.radix_txn.specs.inner.Below.{IsShapedBelow, settled_node};
 ghost use Rattle.radix_txn.specs.inner.Outside.{AllIn, inner_pieces, outside_node};
 ghost use Rattle.radix_txn.specs.inner.Pieces.{led, whole};
-ghost use Rattle.radix_txn.specs.inner.Removal.{IsAbsent, IsMissing, IsRemoval, IsTaken, IsThere, LosesPairs};
-ghost use Rattle.radix_txn.specs.inner.Remains.{own_leaf, own_nodes, pieces_left, remains_of, stays_left};
+ghost use Rattle.radix_txn.specs.inner.Removal.{IsAbsent, IsMissing, IsRemoval, IsTaken, IsThere};
+ghost use Rattle.radix_txn.specs.inner.Removal.{LosesPairs};
+ghost use Rattle.radix_txn.specs.inner.Remains.{own_leaf, own_nodes, pieces_left, remains_of};
+ghost use Rattle.radix_txn.specs.inner.Remains.{stays_left};
 ghost use Rattle.radix_txn.specs.inner.Steps.{IsOnward, Ledger, Steps};
 ghost use Rattle.radix_txn.specs.declared.target.Target.TheVariants.{Key, Prefix};
 

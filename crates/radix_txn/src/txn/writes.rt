@@ -1,5 +1,7 @@
 //! The writes of a transaction.
-ghost use Rattle.std.specs.Prelude.{◌≡◌, ◌∷◌, List, ◌+◌, ◌*◌, ◌≤◌, ◌<◌, ◌↔◌, ◌^◌, ℕ, IfOk, IfNone, IfSome, OnErr, OnOk, true, false, if◌then◌else◌, is_err, length, map, take};
+ghost use Rattle.std.specs.Prelude.{◌≡◌, ◌∷◌, List, ◌+◌, ◌*◌, ◌≤◌, ◌<◌, ◌↔◌, ◌^◌, ℕ, IfOk, IfNone};
+ghost use Rattle.std.specs.Prelude.{IfSome, OnErr, OnOk, true, false, if◌then◌else◌, is_err};
+ghost use Rattle.std.specs.Prelude.{length, map, take};
 ghost use Rattle.std.specs.Arc.{arc_value};
 ghost use Rattle.std.specs.List.{All};
 ghost use Rattle.mdb_datum.specs.Bytes.{Bytes};
@@ -13,7 +15,8 @@ ghost use Rattle.radix_txn.specs.Notice.{IsDrawn};
 ghost use Rattle.radix_txn.specs.Txn.{txn_pairs};
 ghost use Rattle.radix_txn.specs.declared.target.Target.TheVariants.{Key};
 ghost use Rattle.radix_txn.specs.inner.Outside.{AllIn, outside_node};
-ghost use Rattle.radix_txn.specs.inner.Removal.{IsAbsent, IsTaken, TakesNone, kept_pairs, old_row, taken_keys};
+ghost use Rattle.radix_txn.specs.inner.Removal.{IsAbsent, IsTaken, TakesNone, kept_pairs, old_row};
+ghost use Rattle.radix_txn.specs.inner.Removal.{taken_keys};
 ghost use Rattle.radix_txn.specs.inner.Steps.{Ledger, Steps};
 ghost use Rattle.radix_txn.specs.Write.{IsShort, after_write, after_writes, all_keys, write_keys};
 
@@ -335,12 +338,7 @@ impl TreeTxn {
 }
 
 /// Where a write gets its cells, and what has become of the first tree's so far.
-fn begin(
-    start: &Tree,
-    state: &mut State,
-    front: &Front,
-    ids: &Ids,
-) -> Result<Cells, AllocError>
+fn begin(start: &Tree, state: &mut State, front: &Front, ids: &Ids) -> Result<Cells, AllocError>
     requires book { front.now.book ≡ ids.now.book }
     requires begun { state.old.changed ≡ true → state.old.first ≤ ids.now.next }
     ensures tree { state.new.tree ≡ state.old.tree }
@@ -389,11 +387,11 @@ fn put_with(
     ensures old { IfOk result (λ r. r ≡ find key.now (pairs_of (plain_of state.old.tree))) }
 
     ensures cells { let drawn : Ledger = record {
-          log = cells.log;
-          first = state.new.first;
-          next = ids.new.next;
-          left = map arc_value state.new.left.items;
-        } in
+      log = cells.log;
+      first = state.new.first;
+      next = ids.new.next;
+      left = map arc_value state.new.left.items;
+    } in
         OnOk result (Steps (pieces_of state.old.tree) cells (pieces_of state.new.tree) drawn) }
     ensures fresh { OnOk result (cells.next ≤ state.new.tree.cell.id) }
     ensures stays { OnOk result (AllIn
@@ -429,11 +427,11 @@ fn take_with(
         (pairs_of (plain_of state.old.tree)) (pairs_of (plain_of state.new.tree))
         d.row d.count)) }
     ensures cells { let drawn : Ledger = record {
-          log = cells.log;
-          first = state.new.first;
-          next = ids.new.next;
-          left = map arc_value state.new.left.items;
-        } in
+      log = cells.log;
+      first = state.new.first;
+      next = ids.new.next;
+      left = map arc_value state.new.left.items;
+    } in
         IfOk result (λ o. IfSome o (λ d.
         Steps (pieces_of state.old.tree) cells (pieces_of state.new.tree) drawn)) }
     ensures fresh { IfOk result (λ o. IfSome o (λ d. cells.next ≤ state.new.tree.cell.id)) }

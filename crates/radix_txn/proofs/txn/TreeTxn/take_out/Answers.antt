@@ -1,7 +1,7 @@
 -- The transaction has the tree that is left, and the cells that have left.
 use Rattle.std.proofs.Common.{refl, ◌≡◌, ◌≤◌, ◌∙◌, true, map, sym, ap, subst, IfNone, IfSome, cond}
 use Rattle.std.specs.Arc.{arc_value}
-use Rattle.radix_node.specs.Cells.{AreBelow, AreOf, CellTree, pieces_of, plain_of, root_of}
+use Rattle.radix_node.specs.Cells.{AreBelow, AreOf, pieces_of, plain_of, root_of}
 use Rattle.radix_node.specs.Ids.{Counter}
 use Rattle.radix_node.specs.Nodes.{pairs_of}
 use Rattle.radix_node.specs.Shape.{HasShape}
