@@ -1,13 +1,14 @@
 //! Both deletes are one walk down: to the end of a key, or to the node that a prefix leads to.
 ghost use Rattle.std.specs.Prelude.{◌≡◌, ◌<◌, ◌≤◌, ◌+◌, ◌++◌, ◌^◌, [], List, None, Some, true};
 ghost use Rattle.std.specs.Prelude.{false, IfOk, IfSome, IfNone, OnErr, OnOk, length, take, drop};
-ghost use Rattle.std.specs.Prelude.{option_to_list};
+ghost use Rattle.std.specs.Prelude.{option_to_list, IsNone, IsSome, IsSomeAnd};
 ghost use Rattle.std.specs.List.{slice_get};
 ghost use Rattle.mdb_datum.specs.Bytes.{Bytes};
 ghost use Rattle.radix_node.specs.CellNode.{cell_node, led_node};
 ghost use Rattle.radix_node.specs.Cells.{AreBelow, CellNode, cells_in, pieces_of, plain_of};
 ghost use Rattle.radix_node.specs.Cells.{root_of};
-ghost use Rattle.radix_node.specs.Node.{below, below_prefix, edge_node, nodes_in, plain_node};
+ghost use Rattle.radix_node.specs.Node.{below, below_prefix, edge_node, nodes_in, plain_edge};
+ghost use Rattle.radix_node.specs.Node.{plain_node};
 ghost use Rattle.radix_node.specs.Nodes.{pairs_of};
 ghost use Rattle.radix_node.specs.Shape.{HasShape};
 ghost use Rattle.radix_node.specs.inner.Siblings.{cells_list, nodes_list};
@@ -15,7 +16,7 @@ ghost use Rattle.radix_txn.specs.inner.Below.{IsShapedBelow, settled_node};
 ghost use Rattle.radix_txn.specs.inner.Outside.{AllIn, inner_pieces, outside_node};
 ghost use Rattle.radix_txn.specs.inner.Pieces.{led, whole};
 ghost use Rattle.radix_txn.specs.inner.Removal.{IsAbsent, IsMissing, IsRemoval, IsTaken, IsThere};
-ghost use Rattle.radix_txn.specs.inner.Removal.{LosesPairs};
+ghost use Rattle.radix_txn.specs.inner.Removal.{LosesPairs, covers};
 ghost use Rattle.radix_txn.specs.inner.Remains.{own_leaf, own_nodes, pieces_left, remains_of};
 ghost use Rattle.radix_txn.specs.inner.Remains.{stays_left};
 ghost use Rattle.radix_txn.specs.inner.Steps.{IsOnward, Ledger, Steps};
@@ -122,13 +123,90 @@ fn remove(
         return Ok(None);
     };
     let child = edge.node();
-    let Some(left) = child.strip_prefix(after) else {
-        if !target.covers(child.prefix(), after) {
-            return Ok(None);
+    match child.strip_prefix(after) {
+        None => remove_apart(node, at, edge, after, target, cells),
+        Some(left) => {
+            let below = remove(child, left, target, cells)?;
+            above_all(node, at, edge, below, cells)
         }
-        return Ok(Some(without_child(node, at, edge, cells)?));
-    };
-    match remove(child, left, target, cells)? {
+    }
+}
+
+/// The node without the edge at a place, where the target takes all under it, though the rest of
+/// its key doesn't begin with the prefix there; else none.
+fn remove_apart(
+    node: &Node,
+    at: usize,
+    edge: &Edge,
+    rest: &[u8],
+    target: Target,
+    cells: &mut Cells,
+) -> Result<Option<Removed>, AllocError>
+    requires in_range { let n = plain_node node.now in at < length (nodes_list n.under) }
+    requires there { let n = cell_node node.now in
+        slice_get (cells_list n.under) at ≡ Some (led_node edge.now) }
+    requires few { length (pairs_of (below (edge_node edge.now))) < 2 ^ 64 }
+
+    ensures removed { let n = plain_node node.now in let es = nodes_list n.under in
+        let m = cell_node node.now in let cs = cells_list m.under in
+        let e = plain_edge edge.now in IfOk result (λ o. IfSome o (λ r.
+        (covers target e.node.prefix rest.now ≡ true) × (r.row ≡ None)
+        × (r.count ≡ length (pairs_of (below (edge_node edge.now))))
+        × (remains_of r.remains
+        ≡ record { leaf = n.leaf; nodes = nodes_in (take at es ++ drop (at + 1) es) })
+        × (own_leaf r.remains ≡ m.leaf)
+        × (own_nodes r.remains ≡ cells_in (take at cs ++ drop (at + 1) cs)))) }
+    ensures missing { let e = plain_edge edge.now in
+        IfOk result (λ o. IfNone o (covers target e.node.prefix rest.now ≡ false)) }
+    ensures cells { IfOk result (λ o. IfSome o (λ r. (front : Bytes) → Steps
+        (whole (led front (cell_node node.now))) cells.old (pieces_left r.remains) cells.new)) }
+    ensures still { IfOk result (λ o. IfNone o (cells.new ≡ cells.old)) }
+    ensures drawn { OnOk result (cells.new.next ≡ cells.old.next) }
+    ensures onward { OnOk result (IsOnward cells.old cells.new) }
+    ensures there { let e = plain_edge edge.now in
+        OnErr result (covers target e.node.prefix rest.now ≡ true) }
+{
+    if !target.covers(edge.node().prefix(), rest) {
+        return Ok(None);
+    }
+    Ok(Some(without_child(node, at, edge, cells)?))
+}
+
+/// The node where that at the edge at a place is left with `below`, if it loses anything.
+fn above_all(
+    node: &Node,
+    at: usize,
+    edge: &Edge,
+    below: Option<Removed>,
+    cells: &mut Cells,
+) -> Result<Option<Removed>, AllocError>
+    requires in_range { let n = plain_node node.now in at < length (nodes_list n.under) }
+    requires left { cells.old.next < 2 ^ 63 }
+
+    ensures removed { let n = plain_node node.now in let es = nodes_list n.under in
+        let m = edge_node edge.now in IfOk result (λ o. IfSome o (λ r. IsSomeAnd below (λ b.
+        let left = remains_of b.remains in
+        let child = settled_node m.prefix left.leaf left.nodes in
+        (r.row ≡ b.row) × (r.count ≡ b.count) × (remains_of r.remains ≡ record {
+          leaf = n.leaf;
+          nodes = nodes_in (take at es ++ (option_to_list child ++ drop (at + 1) es));
+        })))) }
+    ensures cells { let n = cell_node node.now in let es = cells_list n.under in
+        IfOk result (λ o. IfSome o (λ r. IsSomeAnd below (λ b.
+        ((front : Bytes) (k : CellNode) (old : Ledger)
+        → slice_get es at ≡ Some k → IsOnward old cells.old
+        → Steps (whole k) old (pieces_left b.remains) cells.old
+        → Steps (whole (led front n)) old (pieces_left r.remains) cells.new)
+        × (own_leaf r.remains ≡ n.leaf) × (ns : List CellNode)
+        × (own_nodes r.remains ≡ cells_in (take at es ++ (ns ++ drop (at + 1) es)))
+        × AllIn (stays_left b.remains) (inner_pieces (cells_in ns))))) }
+    ensures missing { IfOk result (λ o. IfNone o (IsNone below)) }
+    ensures still { IfOk result (λ o. IfNone o (cells.new ≡ cells.old)) }
+    ensures drawn { OnOk result (cells.new.next ≤ cells.old.next + 1) }
+    ensures onward { OnOk result (IsOnward cells.old cells.new) }
+    ensures there { OnErr result (IsSome below) }
+{
+    match below {
         None => Ok(None),
         Some(below) => Ok(Some(above(node, at, edge, below, cells)?)),
     }
