@@ -1,8 +1,11 @@
 //! Databases.
-ghost use Rattle.std.specs.Prelude.{◌≡◌, ◌≤◌, ◌<◌, IfOk, length};
+ghost use Rattle.std.specs.Prelude.{◌≡◌, ◌≤◌, ◌<◌, ◌∷◌, [], IfOk, length};
+ghost use Rattle.std.specs.Arc.{arc_value};
 ghost use Rattle.mdb_schema.specs.History.{History};
 ghost use Rattle.mem_txn.specs.Database.{AreAll, AreOf, HasRead, HasSeen, IsOf, IsWhole, Opening};
 ghost use Rattle.mem_txn.specs.Database.{new_callers, reading_of, view_after};
+ghost use Rattle.mem_txn.specs.inner.Steps.{HasFired};
+ghost use Rattle.mem_txn.specs.inner.Versions.{StandsFor};
 
 use crate::pass::Pass;
 use crate::passes::Passes;
@@ -15,7 +18,7 @@ use radix_node::Ids;
 use std::alloc::{AllocError, Global};
 use std::marker::Model;
 use std::sync::{Arc, Wait};
-use watch_word::open_book;
+use watch_word::{Book, Front, open_book};
 
 /// A database that callers share, seen as a `Database`.
 #[derive(Drop)]
@@ -49,17 +52,8 @@ impl Db {
             (λ made. (opening : Opening) × (made.1 ≡ new_callers made.0 opening callers)) }
     {
         let (book, log) = open_book(alloc)?;
-        let mut ids = Ids::starting(book, 0);
-        let view = View::empty(alloc, schema, &log, &mut ids)?;
-        let schema = view.share_schema()?;
-        let value = Arc::new(alloc, Version::opening(alloc, view, ids))?;
-        let (shared, list) = make_shared(alloc, value, log, callers)?;
-        let db = Db {
-            alloc,
-            schema,
-            shared,
-        };
-        Ok((db, Passes { list }))
+        let value = opening(alloc, schema, book, &log)?;
+        shared_by(alloc, value, log, callers)
     }
 
     /// The schema.
@@ -101,4 +95,48 @@ impl Db {
         drop(schema);
         ReadTxn::of(value)
     }
+}
+
+/// The value before the first commit, whose cells are of the log's book.
+fn opening(
+    alloc: Global,
+    schema: Schema,
+    book: Arc<Book>,
+    log: &Front,
+) -> Result<Arc<Version, Global>, AllocError>
+    requires book { log.now.book ≡ arc_value book }
+    ensures schema { IfOk result (λ value. let v = arc_value value in v.view.schema ≡ schema) }
+    ensures stands { IfOk result
+        (λ value. let v = arc_value value in StandsFor ((0, v) ∷ []) v) }
+    ensures log { IfOk result (λ value. HasFired ((0, arc_value value) ∷ []) log.now) }
+{
+    let mut ids = Ids::starting(book, 0);
+    let view = View::empty(alloc, schema, log, &mut ids)?;
+    Ok(Arc::new(alloc, Version::opening(alloc, view, ids))?)
+}
+
+/// A database that shows the value before the first commit, and a pass for each of its callers.
+fn shared_by(
+    alloc: Global,
+    value: Arc<Version, Global>,
+    log: Front,
+    callers: u32,
+) -> Result<(Db, Passes), AllocError>
+    requires callers { (1 ≤ callers) × (callers ≤ 64) }
+    requires stands { let v = arc_value value in StandsFor ((0, v) ∷ []) v }
+    requires log { HasFired ((0, arc_value value) ∷ []) log }
+    ensures schema { let v = arc_value value in
+        IfOk result (λ made. made.0.schema ≡ v.view.schema) }
+    ensures callers { IfOk result (λ made. made.0.callers ≡ callers) }
+    ensures passes { IfOk result
+        (λ made. (opening : Opening) × (made.1 ≡ new_callers made.0 opening callers)) }
+{
+    let schema = value.view().share_schema()?;
+    let (shared, list) = make_shared(alloc, value, log, callers)?;
+    let db = Db {
+        alloc,
+        schema,
+        shared,
+    };
+    Ok((db, Passes { list }))
 }
