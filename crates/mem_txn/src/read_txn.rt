@@ -9,11 +9,12 @@ ghost use Rattle.table_index.specs.Watched.{is_watchable};
 
 use crate::held::Held;
 use crate::version::Version;
+use crate::view::View;
 use mdb_schema::{Answer, AskError, Query};
 use std::alloc::{AllocError, Global};
 use std::marker::Model;
 use std::sync::Arc;
-use table_index::Watched;
+use table_index::{Spot, Watched};
 
 /// A state that stays as it is, whatever is committed, seen as a `Reading`: the state, and its
 /// trees with their cells.
@@ -84,7 +85,15 @@ impl ReadTxn {
     {
         let view = self.version.view();
         let Watched { answer, spot } = view.ask_watch(query)?;
-        let held = Held::of(view.allocator(), query.share()?, spot, view.number())?;
+        let held = held_of(view, query, spot)?;
         Ok((answer, held))
     }
+}
+
+/// A watch of a question that was looked up so in this state.
+fn held_of(view: &View, query: &Query, spot: Spot) -> Result<Held, AllocError>
+    ensures { let v = view.now in IfOk result
+        (λ h. h ≡ record { query = query.now; spot = spot; number = v.view.number }) }
+{
+    Held::of(view.allocator(), query.share()?, spot, view.number())
 }
