@@ -1,6 +1,7 @@
 //! A write transaction, but for its deferred items.
 ghost use Rattle.std.specs.Prelude.{◌≡◌, ◌≤◌, ◌<◌, ◌+◌, ◌^◌, false, [], IfOk, MatchResult, All};
 ghost use Rattle.std.specs.Prelude.{Some, length, map, slice_get};
+ghost use Rattle.std.specs.Arc.{arc_value};
 ghost use Rattle.mdb_schema.specs.Answer.{ask};
 ghost use Rattle.mdb_schema.specs.LawfulSchema.{IsLawfulTable};
 ghost use Rattle.mdb_schema.specs.Wipe.{wipe, wipe_by_prefix};
@@ -28,10 +29,11 @@ use crate::wipe::{self, Wipe, wipe_in};
 use db_front::Ready;
 use mdb_datum::Row;
 use mdb_schema::{Answer, AskError, Query, TableDef, WriteError};
+use radix_node::Ids;
 use std::alloc::{AllocError, Global};
 use std::marker::Model;
 use std::sync::Arc;
-use table_index::Notices;
+use table_index::{Notices, Table};
 use watch_word::Front;
 
 /// A caller's write transaction, seen as `Changes`: the caller, the writes that were accepted, and
@@ -301,12 +303,32 @@ fn next_version(
     ensures base { IsBase pass.now }
 {
     pass.base_is_known();
-    let schema = pass.share_schema()?;
     let (Frozen { tables, gone }, ids) = tables.freeze()?;
-    let view = View::of(schema, tables, number);
-    let version = Arc::new(db.alloc, Version::of(view, writes, ids))?;
-    let ready = db.shared.ready(version)?;
+    let ready = ready_of(db, pass, tables, writes, ids, number)?;
     Ok(Next { ready, gone })
+}
+
+/// The value after so many commits, of these tables, ready to be shown.
+fn ready_of(
+    db: &Db,
+    pass: &Turn,
+    tables: Vec<Arc<Table, Global>>,
+    writes: Vec<Accepted>,
+    ids: Ids,
+    number: u64,
+) -> Result<Ready<Version>, AllocError>
+    requires schemas { schemas_of (map arc_value tables.items) ≡ pass.now.caller.schema }
+    requires few { number ≤ 2 ^ 63 }
+    ensures { let ts = map arc_value tables.items in IfOk result (λ ready. ready ≡ record {
+      view = record { schema = pass.now.caller.schema; number = number; state = state_of ts };
+      trees = trees_of ts;
+      writes = writes.items;
+      ids = ids;
+    }) }
+{
+    let view = View::of(pass.share_schema()?, tables, number);
+    let version = Arc::new(db.alloc, Version::of(view, writes, ids))?;
+    db.shared.ready(version)
 }
 
 /// Whether a write found no memory, which spoils the transaction.
