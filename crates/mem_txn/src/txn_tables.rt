@@ -178,10 +178,23 @@ fn frozen_tables(alloc: Global, tables: Vec<TxnTable>) -> Result<Frozen, AllocEr
         tables: Vec::with_capacity(alloc, tables.len())?,
         gone: Vec::new(alloc),
     };
-    for table in tables {
-        freeze_onto(&mut frozen, table)?;
-    }
+    freeze_all(&mut frozen, tables)?;
     Ok(frozen)
+}
+
+/// Adds the tables that writes to these end with, and their notices, where there are none yet.
+fn freeze_all(frozen: &mut Frozen, tables: Vec<TxnTable>) -> Result<(), AllocError>
+    requires sound { All IsSound tables.items }
+    requires none { (frozen.old.tables.items ≡ []) × (frozen.old.gone.items ≡ []) }
+    ensures tables { OnOk result
+        (map arc_value frozen.new.tables.items ≡ map standing tables.items) }
+    ensures ends { OnOk result
+        (EndWith tables.items (map arc_value frozen.new.tables.items) frozen.new.gone.items) }
+{
+    for table in tables {
+        freeze_onto(frozen, table)?;
+    }
+    Ok(())
 }
 
 /// Adds the table that writes to one end with, and its notices, if it was open.

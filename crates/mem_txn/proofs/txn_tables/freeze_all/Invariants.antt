@@ -3,7 +3,7 @@ use Rattle.std.specs.Arc.{arc_value}
 use Rattle.std.specs.Vec.Iter.{into_iter_items}
 use Rattle.mem_txn.specs.inner.Ended.{EndWith}
 use Rattle.mem_txn.specs.inner.VersionTables.{standing}
-use Rattle.mem_txn.proofs.txn_tables.frozen_tables.Given as goal
+use Rattle.mem_txn.proofs.txn_tables.freeze_all.Given as goal
 
 abbrev pub invariant-loop-table : goal.invariant-loop-table
 invariant-loop-table l = record {

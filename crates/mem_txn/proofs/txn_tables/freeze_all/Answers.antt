@@ -6,7 +6,7 @@ use Rattle.table_index.specs.Table.{TableChange, TableRows}
 use Rattle.mem_txn.specs.inner.Ended.{EndWith}
 use Rattle.mem_txn.specs.inner.VersionTables.{standing}
 use Rattle.mem_txn.proofs.GoneCells.{end_more}
-use Rattle.mem_txn.proofs.txn_tables.frozen_tables.Goals as goal
+use Rattle.mem_txn.proofs.txn_tables.freeze_all.Goals as goal
 
 pub loop-table-preserved : goal.loop-table-preserved
 loop-table-preserved c =
