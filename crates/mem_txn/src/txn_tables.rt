@@ -209,8 +209,15 @@ fn freeze_onto(frozen: &mut Frozen, table: TxnTable) -> Result<(), AllocError>
     let alloc = *frozen.tables.allocator();
     let (table, notices) = table.freeze(alloc)?;
     frozen.tables.push(table)?;
+    push_notices(&mut frozen.gone, notices)
+}
+
+/// Adds the notices of a table, if it was open.
+fn push_notices(gone: &mut Vec<Notices>, notices: Option<Notices>) -> Result<(), AllocError>
+    ensures { OnOk result (gone.new.items ≡ gone.old.items ++ option_to_list notices) }
+{
     if let Some(notices) = notices {
-        frozen.gone.push(notices)?;
+        gone.push(notices)?;
     }
     Ok(())
 }
