@@ -1,7 +1,8 @@
 -- How a call that begins a transaction is answered, of what its caller has seen and of what it is
 -- answered then.
-use Rattle.std.proofs.Common.{◌≡◌, ◌∙◌, ◌<◌, ◌^◌, ◌++◌, ℕ, append-nil, List, refl, [], ◌∷◌, length, map, Option, Some, IfSome, Result, Ok, Err, IfOk, inl, inr, sym, ap, subst, arith}
+use Rattle.std.proofs.Common.{◌≡◌, ◌∙◌, ◌<◌, ◌^◌, ◌++◌, ℕ, append-nil, List, refl, [], ◌∷◌, length, map, Option, Some, None, IfSome, Result, Ok, Err, IfOk, inl, inr, sym, ap, subst, arith}
 use Rattle.std.specs.Prelude.{All}
+use Rattle.std.specs.Result.{result_transpose}
 use Rattle.std.specs.declared.alloc.AllocError.{AllocError}
 use Rattle.mdb_schema.specs.Schema.{DbSchema}
 use Rattle.mdb_schema.specs.State.{State}
@@ -27,6 +28,12 @@ tables_stand ts schema s (Err e) schemas rows is = tt
 -- what holds of a value that is there
 pub some_has : {A : Type 0} (o : Option A) (a : A) (P : A → Type 0) → o ≡ Some a → IfSome o P → P a
 some_has {A} o a P is holds = subst (λ (x : Option A). IfSome x P) is holds
+
+-- what holds of a value that was told, where the telling may fail and may tell nothing
+pub told_has : {A E : Type 0} (r : Result (Option A) E) (told : Result A E) (P Q : A → Type 0) → ((a : A) → P a → Q a) → result_transpose r ≡ Some told → IfOk r (λ o. IfSome o P) → IfOk told Q
+told_has {A} {E} (Ok (Some a)) told P Q each is holds = subst (λ (x : Option (Result A E)). IfSome x (λ t. IfOk t Q)) is (each a holds)
+told_has {A} {E} (Ok None) told P Q each is holds = subst (λ (x : Option (Result A E)). IfSome x (λ t. IfOk t Q)) is tt
+told_has {A} {E} (Err e) told P Q each is holds = subst (λ (x : Option (Result A E)). IfSome x (λ t. IfOk t Q)) is tt
 
 -- the one try is the last
 pub won_at_last : (p q : Caller) → HasWon p q → HasWonAtLast p q

@@ -32,8 +32,8 @@ impl Db {
         ensures tries { pass.new.tries ≡ pass.old.tries }
     {
         for _ in rt.forever() {
-            if let Some(look) = self.look_once(rt, pass, held)? {
-                return Ok(look);
+            if let Some(told) = self.look_once(rt, pass, held).transpose() {
+                return told;
             }
         }
         unreachable!()
