@@ -166,16 +166,32 @@ fn are_enough(
 
 /// How many rows a walk gives, each counted once. It takes memory for their `id` keys, and time in
 /// the square of their number.
-fn count_once(alloc: Global, def: &TableDef, mut listed: Walk) -> Result<usize, WipeError>
+fn count_once(alloc: Global, def: &TableDef, listed: Walk) -> Result<usize, WipeError>
     requires { (r : Fields) → Contains listed r → IsStored def.now r }
     ensures { MatchResult result
         (λ count. count ≡ length (once def.now listed)) (λ e. e ≡ Memory) }
 {
-    let mut seen: Vec<IdKey> = Vec::new(alloc);
-    'rows: while let Some(row) = listed.next()? {
-        count_row(alloc, def, &row, &mut seen)?;
-    }
+    let mut seen = Vec::new(alloc);
+    count_each(alloc, def, listed, &mut seen)?;
     Ok(seen.len())
+}
+
+/// Adds the `id` keys of the rows that a walk gives to an empty list, each once.
+fn count_each(
+    alloc: Global,
+    def: &TableDef,
+    mut listed: Walk,
+    seen: &mut Vec<IdKey>,
+) -> Result<(), WipeError>
+    requires stored { (r : Fields) → Contains listed r → IsStored def.now r }
+    requires none { seen.old.items ≡ [] }
+    ensures { MatchResult result
+        (λ _. length seen.new.items ≡ length (once def.now listed)) (λ e. e ≡ Memory) }
+{
+    'rows: while let Some(row) = listed.next()? {
+        count_row(alloc, def, &row, seen)?;
+    }
+    Ok(())
 }
 
 /// Adds the `id` key of a row that stands in the table to keys, if it isn't there yet.

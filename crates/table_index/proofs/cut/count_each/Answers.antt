@@ -1,10 +1,10 @@
-use Rattle.std.proofs.Common.{◌≡◌, ◌∙◌, None, Some, length, sym, rules}
+use Rattle.std.proofs.Common.{◌≡◌, ◌∙◌, None, Some, sym}
 use Rattle.mdb_datum.specs.Pairs.{first_item}
 use Rattle.table_index.proofs.RowCounts.{counts_first, counted_stored, counted_all, seen_next}
-use Rattle.table_index.proofs.cut.count_once.Goals as goal
+use Rattle.table_index.proofs.cut.count_each.Goals as goal
 
 pub rows-init : goal.rows-init
-rows-init c = counts_first c.args.def.now c.args.listed c.new-seen.result.items c.new-seen.ensures.items c.requires
+rows-init c = counts_first c.args.def.now c.args.listed c.args.seen.now.items c.requires.none c.requires.stored
 
 pub count_row-requires : goal.count_row-requires
 count_row-requires c =
@@ -20,5 +20,4 @@ rows-preserved c =
 pub returns : goal.returns
 returns c =
     let none : first_item c.rows.listed ≡ None = sym c.in_ok-row.ensures.next ∙ c.in_default.is in
-    let count : c.len.result ≡ length c.rows.seen.items = search rules in
-    count ∙ counted_all c.args.def.now c.args.listed c.rows.listed c.rows.seen.items none c.rows.invariant
+    counted_all c.args.def.now c.args.listed c.rows.listed c.rows.seen.items none c.rows.invariant

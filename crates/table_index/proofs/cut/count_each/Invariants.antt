@@ -1,6 +1,6 @@
 use Rattle.std.proofs.Common.{length}
 use Rattle.table_index.proofs.RowCounts.{Counts}
-use Rattle.table_index.proofs.cut.count_once.Given as goal
+use Rattle.table_index.proofs.cut.count_each.Given as goal
 
 abbrev pub invariant-rows : goal.invariant-rows
 invariant-rows l = Counts l.def l.initial.listed l.listed l.seen.items
