@@ -1,6 +1,7 @@
 //! The answer of one tree to a question.
-ghost use Rattle.std.specs.Prelude.{◌≡◌, IfOk, option_copied};
-ghost use Rattle.mdb_datum.specs.Pairs.{first_item, last_item};
+ghost use Rattle.std.specs.Prelude.{◌≡◌, IfOk, option_copied, reverse};
+ghost use Rattle.mdb_datum.specs.Pairs.{at_least, at_most, first_item, last_item};
+ghost use Rattle.mdb_datum.specs.Pairs.{rows_of, with_prefix};
 ghost use Rattle.mdb_schema.specs.Answer.{answer, picked};
 ghost use Rattle.radix_node.specs.Cells.{plain_of};
 ghost use Rattle.radix_node.specs.Nodes.{pairs_of};
@@ -25,10 +26,10 @@ pub(crate) fn answer(
     match ask {
         Ask::First => one(first_row(tree, exact, key)),
         Ask::Last => one(last_row(tree, exact, key)),
-        Ask::Get => many(alloc, ascend(alloc, tree, key)?),
-        Ask::GetReverse => many(alloc, descend(alloc, tree, key)?),
-        Ask::Lower => many(alloc, from_key(alloc, tree, key)?),
-        Ask::ReverseLower => many(alloc, down_from(alloc, tree, key)?),
+        Ask::Get => rising(alloc, tree, key),
+        Ask::GetReverse => falling(alloc, tree, key),
+        Ask::Lower => rising_from(alloc, tree, key),
+        Ask::ReverseLower => falling_from(alloc, tree, key),
         Ask::Longest => one(tree.longest(key)),
     }
 }
@@ -65,6 +66,38 @@ fn one(row: Option<&Row>) -> Result<Answer, AllocError>
         Some(row) => Ok(Answer::One(Some(row.share()?))),
         None => Ok(Answer::One(None)),
     }
+}
+
+/// An answer of the rows whose keys begin with a key, in the order of the keys.
+fn rising(alloc: Global, tree: &Tree, key: &[u8]) -> Result<Answer, AllocError>
+    ensures { IfOk result (λ a. a
+        ≡ Answer.Many (rows_of (with_prefix key.now (pairs_of (plain_of tree.now))))) }
+{
+    many(alloc, ascend(alloc, tree, key)?)
+}
+
+/// An answer of the rows whose keys begin with a key, against the order of the keys.
+fn falling(alloc: Global, tree: &Tree, key: &[u8]) -> Result<Answer, AllocError>
+    ensures { IfOk result (λ a. a
+        ≡ Answer.Many (reverse (rows_of (with_prefix key.now (pairs_of (plain_of tree.now)))))) }
+{
+    many(alloc, descend(alloc, tree, key)?)
+}
+
+/// An answer of the rows of keys that are at least a key, in the order of the keys.
+fn rising_from(alloc: Global, tree: &Tree, key: &[u8]) -> Result<Answer, AllocError>
+    ensures { IfOk result (λ a. a
+        ≡ Answer.Many (rows_of (at_least key.now (pairs_of (plain_of tree.now))))) }
+{
+    many(alloc, from_key(alloc, tree, key)?)
+}
+
+/// An answer of the rows of keys that are at most a key, against the order of the keys.
+fn falling_from(alloc: Global, tree: &Tree, key: &[u8]) -> Result<Answer, AllocError>
+    ensures { IfOk result (λ a. a
+        ≡ Answer.Many (reverse (rows_of (at_most key.now (pairs_of (plain_of tree.now)))))) }
+{
+    many(alloc, down_from(alloc, tree, key)?)
 }
 
 /// An answer of the rows of a walk.
