@@ -93,10 +93,27 @@ pub(crate) fn frozen(alloc: Global, txns: Vec<TreeTxn>) -> Result<(Vec<Tree>, No
 {
     let mut trees = Vec::with_capacity(alloc, txns.len())?;
     let mut list = Vec::with_capacity(alloc, txns.len())?;
-    for txn in txns {
-        freeze_into(txn, &mut trees, &mut list)?;
-    }
+    freeze_each(txns, &mut trees, &mut list)?;
     Ok((trees, Notices { list }))
+}
+
+/// Adds the trees that transactions end with, and their notices, to two empty lists.
+fn freeze_each(
+    txns: Vec<TreeTxn>,
+    trees: &mut Vec<Tree>,
+    notices: &mut Vec<Notice>,
+) -> Result<(), AllocError>
+    requires sound { AreSound txns.items }
+    requires no_trees { trees.old.items ≡ [] }
+    requires no_notices { notices.old.items ≡ [] }
+    ensures trees { OnOk result (trees.new.items ≡ trees_of txns.items) }
+    ensures frozen { OnOk result
+        (AreFrozen notices.new.items (starts_of txns.items) (trees_of txns.items)) }
+{
+    for txn in txns {
+        freeze_into(txn, trees, notices)?;
+    }
+    Ok(())
 }
 
 /// Adds the tree that a transaction ends with to trees, and its notice to notices.

@@ -6,7 +6,7 @@ use Rattle.radix_txn.specs.Txn.{Txn}
 use Rattle.table_index.specs.Frozen.{AreFrozen}
 use Rattle.table_index.specs.inner.Held.{starts_of, trees_of}
 use Rattle.table_index.proofs.FrozenLists.{frozen_more}
-use Rattle.table_index.proofs.trees.frozen.Goals as goal
+use Rattle.table_index.proofs.trees.freeze_each.Goals as goal
 
 pub loop-txn-preserved : goal.loop-txn-preserved
 loop-txn-preserved c =
@@ -20,7 +20,7 @@ loop-txn-preserved c =
           c.in_ok-freeze_into.ensures.tree ∙ ap (λ (ts : List CellTree). ts ++ x.tree ∷ []) c.loop-txn.invariant.trees ∙ trees;
       frozen =
           subst (λ (ns : List (List Cell)). AreFrozen ns (starts_of (done ++ x ∷ [])) (trees_of (done ++ x ∷ []))) (sym added.2)
-          (subst (λ (ss : List CellTree). AreFrozen (c.loop-txn.list.items ++ added.0 ∷ []) ss (trees_of (done ++ x ∷ []))) start
-          (subst (λ (ts : List CellTree). AreFrozen (c.loop-txn.list.items ++ added.0 ∷ []) (starts_of done ++ x.start ∷ []) ts) trees
-          (frozen_more c.loop-txn.list.items (starts_of done) (trees_of done) added.0 x.start x.tree c.loop-txn.invariant.frozen added.1)));
+          (subst (λ (ss : List CellTree). AreFrozen (c.loop-txn.notices.items ++ added.0 ∷ []) ss (trees_of (done ++ x ∷ []))) start
+          (subst (λ (ts : List CellTree). AreFrozen (c.loop-txn.notices.items ++ added.0 ∷ []) (starts_of done ++ x.start ∷ []) ts) trees
+          (frozen_more c.loop-txn.notices.items (starts_of done) (trees_of done) added.0 x.start x.tree c.loop-txn.invariant.frozen added.1)));
     }
