@@ -14,7 +14,7 @@ use crate::lookup::{Target, lookup};
 use crate::row_keys::told_place;
 use crate::table::Table;
 use crate::watched::{Spot, Watched};
-use mdb_schema::{Ask, AskError, Query, TableDef};
+use mdb_schema::{Answer, Ask, AskError, Query, TableDef};
 use radix_node::Tree;
 use std::alloc::{AllocError, Global};
 use std::sync::Arc;
@@ -107,6 +107,21 @@ fn watched_at(
     ensures spot { IfOk result (λ w. IsSpotIn at.entry query.now tree.now w.spot) }
 {
     let answer = answer_at(alloc, tree, &at, query)?;
+    Ok(watched_with(def, tree, at, query, answer)?)
+}
+
+/// An answer with the spot that watches it.
+fn watched_with(
+    def: &TableDef,
+    tree: &Tree,
+    at: Target<'_>,
+    query: &Query,
+    answer: Answer,
+) -> Result<Watched, AllocError>
+    requires { at.place < length def.now.indexes }
+    ensures answer { IfOk result (λ w. w.answer ≡ answer) }
+    ensures spot { IfOk result (λ w. IsSpotIn at.entry query.now tree.now w.spot) }
+{
     let spot = spot_at(def, tree, at, query)?;
     Ok(Watched { answer, spot })
 }
