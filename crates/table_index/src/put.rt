@@ -1,17 +1,18 @@
 //! The put of a row.
-ghost use Rattle.std.specs.Prelude.{◌≡◌, ◌⊎◌, ◌+◌, ◌≤◌, ◌^◌, false, IfErr, Ok, MatchResult, OnOk};
-ghost use Rattle.std.specs.Prelude.{is_some};
+ghost use Rattle.std.specs.Prelude.{◌≡◌, ◌⊎◌, ◌+◌, ◌*◌, ◌≤◌, ◌^◌, false, Ok, length, map};
+ghost use Rattle.std.specs.Prelude.{IfErr, IfOk, MatchResult, OnOk, is_some};
 ghost use Rattle.mdb_schema.specs.State.{row_at};
 ghost use Rattle.mdb_schema.specs.Write.{id_of, put_row};
 ghost use Rattle.mdb_schema.specs.declared.write_error.WriteError.TheVariants.{Memory};
+ghost use Rattle.radix_txn.specs.Txn.{txn_pairs};
 ghost use Rattle.table_index.specs.Table.{AnswersPut, AreAllBelow, AreAllOf, AreDrawn, AreLeft};
 ghost use Rattle.table_index.specs.Written.{Writes, rows_put};
 ghost use Rattle.table_index.specs.inner.Drawn.{AreReady, HaveDrawn};
 ghost use Rattle.table_index.specs.inner.Held.{AreSound, AreTrees, nodes_of, rows_held};
 ghost use Rattle.table_index.specs.inner.Keys.{Tells};
 ghost use Rattle.table_index.specs.inner.PutKeys.{IsAccepted, keys_of_each};
-ghost use Rattle.table_index.specs.inner.TreeEdits.{IsPut, IsRefused};
-ghost use Rattle.table_index.specs.inner.Writes.{WroteRows};
+ghost use Rattle.table_index.specs.inner.TreeEdits.{IsPut, IsRefused, replaced_each};
+ghost use Rattle.table_index.specs.inner.Writes.{IsAt, TreesWrote, WroteRows};
 
 use crate::free_keys::first_taken;
 use crate::full_key::RowKeys;
@@ -26,7 +27,7 @@ use mdb_datum::Row;
 use mdb_schema::{TableDef, WriteError};
 use radix_node::Ids;
 use radix_txn::TreeTxn;
-use std::alloc::Global;
+use std::alloc::{AllocError, Global};
 use watch_word::Front;
 
 impl TableTxn {
@@ -107,6 +108,30 @@ fn write_row(
     let count = def.len();
     prove!(0 < count);
     let keys = keys_to_write(alloc, def, txns, ids, row)?;
+    Ok(put_by_keys(txns, front, ids, keys, row)?)
+}
+
+/// Puts a row into the trees by its full keys; true where it replaces one.
+fn put_by_keys(
+    txns: &mut [TreeTxn],
+    front: &Front,
+    ids: &mut Ids,
+    keys: PutKeys,
+    row: &Row,
+) -> Result<bool, AllocError>
+    requires ready { AreReady front.now ids.old txns.old }
+    requires left { ids.old.next + 2 ^ 21 * length txns.old ≤ 2 ^ 63 }
+    requires all_keys { length keys.new ≡ length txns.old }
+    requires all_old { length keys.old.keys ≡ length txns.old }
+    ensures there { IfOk result (λ replaced. replaced ≡ keys.old.there) }
+    ensures pairs { OnOk result (map txn_pairs txns.new
+        ≡ replaced_each row.now keys.new keys.old.keys (map txn_pairs txns.old)) }
+    ensures sound { OnOk result (AreSound txns.new) }
+    ensures drawn { HaveDrawn front.now (2 ^ 21 * length txns.old)
+        ids.old ids.new txns.old txns.new }
+    ensures written { OnOk result (TreesWrote
+        (λ place k. IsAt keys.new place k ⊎ IsAt keys.old.keys place k) txns.old txns.new) }
+{
     let PutKeys { new, old } = keys;
     replace_each(txns, front, ids, new.lists(), old.keys.lists(), row)?;
     Ok(old.there)
