@@ -1,10 +1,12 @@
 //! The keys of a row in the indexes of a table, with the refusals that come of them.
 ghost use Rattle.std.specs.Prelude.{◌≡◌, ◌<◌, ◌≤◌, ◌∷◌, [], All, IfOk, Ok, Some, codes, length};
+ghost use Rattle.std.specs.Prelude.{slice_get};
 ghost use Rattle.mdb_datum.specs.Pairs.{first_item};
+ghost use Rattle.mdb_datum.specs.Row.{Fields};
 ghost use Rattle.mdb_encode.specs.Keys.{keys};
 ghost use Rattle.mdb_schema.specs.Schema.{index_place};
 ghost use Rattle.mdb_schema.specs.Tests.{each, needed};
-ghost use Rattle.mdb_schema.specs.Write.{id_of, indexes_of, keys_at, no_id};
+ghost use Rattle.mdb_schema.specs.Write.{Placed, id_of, indexes_of, keys_at, no_id};
 ghost use Rattle.table_index.specs.inner.Keys.{Answers, IsShort, full_keys_at, told_at};
 
 use crate::full_key::{FullKeys, RowKeys};
@@ -103,11 +105,63 @@ fn full_keys_in(
     if index.name().as_str() == "id" {
         return Ok(FullKeys::of_id(alloc, id)?);
     }
-    let found = keys_in(alloc, place, index, row)?;
+    full_keys_made(alloc, place, index, id, row)
+}
+
+/// The full keys of a row in the index at a place, made of its keys there.
+fn full_keys_made(
+    alloc: Global,
+    place: u32,
+    index: &IndexDef,
+    id: &IdKey,
+    row: &Row,
+) -> Result<FullKeys, WriteError>
+    ensures { Answers (full_keys_at id.now row.now (place, index.now)) result }
+{
+    match keys_in(alloc, place, index, row) {
+        Ok(found) => full_keys_by(alloc, place, index, id, &found),
+        Err(error) => Err(error),
+    }
+}
+
+/// The full keys of a row that has these keys in the index at a place.
+fn full_keys_by(
+    alloc: Global,
+    place: u32,
+    index: &IndexDef,
+    id: &IdKey,
+    found: &Keys,
+) -> Result<FullKeys, WriteError>
+    requires short { All IsShort found.now }
+    requires few { length found.now ≤ 256 }
+    ensures { (row : Fields) → keys_at place (keys index.now.indexer row) ≡ Ok found.now
+        → Answers (full_keys_at id.now row (place, index.now)) result }
+{
     if !index.allow_missing() && found.len() == 0 {
         return Err(WriteError::Missing { index: place });
     }
-    Ok(FullKeys::of(alloc, index, id, &found)?)
+    Ok(FullKeys::of(alloc, index, id, found)?)
+}
+
+/// The full keys of a row of an `id` key in the index at a place, if it takes the row.
+fn full_keys_at(
+    alloc: Global,
+    def: &TableDef,
+    at: usize,
+    id: &IdKey,
+    row: &Row,
+) -> Result<FullKeys, WriteError>
+    requires known { id_of def.now row.now ≡ Ok id.now }
+    requires within { at < length def.now.indexes }
+    ensures { (index : Placed) × (Some index ≡ slice_get (indexes_of def.now) at)
+        × Answers (full_keys_at id.now row.now index) result }
+{
+    // The definition is lawful by its type.
+    let _ = def.len();
+    let Some(index) = def.index(at) else {
+        unreachable!();
+    };
+    full_keys_in(alloc, told_place(def, at), index, id, row)
 }
 
 /// The full keys of a row of an `id` key in each index, if each takes the row. It takes memory for
@@ -123,10 +177,7 @@ pub(crate) fn full_keys_of(
 {
     let mut found = Vec::with_capacity(alloc, def.len())?;
     for at in 0..def.len() {
-        let Some(index) = def.index(at) else {
-            unreachable!();
-        };
-        match full_keys_in(alloc, told_place(def, at), index, id, row) {
+        match full_keys_at(alloc, def, at, id, row) {
             Ok(keys) => found.push(keys)?,
             Err(error) => return Err(error),
         }
