@@ -21,7 +21,7 @@ use Rattle.client_session.proofs.FromTheStart.{HasToldAll, told_from_new}
 use Rattle.client_session.specs.Progress.{Progress}
 use Rattle.memdb.specs.inner.LastState.{IsLast}
 use Rattle.memdb.specs.inner.MadeHistory.{TellOwn}
-use Rattle.memdb.specs.inner.Sessions.{AreLater, AreReady, HaveAnswered, begun, callers_back, headed}
+use Rattle.memdb.specs.inner.Sessions.{AreLater, AreOpened, AreReady, HaveAnswered, begun, callers_back, headed}
 use Rattle.memdb.proofs.PlacesByCaller.{AreAmong, all_counted, by_callers, places, places_are}
 
 -- ---- the passes of a new database
@@ -214,92 +214,93 @@ among n (c ∷ H) named = (omega (arith, named.0), omega (arith, named.1), among
 
 -- ---- the call's steps
 
--- the sessions of a new database
-module _ (db : Database) (opening : Opening) (scripts : List (List Line)) (passes : Callers) (new : passes ≡ new_callers db opening (length scripts)) where
-  pub as_many_passes : length passes.passes ≡ length scripts
-  as_many_passes = ap (λ (c : Callers). length c.passes) new ∙ new_length db opening (length scripts)
+-- there is one for each script
+pub as_many_passes : (db : Database) (opening : Opening) (count : ℕ) (all : Callers) → all ≡ new_callers db opening count → length all.passes ≡ count
+as_many_passes db opening count all are = ap (λ (c : Callers). length c.passes) are ∙ new_length db opening count
 
-  module _ (items : List Progress) (are : items ≡ begun passes.passes scripts) where
-    items_are : items ≡ begun_from db opening 1 scripts
-    items_are = are ∙ ap (λ (c : Callers). begun c.passes scripts) new ∙ ap (λ (ps : List Caller). begun ps scripts) (from_first db opening (length scripts))
+-- the sessions of these scripts on a new database
+module _ (db : Database) (scripts : List (List Line)) (left : Callers) (items : List Progress) (opened : AreOpened db scripts left items) where
+  items_are : items ≡ begun_from db opened.opening 1 scripts
+  items_are = opened.sessions ∙ ap (λ (c : Callers). begun c.passes scripts) opened.are_all ∙ ap (λ (ps : List Caller). begun ps scripts) (from_first db opened.opening (length scripts))
 
-    pub all_ready : AreReady db items
-    all_ready = subst (AreReady db) (sym items_are) (ready_from db opening 1 scripts)
+  pub all_ready : AreReady db items
+  all_ready = subst (AreReady db) (sym items_are) (ready_from db opened.opening 1 scripts)
 
-    pub as_many : length items ≡ length scripts
-    as_many = ap length items_are ∙ long_from db opening 1 scripts
+  pub as_many : length items ≡ length scripts
+  as_many = ap length items_are ∙ long_from db opened.opening 1 scripts
 
-    -- behind their run, and without a pass in the list
-    module _ (ts : List Progress) (later : AreLater items ts) (rest : Callers) (none : rest ≡ record passes { passes = [] }) where
-      later_from : AreLater (begun_from db opening 1 scripts) ts
-      later_from = subst (λ (ss : List Progress). AreLater ss ts) items_are later
+  -- behind their run
+  module _ (ts : List Progress) (later : AreLater items ts) where
+    later_from : AreLater (begun_from db opened.opening 1 scripts) ts
+    later_from = subst (λ (ss : List Progress). AreLater ss ts) items_are later
 
-      pub as_many_after : length ts ≡ length scripts
-      as_many_after = later_long items ts later ∙ as_many
+    as_many_after : length ts ≡ length scripts
+    as_many_after = later_long items ts later ∙ as_many
 
-      pub all_of : AreOf db (callers_back ts)
-      all_of = back_of db items ts all_ready later
+    pub all_of : AreOf db (callers_back ts)
+    all_of = back_of db items ts all_ready later
 
-      pub room_back : length rest.passes + length ts ≤ rest.made
-      room_back =
-          let empty : length rest.passes ≡ 0 = ap (λ (c : Callers). length c.passes) none in
-          let made : rest.made ≡ length scripts = ap (λ (c : Callers). c.made) none ∙ ap (λ (c : Callers). c.made) new in
-          omega (arith, empty, made, as_many_after)
+    pub room_back : length left.passes + length ts ≤ left.made
+    room_back =
+        let empty : length left.passes ≡ 0 = ap (λ (c : Callers). length c.passes) opened.none_left in
+        let made : left.made ≡ length scripts = ap (λ (c : Callers). c.made) opened.none_left ∙ ap (λ (c : Callers). c.made) opened.are_all in
+        omega (arith, empty, made, as_many_after)
 
-      -- and with all passes again
-      module _ (given : Callers) (back : given ≡ record rest { passes = rest.passes ++ callers_back ts }) where
-        given_are : given.passes ≡ callers_back ts
-        given_are = ap (λ (c : Callers). c.passes) back ∙ ap (λ (c : Callers). c.passes ++ callers_back ts) none
+    -- with all passes again
+    module _ (given : Callers) (back : given ≡ record left { passes = left.passes ++ callers_back ts }) where
+      pub given_are : given.passes ≡ callers_back ts
+      given_are = ap (λ (c : Callers). c.passes) back ∙ ap (λ (c : Callers). c.passes ++ callers_back ts) opened.none_left
 
-        pub some_given : 1 ≤ length scripts → 0 < length given.passes
-        some_given some =
-            let long : length given.passes ≡ length (callers_back ts) = ap length given_are in
-            let many = back_long ts in
-            omega (arith, long, many, some, as_many_after)
+      pub some_given : 1 ≤ length scripts → 0 < length given.passes
+      some_given some =
+          let long : length given.passes ≡ length (callers_back ts) = ap length given_are in
+          let many = back_long ts in
+          omega (arith, long, many, some, as_many_after)
 
-        pub given_of : AreOf db given.passes
-        given_of = subst (AreOf db) (sym given_are) all_of
+      pub given_of : AreOf db given.passes
+      given_of = subst (AreOf db) (sym given_are) all_of
 
-        pub given_all : db.callers ≡ length scripts → AreAll db.callers given.passes
-        given_all is = subst (AreAll db.callers) (sym given_are) (λ c low high. has_back db opening 1 scripts ts later_from c (omega (arith, low)) (omega (arith, high, is)))
+      pub given_all : AreAll db.callers given.passes
+      given_all = subst (AreAll db.callers) (sym given_are) (λ c low high. has_back db opened.opening 1 scripts ts later_from c (omega (arith, low)) (omega (arith, high, opened.callers)))
 
-        legal : (names : List Bytes) (H : History) (out : Bytes) → length names ≡ length scripts → db.callers ≡ length scripts → IsWhole db given.passes H → HaveAnswered items ts → out ≡ headed 1 names ts
-            → Legal db.schema names scripts out
-        legal names H out named callers_are whole answered is =
-            let own : AreIn H (callers_back ts) = subst (AreIn H) given_are whole.own in
-            let told = tell db opening H 1 scripts ts (subst (λ (ss : List Progress). HaveAnswered ss ts) items_are answered) later_from (have_made H ts own) in
-            let within : AreAmong caller_of 1 (length scripts) H = among (length scripts) H (subst (λ (n : ℕ). AreNamed n H) callers_are whole.named) in
-            record {
-              replies = told.replies;
-              named = named;
-              written = is ∙ told.written names;
-              history = H;
-              numbers = subst (IsPermutation (enumerate_from 1 (callers H))) (sym told.numbers) (all_counted caller_of 1 (length scripts) 1 H within);
-              sessions = told.sessions;
-            }
+    -- the whole history
+    module _ (H : History) (whole : IsWhole db (callers_back ts) H) where
+      told_by : HaveAnswered items ts → Told db.schema H 1 scripts ts
+      told_by answered = tell db opened.opening H 1 scripts ts (subst (λ (ss : List Progress). HaveAnswered ss ts) items_are answered) later_from (have_made H ts whole.own)
 
-        last : (H : History) (view : View) → db.callers ≡ length scripts → IsWhole db given.passes H → HaveAnswered items ts → view ≡ view_after db.schema H → IsLast db.schema scripts view
-        last H view callers_are whole answered is =
-            let own : AreIn H (callers_back ts) = subst (AreIn H) given_are whole.own in
-            let told = tell db opening H 1 scripts ts (subst (λ (ss : List Progress). HaveAnswered ss ts) items_are answered) later_from (have_made H ts own) in
-            record {
-              history = H;
-              named = subst (λ (n : ℕ). AreNamed n H) callers_are whole.named;
-              replies = told.replies;
-              sessions = told.sessions;
-              own = told.own;
-              view = is;
-            }
+      legal : (names : List Bytes) (out : Bytes) → length names ≡ length scripts → HaveAnswered items ts → out ≡ headed 1 names ts → Legal db.schema names scripts out
+      legal names out named answered is =
+          let told = told_by answered in
+          let within : AreAmong caller_of 1 (length scripts) H = among (length scripts) H (subst (λ (n : ℕ). AreNamed n H) opened.callers whole.named) in
+          record {
+            replies = told.replies;
+            named = named;
+            written = is ∙ told.written names;
+            history = H;
+            numbers = subst (IsPermutation (enumerate_from 1 (callers H))) (sym told.numbers) (all_counted caller_of 1 (length scripts) 1 H within);
+            sessions = told.sessions;
+          }
 
-        pub all_last : {A E : Type 0} (r : Result A E) (view : View) (H : History) → db.callers ≡ length scripts → IsWhole db given.passes H → OnOk r (HaveAnswered items ts) → view ≡ view_after db.schema H
-            → OnOk r (IsLast db.schema scripts view)
-        all_last (Ok a) view H callers_are whole answered is = last H view callers_are whole answered is
-        all_last (Err e) view H callers_are whole answered is = tt
+      last : (view : View) → HaveAnswered items ts → view ≡ view_after db.schema H → IsLast db.schema scripts view
+      last view answered is =
+          let told = told_by answered in
+          record {
+            history = H;
+            named = subst (λ (n : ℕ). AreNamed n H) opened.callers whole.named;
+            replies = told.replies;
+            sessions = told.sessions;
+            own = told.own;
+            view = is;
+          }
 
-        pub all_legal : {A E : Type 0} (text_of : A → Bytes) (r : Result A E) (names : List Bytes) (H : History) → length names ≡ length scripts → db.callers ≡ length scripts → IsWhole db given.passes H
-            → IfOk r (λ _. HaveAnswered items ts) → IfOk r (λ out. text_of out ≡ headed 1 names ts) → IfOk r (λ out. Legal db.schema names scripts (text_of out))
-        all_legal text_of (Ok out) names H named callers_are whole answered is = legal names H (text_of out) named callers_are whole answered is
-        all_legal text_of (Err e) names H named callers_are whole answered is = tt
+      pub all_last : {A E : Type 0} (r : Result A E) (view : View) → OnOk r (HaveAnswered items ts) → view ≡ view_after db.schema H → OnOk r (IsLast db.schema scripts view)
+      all_last (Ok a) view answered is = last view answered is
+      all_last (Err e) view answered is = tt
+
+      pub all_legal : {A E : Type 0} (text_of : A → Bytes) (r : Result A E) (names : List Bytes) → length names ≡ length scripts → IfOk r (λ _. HaveAnswered items ts) → IfOk r (λ out. text_of out ≡ headed 1 names ts)
+          → IfOk r (λ out. Legal db.schema names scripts (text_of out))
+      all_legal text_of (Ok out) names named answered is = legal names (text_of out) named answered is
+      all_legal text_of (Err e) names named answered is = tt
 
 -- a vector whose list was lent as a whole, and is as long as it was
 pub lent_again : {X : Type 0} (items present : List X) (n : ℕ) → length present ≡ length items → n ≡ length items → take n (present ++ drop (length present) items) ≡ present

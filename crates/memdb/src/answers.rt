@@ -1,25 +1,22 @@
 //! What clients are answered: the text of their sessions on one database.
-ghost use Rattle.std.specs.Prelude.{◌≡◌, ◌++◌, ◌≤◌, [], IfOk, OnOk, length, vec_capacity};
+ghost use Rattle.std.specs.Prelude.{◌≡◌, ◌++◌, ◌≤◌, IfOk, OnOk, length};
 ghost use Rattle.client_script.specs.Legal.{Legal};
 ghost use Rattle.client_script.specs.Reply.{heading};
-ghost use Rattle.mem_txn.specs.Database.{Opening, new_callers};
 ghost use Rattle.memdb.specs.inner.Sessions.{AreLater, AreReady, HaveAnswered, headed};
 
+use crate::clients::Clients;
 use crate::output::{end_line, write_number};
-use crate::sessions::{begin_all, end_all, run_all};
 use client_script::Scripts;
 use client_session::Session;
 use mdb_datum::Text;
 use mdb_ports::Gate;
 use mdb_schema::Schema;
-use mem_txn::{Db, Passes};
 use std::alloc::{AllocError, Global};
 use std::sync::Wait;
 use std::thread::Threads;
 
 /// The whole output for clients whose files have these names: for each in order its heading, and
-/// the answers to its script. Each session runs on a thread of its own. The room for the sessions
-/// is made before the database, since neither a session nor a pass can be dropped.
+/// the answers to its script. Each session runs on a thread of its own, on a new database.
 pub fn answers<R: Threads + Wait + Sync, G: Gate + Sync>(
     rt: &R,
     alloc: Global,
@@ -33,80 +30,32 @@ pub fn answers<R: Threads + Wait + Sync, G: Gate + Sync>(
     requires few { length names.now ≤ 64 }
     ensures { IfOk result (λ out. Legal schema names.now scripts out.items) }
 {
-    let room = Vec::with_capacity(alloc, scripts.len())?;
-    answers_in(rt, alloc, gate, names, schema, scripts, room)
-}
-
-/// The same, with room for the sessions.
-fn answers_in<R: Threads + Wait + Sync, G: Gate + Sync>(
-    rt: &R,
-    alloc: Global,
-    gate: &G,
-    names: &[Text],
-    schema: Schema,
-    scripts: Scripts,
-    room: Vec<Session>,
-) -> Result<Vec<u8>, AllocError>
-    requires named { length names.now ≡ length scripts }
-    requires some { 1 ≤ length names.now }
-    requires few { length names.now ≤ 64 }
-    requires empty { room.items ≡ [] }
-    requires room { length scripts ≤ vec_capacity room }
-    ensures { IfOk result (λ out. Legal schema names.now scripts out.items) }
-{
-    match Db::create(alloc, schema, scripts.len() as u32) {
-        Ok((db, passes)) => answers_on(rt, alloc, gate, names, db, passes, scripts, room),
-        Err(error) => {
-            room.destroy_empty();
-            Err(error)
-        }
-    }
-}
-
-/// The same on a new database, of which these are all passes.
-fn answers_on<R: Threads + Wait + Sync, G: Gate + Sync>(
-    rt: &R,
-    alloc: Global,
-    gate: &G,
-    names: &[Text],
-    db: Db,
-    passes: Passes,
-    scripts: Scripts,
-    room: Vec<Session>,
-) -> Result<Vec<u8>, AllocError>
-    requires named { length names.now ≡ length scripts }
-    requires some { 1 ≤ length names.now }
-    requires callers { db.callers ≡ length scripts }
-    requires passes { (opening : Opening) × (passes ≡ new_callers db opening (length scripts)) }
-    requires empty { room.items ≡ [] }
-    requires room { length scripts ≤ vec_capacity room }
-    ensures { IfOk result (λ out. Legal db.schema names.now scripts out.items) }
-{
-    let mut passes = passes;
-    let mut sessions = begin_all(alloc, &mut passes, scripts, room);
-    let out = session_answers(rt, alloc, gate, names, &db, sessions.as_mut_slice());
-    end_all(&db, sessions, &mut passes);
-    drop(db.close(rt, passes));
+    let mut clients = Clients::open(alloc, schema, scripts)?;
+    let out = answers_of(rt, alloc, gate, names, &mut clients);
+    drop(clients.close(rt));
     out
 }
 
-/// Carries out the sessions, and gives the text of them all.
-fn session_answers<R: Threads + Wait + Sync, G: Gate + Sync>(
+/// Carries out the sessions of clients, and gives the text of them all.
+fn answers_of<R: Threads + Wait + Sync, G: Gate + Sync>(
     rt: &R,
     alloc: Global,
     gate: &G,
     names: &[Text],
-    db: &Db,
-    sessions: &mut [Session],
+    clients: &mut Clients,
 ) -> Result<Vec<u8>, AllocError>
-    requires ready { AreReady db.now sessions.old }
-    requires named { length names.now ≡ length sessions.old }
-    ensures answered { IfOk result (λ out. HaveAnswered sessions.old sessions.new) }
-    ensures text { IfOk result (λ out. out.items ≡ headed 1 names.now sessions.new) }
-    ensures later { AreLater sessions.old sessions.new }
+    requires ready { AreReady clients.old.db clients.old.sessions.items }
+    requires named { length names.now ≡ length clients.old.sessions.items }
+    ensures answered { IfOk result
+        (λ out. HaveAnswered clients.old.sessions.items clients.new.sessions.items) }
+    ensures text { IfOk result
+        (λ out. out.items ≡ headed 1 names.now clients.new.sessions.items) }
+    ensures later { AreLater clients.old.sessions.items clients.new.sessions.items }
+    ensures db { clients.new.db ≡ clients.old.db }
+    ensures passes { clients.new.passes ≡ clients.old.passes }
 {
-    run_all(rt, db, gate, sessions)?;
-    Ok(all_answers(alloc, names, sessions)?)
+    clients.run(rt, gate)?;
+    Ok(all_answers(alloc, names, clients.sessions())?)
 }
 
 /// The answers of all sessions, each under its heading.

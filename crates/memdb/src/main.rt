@@ -9,6 +9,7 @@
 #![tactic(auto)]
 
 mod answers;
+mod clients;
 mod made;
 mod outcome;
 mod output;

@@ -2,7 +2,8 @@
 ghost use Rattle.std.specs.Prelude.{◌≡◌, ◌≢◌, ◌≤◌, ◌⊎◌, ◌∷◌, [], ℕ, None};
 ghost use Rattle.mdb_ports.specs.Faults.{Rose};
 ghost use Rattle.memdb.specs.Causes.{CallsFor, IsOneOf};
-ghost use Rattle.memdb.specs.Outcome.{Wrote, Done, Made, Usage, BrokenSchema, BrokenScript, CannotRead, TooLarge, CutShort};
+ghost use Rattle.memdb.specs.Outcome.{Wrote, Done, Made, Usage, BrokenSchema, BrokenScript};
+ghost use Rattle.memdb.specs.Outcome.{CannotRead, TooLarge, CutShort};
 ghost use Rattle.memdb.specs.Words.{files_named};
 ghost use Rattle.run_io.specs.Observed.{observed, Stays};
 

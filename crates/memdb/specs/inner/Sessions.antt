@@ -6,12 +6,21 @@ use Rattle.client_session.specs.Answered.{HasAnswered, IsLater}
 use Rattle.client_session.specs.Progress as progress
 use Rattle.client_session.specs.Progress.{Progress}
 use Rattle.mdb_datum.specs.Bytes.{Bytes}
-use Rattle.mem_txn.specs.Database.{Caller, Database, IsOf}
+use Rattle.mem_txn.specs.Database.{Caller, Callers, Database, IsOf, Opening, new_callers}
 
 -- sessions of which nothing is carried out yet, one for each pass and script
 abbrev pub begun : List Caller → List (List Line) → List Progress
 begun (p ∷ ps) (s ∷ ss) = progress.begun p.number s p ∷ begun ps ss
 begun ps ss = []
+
+-- the sessions of these scripts on a new database, which have all its passes
+pub record AreOpened (db : Database) (scripts : List (List Line)) (left : Callers) (ss : List Progress) : Type 0 where
+  pub opening : Opening
+  pub all : Callers
+  pub are_all : all ≡ new_callers db opening (length scripts)
+  pub callers : db.callers ≡ length scripts
+  pub sessions : ss ≡ begun all.passes scripts
+  pub none_left : left ≡ record all { passes = [] }
 
 -- the sessions may be carried out on the database
 abbrev pub AreReady : Database → List Progress → Type 0

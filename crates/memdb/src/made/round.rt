@@ -1,7 +1,8 @@
 //! The text of a client's rounds.
 ghost use Rattle.std.specs.Prelude.{◌≡◌, ◌<◌, ◌++◌, ◌∷◌, [], OnOk, decimal};
 ghost use Rattle.memdb.specs.Made.{drawn, item_of, items_behind};
-ghost use Rattle.memdb.specs.inner.MadeText.{lines_text, insert_text, first_text, round_text, rounds_text};
+ghost use Rattle.memdb.specs.inner.MadeText.{lines_text, insert_text, first_text, round_text};
+ghost use Rattle.memdb.specs.inner.MadeText.{rounds_text};
 
 use crate::made::drawing::Drawing;
 use crate::output;

@@ -1,9 +1,13 @@
 //! The command line, read by `clap`.
-ghost use Rattle.std.specs.Prelude.{◌≡◌, ◌++◌, ◌∷◌, [], ◌≤◌, IfOk, OnOk, false, length, map, option_and_then, option_map, true};
+ghost use Rattle.std.specs.Prelude.{◌≡◌, ◌++◌, ◌∷◌, [], ◌≤◌, IfOk, OnOk, false, length, map};
+ghost use Rattle.std.specs.Prelude.{option_and_then, option_map, true};
 ghost use Rattle.std.specs.List.{list_all};
 ghost use Rattle.clap.specs.Words.{app_of, found_of, rows_of, rule_of};
 ghost use Rattle.memdb.specs.Words.{may_name_a_file};
-ghost use Rattle.memdb.specs.inner.CommandLine.{AreRead, HasClients, IsLocal, asked_by, asked_of_matches, bare, clients_rule, files, files_in, make_app, number_at, numbers_in, program, run_app, to_make, to_run, word_rule};
+ghost use Rattle.memdb.specs.inner.CommandLine.{AreRead, HasClients, IsLocal, asked_by};
+ghost use Rattle.memdb.specs.inner.CommandLine.{asked_of_matches, bare, clients_rule, files};
+ghost use Rattle.memdb.specs.inner.CommandLine.{files_in, make_app, number_at, numbers_in, program};
+ghost use Rattle.memdb.specs.inner.CommandLine.{run_app, to_make, to_run, word_rule};
 ghost use Rattle.memdb.specs.inner.CommandOf.{asked_of, named_of};
 
 use super::numbers::{Numbers, number_in};
