@@ -1,3 +1,4 @@
 pub mod CellsDiffer
 pub mod ChecksInTurn
 pub mod GuardedChains
+pub mod Transposed

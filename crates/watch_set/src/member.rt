@@ -1,9 +1,10 @@
 //! The members of a set.
-ghost use Rattle.std.specs.Prelude.{◌≡◌};
+ghost use Rattle.std.specs.Prelude.{◌≡◌, IfOk};
 ghost use Rattle.watch_set.specs.Members.{cell_name, has_cell, names_eq};
 
 use mdb_datum::Text;
 use mem_txn::Held;
+use std::alloc::{AllocError, Global};
 use std::marker::Model;
 
 /// A watch under its name.
@@ -25,6 +26,16 @@ impl Model for Member {
 }
 
 impl Member {
+    /// A second owner of a watch, under a copy of a name.
+    pub(crate) fn of(alloc: Global, name: &Text, held: &Held) -> Result<Member, AllocError>
+        ensures { IfOk result (λ m. m ≡ record { name = name.now; held = held.now }) }
+    {
+        Ok(Member {
+            name: Text::of(alloc, name.as_str())?,
+            held: held.share()?,
+        })
+    }
+
     /// Whether it watches the cell of this watch. Ids are compared first, since they differ mostly.
     fn watches(&self, held: &Held) -> bool
         ensures { let own = self.now.held in

@@ -81,9 +81,8 @@ impl WatchSet {
         if are_watching(&self.members, held) {
             return Ok(false);
         }
-        let name = Text::of(*self.members.allocator(), name.as_str())?;
-        let held = held.share()?;
-        self.members.push(Member { name, held })?;
+        let member = Member::of(*self.members.allocator(), name, held)?;
+        self.members.push(member)?;
         Ok(true)
     }
 
@@ -168,9 +167,8 @@ impl WatchSet {
         ensures tries { pass.new.tries ≡ pass.old.tries }
     {
         for _ in rt.forever() {
-            match self.look_once(rt, db, pass, until)? {
-                Some(woken) => return Ok(woken),
-                None => {}
+            if let Some(woken) = self.look_once(rt, db, pass, until).transpose() {
+                return woken;
             }
         }
         unreachable!()
