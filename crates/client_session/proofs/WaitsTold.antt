@@ -1,6 +1,6 @@
 -- What a wait is told, and what is told of a look at all that it waits for.
 use Rattle.std.proofs.Common.{◌≡◌, ◌∙◌, ◌≤◌, ◌++◌, ◌⊎◌, ℕ, List, [], ◌∷◌, length, map, take, Contains, Option, Some, None, Ok, Err, refl, sym, ap, subst, inl, inr, arith, slice_get}
-use Rattle.std.specs.Prelude.{option_map}
+use Rattle.std.specs.Prelude.{IfSome, option_map}
 use Rattle.std.specs.BTreeMap.{get_by_text}
 use Rattle.std.proofs.lemmas.Option.{slice_get-map}
 use Rattle.mdb_datum.specs.Bytes.{Bytes}
@@ -24,8 +24,8 @@ use Rattle.client_session.specs.Steps.{HasStayedQuiet}
 use Rattle.client_session.specs.declared.reply.Reply as own
 use Rattle.client_session.specs.declared.watching.Watching.{Watching}
 use Rattle.client_session.specs.inner.ReplyOf.{reply_of}
-use Rattle.client_session.specs.inner.SetsKept.{IsThere, RepliesWoken, awaited_in, beside}
-use Rattle.client_session.specs.inner.WatchingView.{Holds, IsSet, Knows, MayLook, TellsLook, member_of, wait_for, watch_of}
+use Rattle.client_session.specs.inner.SetsKept.{IsThere, RepliesOnce, RepliesWoken, awaited_in, beside}
+use Rattle.client_session.specs.inner.WatchingView.{Holds, IsSet, Knows, MayLook, TellsLook, TellsOnce, member_of, wait_for, watch_of}
 use Rattle.client_session.proofs.CellsOfSets.{member_held}
 use Rattle.client_session.proofs.CellsTold.{fired_moved}
 use Rattle.client_session.proofs.HeldOn.{holds_longer, knows_longer}
@@ -286,3 +286,17 @@ look_told g set old new ms until u w r there holds checked law complete told is 
 pub woken_there : (old new : Caller) (ms : List Member) (until : Option HeldWatch) (w : Woken) → AnswersWait old new ms until w → IsThere ms w
 woken_there old new ms until (woken.Fired place at) (looks, last, quiet, told) = (told.0, told.1)
 woken_there old new ms until (woken.Stopped at) a = tt
+
+-- ---- one look at all
+
+pub once_there : (old new : Caller) (ms : List Member) (until : Option HeldWatch) (w : Option Woken) → AnswersLook old new ms until w → IfSome w (IsThere ms)
+once_there old new ms until None a = tt
+once_there old new ms until (Some (woken.Fired place at)) told = (told.0, told.1)
+once_there old new ms until (Some (woken.Stopped at)) a = tt
+
+pub once_told : (g : Watching) (set : Bytes) (old new : Caller) (ms : List Member) (until : Option Bytes) (u : Option HeldWatch) (w : Option Woken) (r : Option own.Reply) → awaited_in g set until ≡ Some (ms, u) → Holds old g
+    → HasChecked old new (with_until (watches_of ms) u) → MovesAreTouches (cells_seen new) → AreComplete (cells_seen new) → AnswersLook old new ms u w → RepliesOnce ms w r → TellsOnce g (wait_for set until) old new (option_map (reply_of old.schema) r)
+once_told g set old new ms until u None None there holds checked law complete told is = λ v may. wait_quiet g set until old new ms u there told v may
+once_told g set old new ms until u None (Some r) there holds checked law complete told is = absurd is
+once_told g set old new ms until u (Some w) None there holds checked law complete told is = absurd is
+once_told g set old new ms until u (Some w) (Some r) there holds checked law complete told is = look_told g set old new ms until u w r there holds checked law complete told is

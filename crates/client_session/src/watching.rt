@@ -1,15 +1,16 @@
 //! What a client watches, and the turns of the lines of watches.
-ghost use Rattle.std.specs.Prelude.{◌≡◌, ℕ, IfOk, None, cond, option_copied, option_map};
+ghost use Rattle.std.specs.Prelude.{◌≡◌, ℕ, IfOk, IfSome, None, cond, false, is_some};
+ghost use Rattle.std.specs.Prelude.{option_copied, option_map};
 ghost use Rattle.std.specs.BTreeMap.{get_by_text};
 ghost use Rattle.std.specs.Str.{bytes_eq};
 ghost use Rattle.mdb_datum.specs.Bytes.{Bytes};
 ghost use Rattle.client_script.specs.Client.{Client, Sight, nothing_watched};
 ghost use Rattle.client_script.specs.declared.command.Command.TheVariants as command;
 ghost use Rattle.client_session.specs.inner.ReplyOf.{reply_of};
-ghost use Rattle.client_session.specs.inner.SetsKept.{IsThere, PutsBack, RepliesWoken};
+ghost use Rattle.client_session.specs.inner.SetsKept.{IsThere, PutsBack, RepliesOnce, RepliesWoken};
 ghost use Rattle.client_session.specs.inner.SetsKept.{awaited_in, look_reply, members_in};
 ghost use Rattle.client_session.specs.inner.WatchingView.{AsksWatch, HasLookedOn, Holds, IsSeenIn};
-ghost use Rattle.client_session.specs.inner.WatchingView.{Knows};
+ghost use Rattle.client_session.specs.inner.WatchingView.{IsReadBy, Knows};
 ghost use Rattle.client_session.specs.inner.WatchingView.{TellsLook, TellsOnce, WatchTold};
 ghost use Rattle.client_session.specs.inner.WatchingView.{wait_for};
 ghost use Rattle.mem_txn.specs.Checked.{IdsTellCells};
@@ -66,6 +67,23 @@ impl Watching {
         let Some(txn) = reading else {
             return Ok(Reply::Refused(Rule::Uncommitted));
         };
+        self.ask_read(alloc, name, txn, query)
+    }
+
+    /// Asks a question of a state that is read, and keeps the answer's watch under a name that no
+    /// watch has.
+    fn ask_read(
+        &mut self,
+        alloc: Global,
+        name: &Text,
+        txn: &ReadTxn,
+        query: &Query,
+    ) -> Result<Reply, AllocError>
+        requires free { is_some (get_by_text self.old.watches.kept name.now) ≡ false }
+        ensures { IfOk result (λ r. (p : Caller) (v : Client) (s : Sight)
+            → Knows p self.old v.watching → Holds p self.old → IsReadBy p txn.now s
+            → AsksWatch p self.new v s name.now query.now (reply_of p.schema r)) }
+    {
         match txn.ask_watch(query) {
             Ok((answer, held)) => {
                 self.watches.keep(alloc, name, held)?;
@@ -199,12 +217,10 @@ impl Watching {
         let Some((members, until)) = self.awaited(set, until) else {
             return Ok(Some(Reply::Refused(Rule::UnknownName)));
         };
-        let Some(woken) = members.look_once(rt, db, pass, until)? else {
-            return Ok(None);
-        };
+        let woken = members.look_once(rt, db, pass, until)?;
         moves_are_touches(pass);
         trees_are_complete(pass);
-        Ok(Some(woken_reply(alloc, members, woken)?))
+        once_reply(alloc, members, woken)
     }
 
     /// The set of a name, and the watch that cancels a wait for it, if there is one; nothing where
@@ -270,4 +286,19 @@ fn woken_reply(alloc: Global, members: &WatchSet, woken: Woken) -> Result<Reply,
         },
         Woken::Stopped { at } => Ok(Reply::StoppedAt(at)),
     }
+}
+
+/// The reply to one look at what a wait waits for. It gives none where all were quiet.
+fn once_reply(
+    alloc: Global,
+    members: &WatchSet,
+    woken: Option<Woken>,
+) -> Result<Option<Reply>, AllocError>
+    requires { IfSome woken (IsThere members.now) }
+    ensures { IfOk result (λ r. RepliesOnce members.now woken r) }
+{
+    let Some(woken) = woken else {
+        return Ok(None);
+    };
+    Ok(Some(woken_reply(alloc, members, woken)?))
 }

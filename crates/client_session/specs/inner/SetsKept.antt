@@ -60,6 +60,13 @@ RepliesWoken ms (woken.Fired place at) r =
     (m : Member) × (slice_get ms place ≡ Some m) × (r ≡ reply.WokenBy m.name at)
 RepliesWoken ms (woken.Stopped at) r = r ≡ reply.StoppedAt at
 
+-- the reply to one look at all that is waited for; none where all were quiet
+abbrev pub RepliesOnce : List Member → Option Woken → Option Reply → Type 0
+RepliesOnce ms None None = ⊤
+RepliesOnce ms None (Some r) = ⊥
+RepliesOnce ms (Some w) None = ⊥
+RepliesOnce ms (Some w) (Some r) = RepliesWoken ms w r
+
 -- the reply to a check
 abbrev pub look_reply : Look → Reply
 look_reply (look.Quiet at) = reply.QuietAt at
