@@ -1,6 +1,6 @@
 -- From the turn of what is open to the reply of a desk.
 use Rattle.std.proofs.Common.{arith, ◌≡◌, refl, ap, subst, sym, ◌∙◌, ℕ, ◌≤◌, false, List, [], ◌∷◌, ◌++◌, length, map, Option, Some, None, Result, Ok, Err, IfOk, IsErr, MatchOption, cond, slice_get}
-use Rattle.std.specs.Prelude.{option_map, is_some, if◌then◌else◌, Bool, true}
+use Rattle.std.specs.Prelude.{OnOk, option_map, is_some, if◌then◌else◌, Bool, true}
 use Rattle.std.specs.BTreeMap.{get_by_text}
 use Rattle.std.specs.Str.{bytes_eq}
 use Rattle.std.specs.Bool.{⊤}
@@ -426,3 +426,12 @@ present_writing o txn kept n is stands answers number =
 -- a snapshot under a new name
 pub kept_new : (d : Desk) (o : Open) (snaps : Named Kept) (name : Bytes) (k : Kept) (r : said.Reply) → Presents d.«open» k r → caller_of o ≡ caller_of d.«open» → transaction_of o ≡ transaction_of d.«open» → Stands o → is_some (seen_in d.snapshots name) ≡ false → ((q : Bytes) → get_by_text snaps.kept q ≡ cond (bytes_eq name q) (Some k) (get_by_text d.snapshots.kept q)) → RepliesTo (command.Snapshot name) d (record { «open» = o; snapshots = snaps; watching = d.watching }) r
 kept_new d o snaps name k r present caller same stands free kept = keep_replies d o snaps name present.sight k r present.opened caller same stands free kept present.sees present.keeps present.reply
+
+-- the same of a state that is kept with its reply, where there was memory
+pub kept_present : (d : Desk) (o : Open) (snaps : Named Kept) (name : Bytes) (k : Kept) (s : DbSchema) (y : replied_by.the_data) (told : Result replied_by.the_data AllocError) → Presents d.«open» k (reply_of s y) → caller_of o ≡ caller_of d.«open» → transaction_of o ≡ transaction_of d.«open» → Stands o → is_some (seen_in d.snapshots name) ≡ false
+    → IfOk told (λ r. r ≡ y) → OnOk told ((q : Bytes) → get_by_text snaps.kept q ≡ cond (bytes_eq name q) (Some k) (get_by_text d.snapshots.kept q))
+    → IfOk told (λ r. RepliesTo (command.Snapshot name) d (record { «open» = o; snapshots = snaps; watching = d.watching }) (reply_of s r))
+kept_present d o snaps name k s y (Ok r) present caller same stands free is kept =
+    subst (λ (x : replied_by.the_data). RepliesTo (command.Snapshot name) d (record { «open» = o; snapshots = snaps; watching = d.watching }) (reply_of s x)) (sym is)
+    (kept_new d o snaps name k (reply_of s y) present caller same stands free kept)
+kept_present d o snaps name k s y (Err e) present caller same stands free is kept = tt

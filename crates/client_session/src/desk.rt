@@ -1,12 +1,16 @@
 //! What a session has between two lines, and a line's turn.
-ghost use Rattle.std.specs.Prelude.{◌≡◌, IfOk, None, OnErr, false, is_some, option_copied};
-ghost use Rattle.std.specs.Prelude.{option_map};
+ghost use Rattle.std.specs.Prelude.{◌≡◌, IfOk, None, OnErr, OnOk, Some, cond, false, is_some};
+ghost use Rattle.std.specs.Prelude.{option_copied, option_map};
+ghost use Rattle.std.specs.BTreeMap.{get_by_text};
+ghost use Rattle.std.specs.Str.{bytes_eq};
+ghost use Rattle.mdb_datum.specs.Bytes.{Bytes};
 ghost use Rattle.mem_txn.specs.Database.{IsOf};
 ghost use Rattle.client_session.specs.Answered.{IsLater};
 ghost use Rattle.client_script.specs.declared.command.Command.TheVariants as command;
 ghost use Rattle.client_script.specs.Client.{at_start};
-ghost use Rattle.client_session.specs.inner.DeskView.{Follows, IsLook, IsRequest, LooksAndReplies};
-ghost use Rattle.client_session.specs.inner.DeskView.{LooksOnce, RepliesTo, StepsTo};
+ghost use Rattle.client_session.specs.inner.DeskView.{Follows, IsLook, IsRequest, KeepsOrSizes};
+ghost use Rattle.client_session.specs.inner.DeskView.{LooksAndReplies, LooksOnce, RepliesTo};
+ghost use Rattle.client_session.specs.inner.DeskView.{StepsTo};
 ghost use Rattle.client_session.specs.inner.OpenView.{caller_of, IsOpen, Stands};
 ghost use Rattle.client_session.specs.inner.KeptView.{seen_in};
 ghost use Rattle.client_session.specs.inner.ReplyOf.{reply_of};
@@ -164,8 +168,21 @@ impl Desk {
             Command::DeletePrefix { query } => self.open.delete_prefix(query),
             Command::Defer { text } => self.open.defer(alloc, text),
             Command::Question { query } => self.open.ask(query),
-            Command::Snapshot { name } => self.keep(alloc, name),
             Command::InSnapshot { name, query } => self.ask_snapshot(name, query),
+            command => self.keep_or_size(alloc, command),
+        }
+    }
+
+    /// Carries out a command that keeps a snapshot or a watch, adds to a set, or asks for its size.
+    fn keep_or_size(&mut self, alloc: Global, command: &Command) -> Result<Reply, AllocError>
+        requires stands { Stands self.old.open }
+        requires keeps { KeepsOrSizes command.now }
+        ensures turn { IfOk result (λ r. RepliesTo command.now self.old self.new
+            (reply_of (caller_of self.old.open).schema r)) }
+        ensures caller { caller_of self.new.open ≡ caller_of self.old.open }
+    {
+        match command {
+            Command::Snapshot { name } => self.keep(alloc, name),
             Command::Watch { name, query } => self.watch(alloc, name, query),
             Command::WatchIn {
                 name,
@@ -324,9 +341,8 @@ impl Desk {
             (reply_of (caller_of self.old.open).schema r)) }
         ensures caller { caller_of self.new.open ≡ caller_of self.old.open }
     {
-        let (kept, reply) = self.open.present()?;
-        self.snapshots.keep(alloc, name, kept)?;
-        Ok(reply)
+        let present = self.open.present()?;
+        keep_present(&mut self.snapshots, alloc, name, present)
     }
 
     /// What a question of a snapshot is answered.
@@ -390,4 +406,19 @@ fn look_by<R: Wait>(
         Command::WaitUntil { set, until } => watching.wait(rt, alloc, db, pass, set, Some(until)),
         _ => unreachable!(),
     }
+}
+
+/// Keeps a state under a name, and gives the reply that comes with it.
+fn keep_present(
+    snapshots: &mut Named<Kept>,
+    alloc: Global,
+    name: &Text,
+    present: (Kept, Reply),
+) -> Result<Reply, AllocError>
+    ensures reply { IfOk result (λ r. r ≡ present.1) }
+    ensures kept { OnOk result ((q : Bytes) → get_by_text snapshots.new.kept q
+        ≡ cond (bytes_eq name.now q) (Some present.0) (get_by_text snapshots.old.kept q)) }
+{
+    let (kept, reply) = present;
+    snapshots.keep(alloc, name, kept).and(Ok(reply))
 }

@@ -134,3 +134,13 @@ IsRequest (command.Check name) = ⊥
 IsRequest (command.Wait set) = ⊥
 IsRequest (command.WaitUntil set until) = ⊥
 IsRequest c = ⊤
+
+-- a command that keeps a snapshot or a watch, or one of a set that doesn't look at further commits
+abbrev pub KeepsOrSizes : Command → Type 0
+KeepsOrSizes (command.Snapshot name) = ⊤
+KeepsOrSizes (command.Watch name query) = ⊤
+KeepsOrSizes (command.WatchIn name snapshot query) = ⊤
+KeepsOrSizes (command.Add set name) = ⊤
+KeepsOrSizes (command.AddLimit set limit name other) = ⊤
+KeepsOrSizes (command.Size set) = ⊤
+KeepsOrSizes c = ⊥

@@ -1,7 +1,6 @@
-use Rattle.std.proofs.Common.{Ok, refl}
+use Rattle.std.proofs.Common.{refl}
 use Rattle.client_script.specs.declared.command.Command.TheVariants as command
 use Rattle.client_session.proofs.DeskTurns.{replies_told}
-use Rattle.client_session.proofs.WatchTurns.{watch_told}
 use Rattle.client_session.proofs.desk.Desk.request.Goals as goal
 
 pub returns-in-Insert-clause-turn : goal.returns-in-Insert-clause-turn
@@ -21,6 +20,3 @@ returns-in-Defer-clause-turn c = replies_told (command.Defer c.in-Defer.text) c.
 
 pub returns-in-Question-clause-turn : goal.returns-in-Question-clause-turn
 returns-in-Question-clause-turn c = replies_told (command.Question c.in-Question.query) c.args.command.now c.args.self.now c.ask.new.self _ _ c.ask.result c.in-Question.is refl refl c.ask.ensures.turn
-
-pub returns-in-Size-clause-turn : goal.returns-in-Size-clause-turn
-returns-in-Size-clause-turn c = watch_told (command.Size c.in-Size.set) c.args.command.now c.args.self.now c.args.self.now.watching (Ok c.size.result) c.in-Size.is c.size.ensures
