@@ -1,6 +1,7 @@
 pub mod Carried
 pub mod DeskView
 pub mod KeptView
+pub mod Looked
 pub mod OpenView
 pub mod Refusal
 pub mod ReplyOf

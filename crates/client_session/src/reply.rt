@@ -5,6 +5,7 @@ ghost use Rattle.mem_txn.specs.Transactions.{deferred_items};
 ghost use Rattle.client_script.specs.Reply.{answer_text, did_lines, line_text, reply_text};
 ghost use Rattle.client_script.specs.Reply.{row_lines};
 ghost use Rattle.mdb_schema.specs.Schema.{DbSchema};
+ghost use Rattle.client_session.specs.inner.Looked.{IsLooked};
 ghost use Rattle.client_session.specs.inner.ReplyOf.{reply_of, IsNumbered, IsWord};
 ghost use Rattle.client_session.specs.inner.RuleName.{rule_name};
 
@@ -136,6 +137,20 @@ impl Reply {
             Reply::Wiped(count) => write_at(b"deleted ", *count, out),
             Reply::KeptAt(number) => write_at(b"snapshot @", *number, out),
             Reply::KeptWithin(number) => write_within(*number, out),
+            Reply::QuietAt(_) | Reply::FiredAt(_) | Reply::Sized(_) | Reply::StoppedAt(_) => {
+                self.write_looked(out)
+            }
+            _ => unreachable!(),
+        }
+    }
+
+    /// Adds the answer of a watch or a set that is words and a number.
+    fn write_looked(&self, out: &mut Vec<u8>) -> Result<(), AllocError>
+        requires { IsLooked self.now }
+        ensures { OnOk result ((schema : DbSchema) →
+            out.new.items ≡ out.old.items ++ reply_text (reply_of schema self.now)) }
+    {
+        match self {
             Reply::QuietAt(number) => write_at(b"quiet @", *number, out),
             Reply::FiredAt(number) => write_at(b"fired @", *number, out),
             Reply::Sized(count) => write_at(b"size ", *count as u64, out),
