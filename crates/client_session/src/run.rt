@@ -3,6 +3,7 @@ ghost use Rattle.std.specs.Prelude.{◌≡◌, ◌≤◌, ◌++◌, MatchResult,
 ghost use Rattle.mem_txn.specs.Database.{IsOf};
 ghost use Rattle.client_session.specs.Answered.{IsLater};
 ghost use Rattle.client_script.specs.Reply.{line_text};
+ghost use Rattle.client_session.specs.inner.Added.{IsAdded};
 ghost use Rattle.client_session.specs.inner.Carried.{AddsSome, AnswersLine, CarriedOn, CarriesOut};
 ghost use Rattle.client_session.specs.inner.Carried.{SoFar, StepsLine, Stops, StopsLine};
 ghost use Rattle.client_session.specs.inner.OpenView.{caller_of, Stands};
@@ -154,15 +155,26 @@ pub(crate) fn step_line<R: Wait>(
 {
     let alloc = *text.allocator();
     let (desk, told) = desk.step(rt, alloc, db, &line.command);
-    let added = match told {
-        Ok(Some(reply)) => reply
-            .add(alloc, line.number, db.schema(), text)
-            .map(|_| true),
-        Ok(None) => Ok(false),
-        Err(error) => Err(error),
-    };
+    let added = add_step(alloc, db.schema(), line.number, told, text);
     match added {
         Ok(answered) => (desk, Ok(answered)),
         Err(error) => (desk.closed(alloc, db), Err(error)),
+    }
+}
+
+/// Adds the reply to a line, where its step gave one, and tells whether it did. After `AllocError`
+/// the text is as before.
+fn add_step(
+    alloc: Global,
+    schema: &Schema,
+    line: u32,
+    told: Result<Option<Reply>, AllocError>,
+    text: &mut Vec<u8>,
+) -> Result<bool, AllocError>
+    ensures { IsAdded schema.now line told text.old.items text.new.items result }
+{
+    match told.transpose() {
+        Some(reply) => add_reply(alloc, schema, line, reply, text).map(|_| true),
+        None => Ok(false),
     }
 }
