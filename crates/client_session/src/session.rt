@@ -1,5 +1,6 @@
 //! A client's session.
-ghost use Rattle.std.specs.Prelude.{◌≡◌, ◌+◌, IsOk, List, OnErr, OnOk, false, true, is_err, length};
+ghost use Rattle.std.specs.Prelude.{◌≡◌, ◌+◌, IsOk, IsSome, List, None, OnErr, OnOk, Some};
+ghost use Rattle.std.specs.Prelude.{false, true, is_err, length};
 ghost use Rattle.client_script.specs.Reply.{Reply};
 ghost use Rattle.client_session.specs.Answered.{AreTold, HasAnswered, HasStopped, IsLater, Tells};
 ghost use Rattle.client_session.specs.Progress.{begun};
@@ -144,9 +145,7 @@ impl Session {
         } }
         ensures caller { IsLater self.old.caller self.new.caller }
     {
-        let Some(desk) = self.desk.take() else {
-            unreachable!();
-        };
+        let desk = take_desk(&mut self.desk);
         let (client, from) = (self.client, self.answered);
         let (desk, answered, told) = carry_out(
             rt,
@@ -158,8 +157,7 @@ impl Session {
             desk,
             &mut self.text,
         );
-        let gone = self.desk.replace(desk);
-        let None = gone else { unreachable!() };
+        put_desk(&mut self.desk, desk);
         self.answered = answered;
         self.failed = told.is_err();
         told
@@ -184,13 +182,10 @@ impl Session {
         let Some(line) = self.script.get(self.answered) else {
             unreachable!();
         };
-        let Some(desk) = self.desk.take() else {
-            unreachable!();
-        };
+        let desk = take_desk(&mut self.desk);
         let number = line.number;
         let (desk, told) = step_line(rt, db, line, desk, &mut self.text);
-        let gone = self.desk.replace(desk);
-        let None = gone else { unreachable!() };
+        put_desk(&mut self.desk, desk);
         self.failed = told.is_err();
         if told? {
             self.answered = next;
@@ -206,12 +201,9 @@ impl Session {
         requires done { self.old.answered ≡ length self.old.script }
         ensures { self.new ≡ self.old }
     {
-        let Some(desk) = self.desk.take() else {
-            unreachable!();
-        };
+        let desk = take_desk(&mut self.desk);
         let alloc = *self.text.allocator();
-        let gone = self.desk.replace(desk.closed(alloc, db));
-        let None = gone else { unreachable!() };
+        put_desk(&mut self.desk, desk.closed(alloc, db));
     }
 
     /// The text of the answers so far.
@@ -242,4 +234,25 @@ impl Session {
             None => unreachable!(),
         }
     }
+}
+
+/// Takes out the desk, which is there.
+fn take_desk(kept: &mut Option<Desk>) -> Desk
+    requires { IsSome kept.old }
+    ensures was { kept.old ≡ Some result }
+    ensures left { kept.new ≡ None }
+{
+    let Some(desk) = kept.take() else {
+        unreachable!();
+    };
+    desk
+}
+
+/// Puts a desk where none is.
+fn put_desk(kept: &mut Option<Desk>, desk: Desk)
+    requires { kept.old ≡ None }
+    ensures { kept.new ≡ Some desk }
+{
+    let gone = kept.replace(desk);
+    let None = gone else { unreachable!() };
 }
