@@ -8,5 +8,6 @@ pub mod Refusal
 pub mod ReplyOf
 pub mod RuleName
 pub mod SetsKept
+pub mod StepKept
 pub mod StoredSession
 pub mod WatchingView

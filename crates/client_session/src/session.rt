@@ -1,17 +1,21 @@
 //! A client's session.
 ghost use Rattle.std.specs.Prelude.{◌≡◌, ◌+◌, IsOk, IsSome, List, None, OnErr, OnOk, Some};
-ghost use Rattle.std.specs.Prelude.{false, true, is_err, length};
+ghost use Rattle.std.specs.Prelude.{◌<◌, false, true, is_err, length, slice_get};
 ghost use Rattle.client_script.specs.Reply.{Reply};
 ghost use Rattle.client_session.specs.Answered.{AreTold, HasAnswered, HasStopped, IsLater, Tells};
 ghost use Rattle.client_session.specs.Progress.{begun};
 ghost use Rattle.client_session.specs.Steps.{AnswersStep};
-ghost use Rattle.client_session.specs.inner.StoredSession.{IsUnfinished};
+ghost use Rattle.client_session.specs.declared.desk.Desk.{Desk};
+ghost use Rattle.client_session.specs.inner.OpenView.{caller_of, Stands};
+ghost use Rattle.client_session.specs.inner.StepKept.{StepsKept};
+ghost use Rattle.client_session.specs.inner.StoredSession.{IsUnfinished, caller_in};
+ghost use Rattle.client_session.specs.inner.WatchingView.{Holds};
 ghost use Rattle.mem_txn.specs.Database.{IsOf};
 
 use crate::desk::Desk;
 use crate::run::{carry_out, step_line};
 use crate::stepped::Stepped;
-use client_script::Script;
+use client_script::{Line, Script};
 use mdb_ports::Gate;
 use mem_txn::{Db, Pass};
 use std::alloc::{AllocError, Global};
@@ -179,13 +183,9 @@ impl Session {
         } }
         ensures caller { IsLater self.old.caller self.new.caller }
     {
-        let Some(line) = self.script.get(self.answered) else {
-            unreachable!();
-        };
-        let desk = take_desk(&mut self.desk);
+        let line = line_at(&self.script, self.answered);
         let number = line.number;
-        let (desk, told) = step_line(rt, db, line, desk, &mut self.text);
-        put_desk(&mut self.desk, desk);
+        let told = step_kept(rt, db, line, &mut self.desk, &mut self.text);
         self.failed = told.is_err();
         if told? {
             self.answered = next;
@@ -255,4 +255,38 @@ fn put_desk(kept: &mut Option<Desk>, desk: Desk)
 {
     let gone = kept.replace(desk);
     let None = gone else { unreachable!() };
+}
+
+/// Carries out a line on the desk, which is there, and adds its answer. It gives whether there is
+/// one. After `AllocError` nothing is open, and the text is as before.
+fn step_kept<R: Wait>(
+    rt: &R,
+    db: &Db,
+    line: &Line,
+    kept: &mut Option<Desk>,
+    text: &mut Vec<u8>,
+) -> Result<bool, AllocError>
+    requires here { IsSome kept.old }
+    requires own { IsOf db.now (caller_in kept.old) }
+    requires stands { (desk : Desk) → kept.old ≡ Some desk → Stands desk.open }
+    requires holds { (desk : Desk) → kept.old ≡ Some desk
+        → Holds (caller_of desk.open) desk.watching }
+    ensures { StepsKept db.now.callers line.now kept.old kept.new text.old.items text.new.items
+        result }
+{
+    let desk = take_desk(kept);
+    let (desk, told) = step_line(rt, db, line, desk, text);
+    put_desk(kept, desk);
+    told
+}
+
+/// The line at a place of a script.
+fn line_at(script: &Script, at: usize) -> &Line
+    requires { at < length script.now }
+    ensures { slice_get script.now at ≡ Some result.now }
+{
+    let Some(line) = script.get(at) else {
+        unreachable!();
+    };
+    line
 }

@@ -1,5 +1,5 @@
 use Rattle.std.proofs.Common.{rules, ◌≡◌, ◌∙◌, ◌+◌, ap, sym, Some}
-use Rattle.std.specs.Prelude.{option_copied, slice_get}
+use Rattle.std.specs.Prelude.{slice_get}
 use Rattle.client_session.specs.Progress.{Progress}
 use Rattle.client_session.proofs.OpenTurns.{on_err}
 use Rattle.client_session.proofs.SessionSteps.{held_up_kept, held_up_stepped, line_answered, line_held_up, next_kept, next_stepped, next_told, seen_kept, seen_stopped, seen_told, unfinished_fields, was_stopped}
@@ -9,64 +9,64 @@ pub invariant_of-self : goal.invariant_of-self
 invariant_of-self g c =
     let f = c.self.inside in
     let more = unfinished_fields c.args.self.now f.client f.script f.desk f.answered f.text.items f.failed c.self.view_is c.requires.open in
-    seen_kept c.args.self.now f.client f.script f.desk c.put_desk.new.kept f.answered f.text.items c.step_line-desk.new.text.items f.failed c.take_desk-desk.result c.step_line-desk.result.0 c.self.view_is (search (rules)) (search (rules)) c.self.invariant more c.is_err-self-inside.result (search (rules)) c.step_line-desk.ensures.caller (search (rules))
+    seen_kept c.args.self.now f.client f.script f.desk c.step_kept-told.new.kept f.answered f.text.items c.step_kept-told.new.text.items f.failed c.step_kept-told.ensures.old c.step_kept-told.ensures.new c.self.view_is c.step_kept-told.ensures.was c.step_kept-told.ensures.is c.self.invariant more c.is_err-self-inside.result (search (rules)) c.step_kept-told.ensures.later (search (rules))
 
 pub returns-in_err-told-clause-told : goal.returns-in_err-told-clause-told
 returns-in_err-told-clause-told g c =
     let f = c.self.inside in
     let more = unfinished_fields c.args.self.now f.client f.script f.desk f.answered f.text.items f.failed c.self.view_is c.requires.open in
-    seen_told c.args.self.now f.client f.script f.desk c.put_desk.new.kept f.answered f.text.items c.step_line-desk.new.text.items f.failed c.take_desk-desk.result c.step_line-desk.result.0 c.self.view_is (search (rules)) (search (rules)) c.self.invariant more c.is_err-self-inside.result c.step_line-desk.ensures.caller (search (rules))
+    seen_told c.args.self.now f.client f.script f.desk c.step_kept-told.new.kept f.answered f.text.items c.step_kept-told.new.text.items f.failed c.step_kept-told.ensures.old c.step_kept-told.ensures.new c.self.view_is c.step_kept-told.ensures.was c.step_kept-told.ensures.is c.self.invariant more c.is_err-self-inside.result c.step_kept-told.ensures.later (search (rules))
 
 pub invariant_of-self-then-branch : goal.invariant_of-self-then-branch
 invariant_of-self-then-branch g c =
     let f = c.self.inside in
     let more = unfinished_fields c.args.self.now f.client f.script f.desk f.answered f.text.items f.failed c.self.view_is c.requires.open in
-    let line = line_answered c.args.db.now.callers c.in-Some.line.now c.take_desk-desk.result c.step_line-desk.result.0 f.text.items c.step_line-desk.new.text.items c.step_line-desk.result.1 c.in_ok-told.field-0 (search (rules)) (search (rules)) c.step_line-desk.ensures.answered in
-    let there : slice_get f.script f.answered ≡ Some c.in-Some.line.now = sym c.get.ensures ∙ ap option_copied c.in-Some.is in
+    let line = line_answered c.args.db.now.callers c.line_at-line.result.now c.step_kept-told.ensures.old c.step_kept-told.ensures.new f.text.items c.step_kept-told.new.text.items c.step_kept-told.result c.in_ok-told.field-0 (search (rules)) (search (rules)) c.step_kept-told.ensures.answered in
+    let there : slice_get f.script f.answered ≡ Some c.line_at-line.result.now = c.line_at-line.ensures in
     let one : c.args.next ≡ f.answered + 1 = c.requires.next ∙ sym (ap (λ (x : Progress). x.answered + 1) c.self.view_is) in
-    next_kept c.args.self.now f.client f.script f.desk c.put_desk.new.kept f.answered f.text.items c.step_line-desk.new.text.items f.failed c.take_desk-desk.result c.step_line-desk.result.0 c.self.view_is (search (rules)) (search (rules)) c.self.invariant more c.args.db.now.callers c.in-Some.line.now c.args.next c.is_err-self-inside.result one there line
+    next_kept c.args.self.now f.client f.script f.desk c.step_kept-told.new.kept f.answered f.text.items c.step_kept-told.new.text.items f.failed c.step_kept-told.ensures.old c.step_kept-told.ensures.new c.self.view_is c.step_kept-told.ensures.was c.step_kept-told.ensures.is c.self.invariant more c.args.db.now.callers c.line_at-line.result.now c.args.next c.is_err-self-inside.result one there line
 
 pub returns-then-branch-clause-told : goal.returns-then-branch-clause-told
 returns-then-branch-clause-told g c =
     let f = c.self.inside in
     let more = unfinished_fields c.args.self.now f.client f.script f.desk f.answered f.text.items f.failed c.self.view_is c.requires.open in
-    let line = line_answered c.args.db.now.callers c.in-Some.line.now c.take_desk-desk.result c.step_line-desk.result.0 f.text.items c.step_line-desk.new.text.items c.step_line-desk.result.1 c.in_ok-told.field-0 (search (rules)) (search (rules)) c.step_line-desk.ensures.answered in
-    let there : slice_get f.script f.answered ≡ Some c.in-Some.line.now = sym c.get.ensures ∙ ap option_copied c.in-Some.is in
+    let line = line_answered c.args.db.now.callers c.line_at-line.result.now c.step_kept-told.ensures.old c.step_kept-told.ensures.new f.text.items c.step_kept-told.new.text.items c.step_kept-told.result c.in_ok-told.field-0 (search (rules)) (search (rules)) c.step_kept-told.ensures.answered in
+    let there : slice_get f.script f.answered ≡ Some c.line_at-line.result.now = c.line_at-line.ensures in
     let one : c.args.next ≡ f.answered + 1 = c.requires.next ∙ sym (ap (λ (x : Progress). x.answered + 1) c.self.view_is) in
-    next_told c.args.self.now f.client f.script f.desk c.put_desk.new.kept f.answered f.text.items c.step_line-desk.new.text.items f.failed c.take_desk-desk.result c.step_line-desk.result.0 c.self.view_is (search (rules)) (search (rules)) c.self.invariant more c.args.db.now.callers c.in-Some.line.now c.args.next c.is_err-self-inside.result one there line
+    next_told c.args.self.now f.client f.script f.desk c.step_kept-told.new.kept f.answered f.text.items c.step_kept-told.new.text.items f.failed c.step_kept-told.ensures.old c.step_kept-told.ensures.new c.self.view_is c.step_kept-told.ensures.was c.step_kept-told.ensures.is c.self.invariant more c.args.db.now.callers c.line_at-line.result.now c.args.next c.is_err-self-inside.result one there line
 
 pub returns-then-branch-clause-stepped : goal.returns-then-branch-clause-stepped
 returns-then-branch-clause-stepped g c =
     let f = c.self.inside in
     let more = unfinished_fields c.args.self.now f.client f.script f.desk f.answered f.text.items f.failed c.self.view_is c.requires.open in
-    let line = line_answered c.args.db.now.callers c.in-Some.line.now c.take_desk-desk.result c.step_line-desk.result.0 f.text.items c.step_line-desk.new.text.items c.step_line-desk.result.1 c.in_ok-told.field-0 (search (rules)) (search (rules)) c.step_line-desk.ensures.answered in
-    let there : slice_get f.script f.answered ≡ Some c.in-Some.line.now = sym c.get.ensures ∙ ap option_copied c.in-Some.is in
+    let line = line_answered c.args.db.now.callers c.line_at-line.result.now c.step_kept-told.ensures.old c.step_kept-told.ensures.new f.text.items c.step_kept-told.new.text.items c.step_kept-told.result c.in_ok-told.field-0 (search (rules)) (search (rules)) c.step_kept-told.ensures.answered in
+    let there : slice_get f.script f.answered ≡ Some c.line_at-line.result.now = c.line_at-line.ensures in
     let one : c.args.next ≡ f.answered + 1 = c.requires.next ∙ sym (ap (λ (x : Progress). x.answered + 1) c.self.view_is) in
-    next_stepped c.args.self.now f.client f.script f.desk c.put_desk.new.kept f.answered f.text.items c.step_line-desk.new.text.items f.failed c.take_desk-desk.result c.step_line-desk.result.0 c.self.view_is (search (rules)) (search (rules)) c.self.invariant more c.args.db.now.callers c.in-Some.line.now c.args.next c.is_err-self-inside.result one there line
+    next_stepped c.args.self.now f.client f.script f.desk c.step_kept-told.new.kept f.answered f.text.items c.step_kept-told.new.text.items f.failed c.step_kept-told.ensures.old c.step_kept-told.ensures.new c.self.view_is c.step_kept-told.ensures.was c.step_kept-told.ensures.is c.self.invariant more c.args.db.now.callers c.line_at-line.result.now c.args.next c.is_err-self-inside.result one there line
 
 pub returns-else-branch-clause-told : goal.returns-else-branch-clause-told
 returns-else-branch-clause-told g c =
     let f = c.self.inside in
     let more = unfinished_fields c.args.self.now f.client f.script f.desk f.answered f.text.items f.failed c.self.view_is c.requires.open in
-    let held = line_held_up c.args.db.now.callers c.in-Some.line.now c.take_desk-desk.result c.step_line-desk.result.0 f.text.items c.step_line-desk.new.text.items c.step_line-desk.result.1 c.in_ok-told.field-0 (search (rules)) (search (rules)) c.step_line-desk.ensures.answered in
-    seen_told c.args.self.now f.client f.script f.desk c.put_desk.new.kept f.answered f.text.items c.step_line-desk.new.text.items f.failed c.take_desk-desk.result c.step_line-desk.result.0 c.self.view_is (search (rules)) (search (rules)) c.self.invariant more c.is_err-self-inside.result c.step_line-desk.ensures.caller held.1
+    let held = line_held_up c.args.db.now.callers c.line_at-line.result.now c.step_kept-told.ensures.old c.step_kept-told.ensures.new f.text.items c.step_kept-told.new.text.items c.step_kept-told.result c.in_ok-told.field-0 (search (rules)) (search (rules)) c.step_kept-told.ensures.answered in
+    seen_told c.args.self.now f.client f.script f.desk c.step_kept-told.new.kept f.answered f.text.items c.step_kept-told.new.text.items f.failed c.step_kept-told.ensures.old c.step_kept-told.ensures.new c.self.view_is c.step_kept-told.ensures.was c.step_kept-told.ensures.is c.self.invariant more c.is_err-self-inside.result c.step_kept-told.ensures.later held.1
 
 pub returns-in_err-told-clause-stopped : goal.returns-in_err-told-clause-stopped
 returns-in_err-told-clause-stopped g c =
     let f = c.self.inside in
     let more = unfinished_fields c.args.self.now f.client f.script f.desk f.answered f.text.items f.failed c.self.view_is c.requires.open in
-    on_err _ (seen_stopped c.args.self.now f.client f.script f.desk c.put_desk.new.kept f.answered f.text.items c.step_line-desk.new.text.items f.failed c.take_desk-desk.result c.step_line-desk.result.0 c.self.view_is (search (rules)) (search (rules)) c.self.invariant more c.in-Some.line.now c.is_err-self-inside.result (sym c.get.ensures ∙ ap option_copied c.in-Some.is) c.step_line-desk.ensures.caller (search (rules)) (was_stopped c.step_line-desk.result.1 _ (search (rules)) c.step_line-desk.ensures.stopped))
+    on_err _ (seen_stopped c.args.self.now f.client f.script f.desk c.step_kept-told.new.kept f.answered f.text.items c.step_kept-told.new.text.items f.failed c.step_kept-told.ensures.old c.step_kept-told.ensures.new c.self.view_is c.step_kept-told.ensures.was c.step_kept-told.ensures.is c.self.invariant more c.line_at-line.result.now c.is_err-self-inside.result c.line_at-line.ensures c.step_kept-told.ensures.later (search (rules)) (was_stopped c.step_kept-told.result _ (search (rules)) c.step_kept-told.ensures.stopped))
 
 pub invariant_of-self-else-branch : goal.invariant_of-self-else-branch
 invariant_of-self-else-branch g c =
     let f = c.self.inside in
     let more = unfinished_fields c.args.self.now f.client f.script f.desk f.answered f.text.items f.failed c.self.view_is c.requires.open in
-    let held = line_held_up c.args.db.now.callers c.in-Some.line.now c.take_desk-desk.result c.step_line-desk.result.0 f.text.items c.step_line-desk.new.text.items c.step_line-desk.result.1 c.in_ok-told.field-0 (search (rules)) (search (rules)) c.step_line-desk.ensures.answered in
-    held_up_kept c.args.self.now f.client f.script f.desk c.put_desk.new.kept f.answered f.text.items c.step_line-desk.new.text.items f.failed c.take_desk-desk.result c.step_line-desk.result.0 c.self.view_is (search (rules)) (search (rules)) c.self.invariant more c.args.db.now.callers c.in-Some.line.now c.is_err-self-inside.result held.1 held.0
+    let held = line_held_up c.args.db.now.callers c.line_at-line.result.now c.step_kept-told.ensures.old c.step_kept-told.ensures.new f.text.items c.step_kept-told.new.text.items c.step_kept-told.result c.in_ok-told.field-0 (search (rules)) (search (rules)) c.step_kept-told.ensures.answered in
+    held_up_kept c.args.self.now f.client f.script f.desk c.step_kept-told.new.kept f.answered f.text.items c.step_kept-told.new.text.items f.failed c.step_kept-told.ensures.old c.step_kept-told.ensures.new c.self.view_is c.step_kept-told.ensures.was c.step_kept-told.ensures.is c.self.invariant more c.args.db.now.callers c.line_at-line.result.now c.is_err-self-inside.result held.1 held.0
 
 pub returns-else-branch-clause-stepped : goal.returns-else-branch-clause-stepped
 returns-else-branch-clause-stepped g c =
     let f = c.self.inside in
     let more = unfinished_fields c.args.self.now f.client f.script f.desk f.answered f.text.items f.failed c.self.view_is c.requires.open in
-    let held = line_held_up c.args.db.now.callers c.in-Some.line.now c.take_desk-desk.result c.step_line-desk.result.0 f.text.items c.step_line-desk.new.text.items c.step_line-desk.result.1 c.in_ok-told.field-0 (search (rules)) (search (rules)) c.step_line-desk.ensures.answered in
-    held_up_stepped c.args.self.now f.client f.script f.desk c.put_desk.new.kept f.answered f.text.items c.step_line-desk.new.text.items f.failed c.take_desk-desk.result c.step_line-desk.result.0 c.self.view_is (search (rules)) (search (rules)) c.self.invariant more c.args.db.now.callers c.in-Some.line.now c.is_err-self-inside.result held.1 held.0 (search (rules)) (sym c.get.ensures ∙ ap option_copied c.in-Some.is)
+    let held = line_held_up c.args.db.now.callers c.line_at-line.result.now c.step_kept-told.ensures.old c.step_kept-told.ensures.new f.text.items c.step_kept-told.new.text.items c.step_kept-told.result c.in_ok-told.field-0 (search (rules)) (search (rules)) c.step_kept-told.ensures.answered in
+    held_up_stepped c.args.self.now f.client f.script f.desk c.step_kept-told.new.kept f.answered f.text.items c.step_kept-told.new.text.items f.failed c.step_kept-told.ensures.old c.step_kept-told.ensures.new c.self.view_is c.step_kept-told.ensures.was c.step_kept-told.ensures.is c.self.invariant more c.args.db.now.callers c.line_at-line.result.now c.is_err-self-inside.result held.1 held.0 (search (rules)) c.line_at-line.ensures
