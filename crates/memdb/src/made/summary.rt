@@ -1,6 +1,7 @@
 //! The summary of what made clients leave.
 ghost use Rattle.std.specs.Prelude.{◌≡◌, ◌++◌, IfOk, OnOk};
 ghost use Rattle.memdb.specs.Made.{count_line, four_lines, summary};
+ghost use Rattle.memdb.specs.inner.LastState.{IsLastMade};
 
 use crate::made::inputs::made_inputs;
 use crate::made::last::last_state;
@@ -8,6 +9,7 @@ use crate::made::tally::Tally;
 use crate::output::write_number;
 use crate::words::Numbers;
 use mdb_ports::Gate;
+use mem_txn::ReadTxn;
 use std::alloc::{AllocError, Global};
 use std::sync::Wait;
 use std::thread::Threads;
@@ -22,11 +24,23 @@ pub fn made_summary<R: Threads + Wait + Sync, G: Gate + Sync>(
 ) -> Result<Vec<u8>, AllocError>
     ensures { IfOk result (λ text. text.items ≡ summary numbers.now) }
 {
-    numbers.are_in_range();
-    let (schema, scripts) = made_inputs(alloc, numbers)?;
-    let last = last_state(rt, alloc, gate, schema, scripts)?;
+    let last = made_state(rt, alloc, gate, numbers)?;
     let tally = Tally::of(alloc, &last)?;
     four_lines(alloc, numbers.clients(), &tally)
+}
+
+/// The state that clients leave that are made from these numbers.
+fn made_state<R: Threads + Wait + Sync, G: Gate + Sync>(
+    rt: &R,
+    alloc: Global,
+    gate: &G,
+    numbers: &Numbers,
+) -> Result<ReadTxn, AllocError>
+    ensures { IfOk result (λ last. IsLastMade numbers.now last.view) }
+{
+    numbers.are_in_range();
+    let (schema, scripts) = made_inputs(alloc, numbers)?;
+    last_state(rt, alloc, gate, schema, scripts)
 }
 
 /// The four lines of a summary.
@@ -35,11 +49,20 @@ fn four_lines(alloc: Global, clients: u32, tally: &Tally) -> Result<Vec<u8>, All
         IfOk result (λ text. text.items ≡ four_lines clients t.commits t.rows t.ages) }
 {
     let mut text = Vec::new(alloc);
-    write_count(b"clients ", u64::from(clients), &mut text)?;
-    write_count(b"commits ", tally.commits, &mut text)?;
-    write_count(b"rows ", tally.rows, &mut text)?;
-    write_count(b"ages ", tally.ages, &mut text)?;
+    write_lines(clients, tally, &mut text)?;
     Ok(text)
+}
+
+/// Adds the same four lines.
+fn write_lines(clients: u32, tally: &Tally, text: &mut Vec<u8>) -> Result<(), AllocError>
+    ensures { let t = tally.now in
+        OnOk result (text.new.items
+        ≡ text.old.items ++ four_lines clients t.commits t.rows t.ages) }
+{
+    write_count(b"clients ", u64::from(clients), text)?;
+    write_count(b"commits ", tally.commits, text)?;
+    write_count(b"rows ", tally.rows, text)?;
+    write_count(b"ages ", tally.ages, text)
 }
 
 /// Adds a word, a number, and the end of the line.

@@ -2,7 +2,7 @@
 ghost use Rattle.std.specs.Prelude.{◌≡◌, ◌++◌, ◌∷◌, [], ◌≤◌, IfOk, OnOk, false, length, map};
 ghost use Rattle.std.specs.Prelude.{option_and_then, option_map, true};
 ghost use Rattle.std.specs.List.{list_all};
-ghost use Rattle.clap.specs.Words.{app_of, found_of, rows_of, rule_of};
+ghost use Rattle.clap.specs.Words.{app_of, found_of, rows_of, rule_of, with_subcommand};
 ghost use Rattle.memdb.specs.Words.{may_name_a_file};
 ghost use Rattle.memdb.specs.inner.CommandLine.{AreRead, HasClients, IsLocal, asked_by};
 ghost use Rattle.memdb.specs.inner.CommandLine.{asked_of_matches, bare, clients_rule, files};
@@ -42,9 +42,24 @@ fn read_texts<'a>(alloc: Global, words: &'a [&'a str]) -> Result<Option<Command>
 fn program<'a>(alloc: Global) -> Result<clap::Command<'a>, AllocError>
     ensures { IfOk result (λ c. app_of c ≡ program) }
 {
+    let program = with_run(alloc)?;
+    with_make(alloc, program)
+}
+
+/// The program with the command `run` alone.
+fn with_run<'a>(alloc: Global) -> Result<clap::Command<'a>, AllocError>
+    ensures { IfOk result (λ c. app_of c ≡ with_subcommand bare run_app.top) }
+{
     let run = run_command(alloc)?;
+    Ok(bare(alloc).subcommand(run)?)
+}
+
+/// A program with the command `make` too.
+fn with_make<'a>(alloc: Global, program: clap::Command<'a>) -> Result<clap::Command<'a>, AllocError>
+    ensures { IfOk result (λ c. app_of c ≡ with_subcommand (app_of program.entry) make_app.top) }
+{
     let make = make_command(alloc)?;
-    Ok(bare(alloc).subcommand(run)?.subcommand(make)?)
+    program.subcommand(make)
 }
 
 /// The program with no command.
