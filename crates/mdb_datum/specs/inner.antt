@@ -1,3 +1,4 @@
+pub mod Gains
 pub mod RowView
 pub mod Stored
 pub mod Tokens

@@ -1,6 +1,6 @@
 //! From a text to a document: `serde_json` reads the value, and what it owns is moved out of it.
 ghost use Rattle.std.specs.Prelude.{◌≡◌, ◌⊎◌, ◌++◌, ◌∷◌, [], Some, None, option_map, IfSome, IfOk};
-ghost use Rattle.std.specs.Prelude.{IfErr, IsErr, IsErrOf, IsUtf8, is_ok, if◌then◌else◌, nat_lt};
+ghost use Rattle.std.specs.Prelude.{IfErr, IsErr, IsErrOf, IsUtf8, OnOk, is_ok, if◌then◌else◌, nat_lt};
 ghost use Rattle.std.specs.Prelude.{string_bytes};
 ghost use Rattle.serde_json.specs.Data.{depth, items_depth, members_depth};
 ghost use Rattle.serde_json.specs.Read.{read};
@@ -10,6 +10,7 @@ ghost use Rattle.mdb_datum.specs.Canonical.{FitsWord, IsRegular, AreRegular, IsC
 ghost use Rattle.mdb_datum.specs.Datum.{doc_of, items_of, members_of};
 ghost use Rattle.mdb_datum.specs.Reading.{reading, read_as, no_json, too_deep, not_whole};
 ghost use Rattle.mdb_datum.specs.Reading.{whole_number, whole_doc, whole_docs, whole_fields};
+ghost use Rattle.mdb_datum.specs.inner.Gains.{GainsMember};
 
 use crate::{Datum, DocError, Items, Members, Text};
 use serde_json::{Map, Number, Value};
@@ -122,16 +123,6 @@ fn push_item(items: &mut Items, item: Datum) -> Result<(), DocError>
     Ok(items.push(item)?)
 }
 
-/// Adds a member at the end, whose name it takes over.
-fn push_member(members: &mut Members, name: String, value: Datum) -> Result<(), DocError>
-    ensures pushed { members_of members.new ≡ (if is_ok result
-        then members_of members.old ++ (string_bytes name, doc_of value) ∷ []
-        else members_of members.old) }
-    ensures only { IfErr result (λ e. e ≡ DocError.Memory) }
-{
-    Ok(members.push(Text::from_string(name), value)?)
-}
-
 /// The document that a value is, whose texts it takes over.
 #[cycle(datum_from)]
 fn datum_from(alloc: Global, value: Value) -> Result<Datum, DocError>
@@ -180,8 +171,25 @@ fn members_from(alloc: Global, map: Map<String, Value>) -> Result<Members, DocEr
 {
     let mut members = Members::new(alloc);
     for (name, value) in map {
-        let value = datum_from(alloc, value)?;
-        push_member(&mut members, name, value)?;
+        add_member(alloc, name, value, &mut members)?;
     }
     Ok(members)
+}
+
+/// Adds the member of a name and a value at the end, both of which it takes over. A number that
+/// isn't whole is refused.
+#[cycle(datum_from)]
+fn add_member(
+    alloc: Global,
+    name: String,
+    value: Value,
+    members: &mut Members,
+) -> Result<(), DocError>
+    ensures ok { OnOk result (GainsMember
+        (string_bytes name) (view value) (members_of members.old) (members_of members.new)) }
+    ensures not_whole { IsErrOf result DocError.NotWhole → whole_doc (view value) ≡ None }
+    ensures only { IfErr result (λ e. (e ≡ DocError.Memory) ⊎ (e ≡ DocError.NotWhole)) }
+{
+    let value = datum_from(alloc, value)?;
+    Ok(members.push(Text::from_string(name), value)?)
 }

@@ -88,18 +88,18 @@ index_names_read t (f ∷ fs) is e =
     (λ i. sym n i ∷ s i) ∙ ap index_names c.4
 
 -- a table of what was read
-pub table_lawful : (f : Field) (name : Bytes) (fs : List Field) (is : List IndexSchema) → IsRegular f.1 → name ≡ f.0 → index_list f ≡ Ok fs → each (named_index f.0) fs ≡ Ok is → IsLawfulTable (record { name = name; indexes = is })
-table_lawful f name fs is regular same listed read =
+pub table_lawful : (f : Field) (fs : List Field) (is : List IndexSchema) → IsRegular f.1 → index_list f ≡ Ok fs → each (named_index f.0) fs ≡ Ok is → IsLawfulTable (record { name = f.0; indexes = is })
+table_lawful f fs is regular listed read =
     let l = index_list_found f fs listed in
     let long = same_length (named_index f.0) fs is read in
-    subst (λ (n : Bytes). IsLawfulTable (record { name = n; indexes = is })) (sym same) (record {
+    record {
       name = l.name;
       some = subst (λ n. 0 < n) (sym long) l.some;
       few = subst (λ n. n ≤ 32) (sym long) l.few;
       order = subst (λ (ns : List Bytes). AreInOrder ns) (index_names_read f.0 fs is read) (l.regular regular).0;
       has_id = found_again f.0 (codes "id") fs is l.id read l.has_id;
       each = all_of (λ (i : IndexSchema). IsLawfulIndex i) (named_index f.0) (λ g j h. (named_kept f.0 g j h).0) fs is read;
-    })
+    }
 
 table_kept : (f : Field) (t : TableSchema) → IsRegular f.1 → table_in f ≡ Ok t → IsLawfulTable t × (f.0 ≡ t.name)
 table_kept f t regular e =
@@ -109,7 +109,7 @@ table_kept f t regular e =
     let made : TableSchema = record { name = f.0; indexes = x.0 } in
     let is : made ≡ t = let h = x.2 in cc in
     subst (λ (u : TableSchema). IsLawfulTable u × (f.0 ≡ u.name)) {x = made} is
-    (table_lawful f f.0 m.0 x.0 regular refl (unnamed (Some f.0) None (index_list f) m.0 m.1) x.1, refl)
+    (table_lawful f m.0 x.0 regular (unnamed (Some f.0) None (index_list f) m.0 m.1) x.1, refl)
 
 tables_kept : (fs : List Field) (ts : List TableSchema) → EachRegular fs → each table_in fs ≡ Ok ts → All IsLawfulTable ts × (map (λ (f : Field). f.0) fs ≡ table_names ts)
 tables_kept [] ts regular e =

@@ -7,7 +7,7 @@ ghost use Rattle.mdb_datum.specs.Reading.{reading};
 ghost use Rattle.mdb_encode.specs.Kind.{indexer_of};
 ghost use Rattle.mdb_encode.specs.Lawful.{IsLawful};
 ghost use Rattle.mdb_schema.specs.Broken.{each};
-ghost use Rattle.mdb_schema.specs.LawfulSchema.{IsLawfulIndex, IsLawfulSchema};
+ghost use Rattle.mdb_schema.specs.LawfulSchema.{IsLawfulIndex, IsLawfulSchema, IsLawfulTable};
 ghost use Rattle.mdb_schema.specs.Names.{is_declared_name};
 ghost use Rattle.mdb_schema.specs.Reading.{is_multi, id_in, index_rules, index_members, index_kind};
 ghost use Rattle.mdb_schema.specs.Reading.{index_in, named_index, is_version_one, index_list};
@@ -234,6 +234,16 @@ fn indexes_in(alloc: Global, table: &Text, members: &Members) -> Result<Vec<Inde
     Ok(indexes)
 }
 
+/// The table of these indexes, under a copy of the name.
+fn table_of(alloc: Global, name: &Text, indexes: Vec<IndexDef>) -> Result<TableDef, AllocError>
+    requires { IsLawfulTable (record { name = name.now; indexes = indexes.items }) }
+    ensures { IfOk result (λ table. table
+        ≡ record { name = name.now; indexes = indexes.items }) }
+{
+    let own = Text::of(alloc, name.as_str())?;
+    TableDef::of(alloc, own, indexes)
+}
+
 /// The table under a name.
 fn table_in(alloc: Global, name: &Text, document: &Datum) -> Result<TableDef, SchemaError>
     requires { IsRegular (doc_of document.now) }
@@ -244,8 +254,7 @@ fn table_in(alloc: Global, name: &Text, document: &Datum) -> Result<TableDef, Sc
         Err(rule) => return Err(named(alloc, IndexerError::Broken(rule), Some(name), None)),
     };
     let indexes = indexes_in(alloc, name, members)?;
-    let name = Text::of(alloc, name.as_str())?;
-    Ok(TableDef::of(alloc, name, indexes)?)
+    Ok(table_of(alloc, name, indexes)?)
 }
 
 /// Whether the version of the format is 1, the only one.

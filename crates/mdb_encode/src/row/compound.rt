@@ -43,12 +43,10 @@ fn compound_len(parts: &Kinds, allow_missing: bool, row: &Row) -> Result<Option<
 {
     let mut len: usize = 0;
     for part in parts.iter() {
-        match read_part(part, row) {
-            Ok(Some(piece)) => len = len.saturating_add(piece.len()),
-            Ok(None) if allow_missing => return Ok(Some(len)),
-            Ok(None) => return Ok(None),
-            Err(refusal) => return Err(refusal),
-        }
+        let Some(piece) = read_part(part, row)? else {
+            return Ok(allow_missing.then_some(len));
+        };
+        len = len.saturating_add(piece.len());
     }
     Ok(Some(len))
 }

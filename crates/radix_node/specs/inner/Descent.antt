@@ -18,8 +18,8 @@ pairs_by At n = pairs_if [] n
 pairs_by Within n = pairs_if [] n
 pairs_by Outside n = []
 
--- the node, which in memory has no label before its prefix, is the last one of a key's walk, and what
--- the key finds there is what the walk finds
+-- The node is the last one of a key's walk, and the key finds there what the walk finds. In memory
+-- the label stands in the edge and not before the node's prefix.
 pub record EndsAt (end : End) (n : CellNode) (way : KeyEnd) : Type 0 where
   pub cell : n.cell ≡ end.node.cell
   pub leaf : end_leaf end ≡ leaf_by way n.leaf

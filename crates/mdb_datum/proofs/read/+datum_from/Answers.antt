@@ -43,18 +43,17 @@ members_from-loop-name-preserved t c =
     let l = c.loop-name in
     let fs = members_of l.members in
     let name = string_bytes c.in-Some.name in
-    let d = doc_of c.in_ok-value.value in
+    let gained = c.in_ok-add_member.ensures.ok in
     let rest = c.next.new.self in
     let step : l.name-iterator ≡ (c.in-Some.name, c.in-Some.value) ∷ rest = search rules in
-    let pushed : members_of c.push_member.new.members ≡ fs ++ (name, d) ∷ [] = search rules in
     record {
       can_next = tt;
       is_finite = tt;
       so_far = l.invariant.so_far ∙ ap (λ es. option_map (fields_before fs) (whole_fields (members_view es))) step
-          ∙ whole_fields-more fs name d (view c.in-Some.value) (members_view rest) c.in_ok-value.ensures.ok
-          ∙ ap (λ xs. option_map (fields_before xs) (whole_fields (members_view rest))) (sym pushed);
-      regular = subst (λ xs. HaveRegularMembers (field_list xs)) (sym pushed) (HaveRegularMembers-one_more fs name d l.invariant.regular (IsUtf8-had name c.in-Some.name.ok) c.in_ok-value.ensures.regular);
-      names = ap (λ xs. names_of xs ++ key_bytes rest) pushed ∙ names_of-one_more fs name d (key_bytes rest) ∙ ap (λ es. names_of fs ++ key_bytes es) (sym step) ∙ l.invariant.names;
+          ∙ whole_fields-more fs name gained.doc (view c.in-Some.value) (members_view rest) gained.whole
+          ∙ ap (λ xs. option_map (fields_before xs) (whole_fields (members_view rest))) (sym gained.added);
+      regular = subst (λ xs. HaveRegularMembers (field_list xs)) (sym gained.added) (HaveRegularMembers-one_more fs name gained.doc l.invariant.regular (IsUtf8-had name c.in-Some.name.ok) gained.regular);
+      names = ap (λ xs. names_of xs ++ key_bytes rest) gained.added ∙ names_of-one_more fs name gained.doc (key_bytes rest) ∙ ap (λ es. names_of fs ++ key_bytes es) (sym step) ∙ l.invariant.names;
     }
 
 pub members_from-returns-clause-ok : goal.members_from-returns-clause-ok

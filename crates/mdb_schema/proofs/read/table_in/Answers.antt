@@ -1,9 +1,9 @@
 -- The indexes stand in the order of the members that they were read from.
-use Rattle.std.proofs.Common.{◌∙◌, sym}
+use Rattle.std.proofs.Common.{sym}
 use Rattle.mdb_datum.specs.Datum.{doc_of, members_of}
 use Rattle.mdb_schema.proofs.LawfulSchemas.{table_lawful}
 use Rattle.mdb_schema.proofs.read.table_in.Goals as goal
 
-pub of-requires-2 : goal.of-requires-2
-of-requires-2 c =
-    table_lawful (c.args.name.now, doc_of c.args.document.now) c.in_ok-name.name (members_of c.in-Ok.members.now) c.in_ok-indexes.indexes.items c.requires (c.in_ok-name.ensures ∙ c.as_str.ensures) (sym c.in-Ok.ensures) c.in_ok-indexes.ensures
+pub table_of-requires : goal.table_of-requires
+table_of-requires c =
+    table_lawful (c.args.name.now, doc_of c.args.document.now) (members_of c.in-Ok.members.now) c.in_ok-indexes.indexes.items c.requires (sym c.in-Ok.ensures) c.in_ok-indexes.ensures
