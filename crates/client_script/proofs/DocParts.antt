@@ -4,22 +4,17 @@ use Rattle.std.specs.Prelude.{◌&&◌}
 use Rattle.std.specs.List.{list_all, slice_get}
 use Rattle.std.proofs.lemmas.List.{drop_more}
 use Rattle.std.proofs.lemmas.Option.{slice_get_within, get_or_from_slice_get}
-use Rattle.mdb_datum.specs.Datum.{doc_of, items_of, members_of}
+use Rattle.mdb_datum.specs.Datum.{doc_of, members_of}
 use Rattle.mdb_datum.specs.Doc.{Doc}
 use Rattle.mdb_datum.specs.Reading.{read_as}
 use Rattle.mdb_datum.specs.declared.datum.Datum as datum
-use Rattle.mdb_datum.specs.declared.datum.Items.{Items}
 use Rattle.mdb_datum.specs.declared.datum.Members.{Members}
-use Rattle.mdb_datum.proofs.Variants.{doc_of_items, doc_of_members, docs_there_and_back, fields_there_and_back}
+use Rattle.mdb_datum.proofs.Variants.{doc_of_members, fields_there_and_back}
 use Rattle.client_script.specs.Parts.{object_in, is_scalar}
-use Rattle.mdb_schema.specs.Shapes.{list_in}
 
 pub object_found : (d : datum.Datum) (m : Members) → d ≡ datum.Members m → Some (members_of m) ≡ object_in (read_as (doc_of d))
 object_found d m is =
     sym (ap (λ x. object_in (read_as x)) (ap doc_of is ∙ doc_of_members m) ∙ ap Some (fields_there_and_back (members_of m)))
-
-pub list_found : (d : datum.Datum) (l : Items) → d ≡ datum.Items l → Some (items_of l) ≡ list_in (doc_of d)
-list_found d l is = sym (ap list_in (ap doc_of is ∙ doc_of_items l) ∙ ap Some (docs_there_and_back (items_of l)))
 
 -- a test of each item from a place on
 pub scalars_from : (ds : List Doc) (at : ℕ) (d : Doc) (b : Bool) → Some d ≡ slice_get ds at → b ≡ is_scalar d → list_all is_scalar (drop at ds) ≡ (b && list_all is_scalar (drop (at + 1) ds))

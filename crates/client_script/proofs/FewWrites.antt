@@ -16,7 +16,7 @@ use Rattle.mdb_schema.specs.State.{State, empty_state, IsLawfulState}
 use Rattle.mdb_schema.specs.Tests.{◌>>=◌, needed, passed}
 use Rattle.mdb_schema.specs.Wipe.{wipe, wipe_by_prefix}
 use Rattle.mdb_schema.specs.Write.{Write, put, remove, Stepped, step}
-use Rattle.mdb_schema.proofs.LawfulStates.{state_at_lawful, writes_keep}
+use Rattle.mdb_schema.proofs.LawfulStates.{after_writes-append, state_at_lawful, writes_keep}
 use Rattle.client_script.specs.Alone.{alone, commit_printed}
 use Rattle.client_script.specs.Client.{Sight, Writing, Transaction, closed, reading, writing, Client, at_start, state_seen, snapshot_named, none_open, some_open, read_open, write_open, sight_of, Judged}
 use Rattle.client_script.specs.Legal.{Legal, printed, number_printed, all_printed, callers}
@@ -30,7 +30,7 @@ use Rattle.client_script.specs.declared.line.Line.{Line}
 use Rattle.client_script.specs.inner.Within.{IsWithin}
 use Rattle.client_script.proofs.LongerHistory.{next_within, start_within}
 use Rattle.client_script.proofs.OneClient.{AreTurns, IsOn, Keeps, same, commits, keeps, StandsOn, Prints, told_here, later, later_commit, next_commit, within_history, within_up, told_each, as_many, printed_few, one_session, self_le, writing_is, rows_told}
-use Rattle.client_script.proofs.RowCounts.{rows_in, rows_in-empty, put_count, remove_count, wipe_count, wipe_by_prefix_count, after_both}
+use Rattle.client_script.proofs.RowCounts.{rows_in, rows_in-empty, put_count, remove_count, wipe_count, wipe_by_prefix_count}
 
 -- after so many lines: a transaction stands on the first k commits, and all writes until now, with
 -- as many rows as it sees, are at most two for each line
@@ -60,7 +60,7 @@ grown : (schema : DbSchema) (H : History) (k lines : ℕ) (x : Writing) (ws : Li
     → Bounded schema H k (suc lines) (writing (record { number = x.number; writes = x.writes ++ ws; texts = texts }))
 grown schema H k lines x ws texts bound few =
     let size = length-append x.writes ws in
-    let seen = ap rows_in (after_both schema (state_at schema H x.number) x.writes ws) in
+    let seen = ap rows_in (after_writes-append schema (state_at schema H x.number) x.writes ws) in
     let le = bound.1 in
     (bound.0, omega (arith, size, seen, le, few))
 

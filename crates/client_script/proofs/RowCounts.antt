@@ -1,6 +1,6 @@
 -- How many rows a state holds: a put adds one at most, a removal takes one, and a wipe takes as
 -- many as it has writes.
-use Rattle.std.proofs.Common.{arith, ◌≡◌, refl, ap, subst, sym, ℕ, zero, suc, ◌+◌, ◌≤◌, List, [], ◌∷◌, ◌++◌, length, slice_get, slice_set, Bool, true, false, Option, Some, Ok}
+use Rattle.std.proofs.Common.{arith, ◌≡◌, refl, ap, subst, sym, ℕ, zero, suc, ◌+◌, ◌≤◌, List, [], ◌∷◌, length, slice_get, slice_set, Bool, true, false, Option, Some, Ok}
 use Rattle.std.specs.Prelude.{if◌then◌else◌}
 use Rattle.std.specs.Ordering.{match_ordering}
 use Rattle.std.specs.Str.{bytes_eq}
@@ -97,9 +97,3 @@ wipe_count schema s q ws laws lawful e = wiped_count schema s q ws (wipe-ok sche
 
 pub wipe_by_prefix_count : (schema : DbSchema) (s : State) (q : Query) (ws : List Write) → IsLawfulSchema schema → IsLawfulState schema s → wipe_by_prefix schema s q ≡ Ok ws → rows_in (after_writes schema s ws) + length ws ≡ rows_in s
 wipe_by_prefix_count schema s q ws laws lawful e = wiped_count schema s q ws (wipe_by_prefix-ok schema s q ws e) laws lawful
-
--- ---- writes and commits in turn
-
-pub after_both : (schema : DbSchema) (s : State) (ws vs : List Write) → after_writes schema s (ws ++ vs) ≡ after_writes schema (after_writes schema s ws) vs
-after_both schema s [] vs = refl
-after_both schema s (w ∷ ws) vs = after_both schema (state_or s (step schema s w)) ws vs

@@ -155,7 +155,7 @@ fn all_scalars(items: &Items) -> bool
 }
 
 /// The items of a list.
-#[tactic(auto, using(crate::proofs::DocParts::list_found))]
+#[tactic(auto, using(mdb_schema::proofs::ShapeLemmas::list_found))]
 fn list_in(document: Datum) -> Option<Items>
     ensures { option_map items_of result ≡ list_in (doc_of document) }
 {

@@ -5,7 +5,7 @@ use Rattle.std.specs.Prelude.{if◌then◌else◌, nat_eq}
 use Rattle.std.specs.Str.{bytes_eq}
 use Rattle.std.proofs.lemmas.Bool.Decides.{nat_tests}
 use Rattle.mdb_datum.specs.Bytes.{Bytes}
-use Rattle.mdb_schema.proofs.Membership.{Contains-cons_cases, Contains-first, Contains-later, Contains-nil, bytes_eq-itself}
+use Rattle.mdb_schema.proofs.Membership.{Contains-cons_cases, Contains-first, Contains-later, Contains-nil, bytes_eq-itself, same_key}
 use Rattle.mdb_schema.specs.Answer.{Lookup, lookup_of}
 use Rattle.mdb_schema.specs.Query.{Query}
 use Rattle.mdb_schema.specs.Schema.{DbSchema, TableSchema, table_place}
@@ -20,7 +20,6 @@ use Rattle.mem_txn.proofs.HeldAlong.{held_asked}
 use Rattle.watch_set.specs.Members.{AreHeldBy, CellName, Member, cell_name, has_cell, names_eq, watches_of}
 use Rattle.client_script.specs.Watching.{AreOfOneIndex}
 use Rattle.client_session.proofs.IndexPlaces.{ok_once, one_index_asked, some_once}
-use Rattle.client_session.proofs.WatchesNamed.{same_bytes}
 
 -- ---- equal names of cells
 
@@ -38,7 +37,7 @@ pub parts_equal : (a b : CellName) → names_eq a b ≡ true → (a.table ≡ b.
 parts_equal a b e =
     let first = both_hold (nat_eq a.id b.id) (nat_eq a.index b.index && bytes_eq a.table b.table) e in
     let rest = both_hold (nat_eq a.index b.index) (bytes_eq a.table b.table) first.1 in
-    (same_bytes a.table b.table rest.1, same_numbers a.index b.index rest.0, same_numbers a.id b.id first.0)
+    (same_key a.table b.table rest.1, same_numbers a.index b.index rest.0, same_numbers a.id b.id first.0)
 
 pub name_itself : (a : CellName) → names_eq a a ≡ true
 name_itself a =

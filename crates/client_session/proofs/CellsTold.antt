@@ -16,6 +16,7 @@ use Rattle.mem_txn.specs.CellHistory.{AreComplete, CellHistory, Forest, asked_in
 use Rattle.mem_txn.specs.Checked.{IsBeginning, IsFired, IsHeldBy}
 use Rattle.mem_txn.specs.Database.{Caller, cells_seen}
 use Rattle.mem_txn.specs.Held.{HeldWatch}
+use Rattle.mem_txn.proofs.HeldAlong.{length_longer}
 use Rattle.client_script.proofs.LongerHistory.{answered_within, answers_longer, start_within}
 use Rattle.client_script.specs.inner.Within.{IsWithin}
 use Rattle.client_script.specs.Client.{Client, Watch, WatchSet, at_start}
@@ -26,7 +27,7 @@ use Rattle.client_script.specs.Watching.{set_for}
 use Rattle.client_script.specs.declared.command.Command.{Command}
 use Rattle.client_script.specs.declared.command.Command.TheVariants as command
 use Rattle.client_script.specs.declared.line.Line.{Line}
-use Rattle.client_session.proofs.QuietBefore.{as_long, state_of_more}
+use Rattle.client_session.proofs.QuietBefore.{state_of_more}
 use Rattle.client_session.specs.Cells.{AreOfOneCell, AreOfOtherCells, HasCell, HasEachCellOnce, HasMoved, HasTreesAfter, RunsByCells, TellsCells}
 use Rattle.client_session.specs.inner.WatchingView.{watch_of}
 
@@ -115,8 +116,8 @@ module _ (p q : Caller) (more : IsBeginning p q) where
 
   trees_more : (n : ℕ) → HasTreesAfter J n → HasTreesAfter K n
   trees_more n h =
-      let commits = as_long p.seen q.seen more.seen in
-      let trees = as_long p.trees q.trees more.trees in
+      let commits = length_longer p.seen q.seen more.seen in
+      let trees = length_longer p.trees q.trees more.trees in
       record { commit = omega (arith, h.commit, commits); trees = omega (arith, h.trees, trees) }
 
   -- a question has the cell that it had

@@ -8,7 +8,7 @@ use Rattle.mdb_schema.specs.Answer.{Asked, Lookup, bad_argument, has_argument, k
 use Rattle.mdb_schema.specs.Query.{Query}
 use Rattle.mdb_schema.specs.Schema.{IndexSchema, TableSchema, index_place}
 use Rattle.mdb_schema.specs.Tests.{◌>>=◌, needed, passed}
-use Rattle.client_session.proofs.WatchesNamed.{same_bytes}
+use Rattle.mdb_schema.proofs.Membership.{same_key}
 
 -- ---- values found twice
 
@@ -38,7 +38,7 @@ one_index a b (i ∷ is) n e f = of (bytes_eq i.name a) (bytes_eq i.name b) refl
     of : (c d : Bool) → bytes_eq i.name a ≡ c → bytes_eq i.name b ≡ d → (if c then Some 0 else option_map (λ m. m + 1) (index_place a is)) ≡ Some n
         → (if d then Some 0 else option_map (λ m. m + 1) (index_place b is)) ≡ Some n
         → ((m : ℕ) → index_place a is ≡ Some m → index_place b is ≡ Some m → a ≡ b) → a ≡ b
-    of true true c d e' f' rest = sym (same_bytes i.name a c) ∙ same_bytes i.name b d
+    of true true c d e' f' rest = sym (same_key i.name a c) ∙ same_key i.name b d
     of true false c d e' f' rest = first_none (index_place b is) (f' ∙ sym e')
     of false true c d e' f' rest = first_none (index_place a is) (e' ∙ sym f')
     of false false c d e' f' rest =

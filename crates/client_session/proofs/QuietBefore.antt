@@ -1,5 +1,5 @@
 -- What is told of a quiet watch holds after fewer commits too, and in a longer history.
-use Rattle.std.proofs.Common.{◌≡◌, ◌∙◌, ◌+◌, ◌-◌, ◌<◌, ◌≤◌, ◌++◌, ◌⊎◌, inl, inr, ℕ, zero, suc, List, [], ◌∷◌, length, slice_get, length-append, refl, sym, ap, subst, arith}
+use Rattle.std.proofs.Common.{◌≡◌, ◌∙◌, ◌+◌, ◌-◌, ◌<◌, ◌≤◌, ◌++◌, ◌⊎◌, inl, inr, ℕ, zero, suc, List, [], ◌∷◌, length, slice_get, refl, sym, ap, subst, arith}
 use Rattle.std.proofs.Math.Nat.{eq-or-lt_of_le}
 use Rattle.std.proofs.lemmas.List.{take-append-le}
 use mathlib.Core.List.{IsPrefix}
@@ -26,10 +26,6 @@ unchanged_before schema H caller q v m n less is = of (eq-or-lt_of_le less)
     }
 
 -- ---- a longer history
-
--- a longer list is as long or longer
-pub as_long : {X : Type 0} (xs ys : List X) → IsPrefix xs ys → length xs ≤ length ys
-as_long xs ys p = let all : length ys ≡ length xs + length p.0 = ap length (sym p.1) ∙ length-append xs p.0 in omega (arith, all)
 
 -- the state after a commit is that of each longer history
 pub state_of_more : (schema : DbSchema) (old new : History) (n : ℕ) → IsPrefix old new → n ≤ length old → state_at schema new n ≡ state_at schema old n

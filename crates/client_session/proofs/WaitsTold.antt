@@ -31,8 +31,8 @@ use Rattle.client_session.proofs.CellsTold.{fired_moved}
 use Rattle.client_session.proofs.HeldOn.{holds_longer, knows_longer}
 use Rattle.client_session.proofs.IndexPlaces.{some_once}
 use Rattle.mem_txn.specs.CellHistory.{AreComplete, MovesAreTouches}
+use Rattle.mem_txn.proofs.HeldAlong.{length_longer}
 use Rattle.client_session.proofs.LooksTold.{called_no_set, called_none, called_set, called_watch, checked_begins, fired_touched, judged_not, judged_so, named_watch, prints_count, prints_none, unknown, until_free, wait_free}
-use Rattle.client_session.proofs.QuietBefore.{as_long}
 use Rattle.client_session.proofs.SetsJoined.{set_there}
 use Rattle.client_session.proofs.QuietMembers.{Follows, first_quiet, follows_itself, follows_on, follows_seen, look_quiet, look_quiet_until, looks_follow, members_quiet, quiet_follows}
 
@@ -151,7 +151,7 @@ wait_quiet g set (Some until) old new ms u there quiet v may =
 
 module _ (old last new : Caller) (first : Follows old last) (law : MovesAreTouches (cells_seen new)) (ms : List Member) (s : WatchSet) (set_is : IsSet old ms s) (v : Client) (few : v.last ≤ length old.seen) where
   within_last : v.last ≤ length last.seen
-  within_last = let more = as_long old.seen last.seen first.seen in omega (arith, few, more)
+  within_last = let more = length_longer old.seen last.seen first.seen in omega (arith, few, more)
 
   woken_is : (place at : ℕ) (m : Member) (mid : Caller) → AreHeldBy new (watches_of ms) → slice_get ms place ≡ Some m → checks.AreQuiet last (take place (watches_of ms)) mid → checks.HasFired mid new m.held at
       → IsWoken new.schema new.seen new.number (length new.seen) v s (woken_by m.name at)

@@ -3,14 +3,10 @@ use Rattle.std.proofs.Common.{◌≡◌, ◌∙◌, ◌++◌, Bool, true, false,
 use Rattle.std.specs.Prelude.{if◌then◌else◌, option_map}
 use Rattle.std.specs.Str.{bytes_eq}
 use Rattle.std.proofs.lemmas.Bool.{both_ways}
-use Rattle.std.proofs.lemmas.Slice.Eq.{bytes_eq-Decides}
 use Rattle.mdb_datum.specs.Bytes.{Bytes}
-use Rattle.mdb_schema.proofs.Membership.{bytes_eq-itself}
+use Rattle.mdb_schema.proofs.Membership.{bytes_eq-itself, same_key}
 use Rattle.client_script.specs.Client.{Watch, WatchSet, set_named, watch_named}
 use Rattle.client_script.specs.Watching.{put_set}
-
-pub same_bytes : (a b : Bytes) → bytes_eq a b ≡ true → a ≡ b
-same_bytes a b e = (bytes_eq-Decides a b).0 e
 
 -- ---- one more watch
 
@@ -42,7 +38,7 @@ module _ {X : Type 0} (of : Bytes → X → Watch) (named : (q : Bytes) (x : X) 
     where
       by_name : (b : Bool) → bytes_eq name q ≡ b → first_found (option_map (of q) old) (if b then Some (of name x) else None) ≡ option_map (of q) (cond b (Some x) old)
       by_name true e =
-          ap (λ (o : Option X). first_found (option_map (of q) o) (Some (of name x))) (none e) ∙ ap (λ (n : Bytes). Some (of n x)) (same_bytes name q e)
+          ap (λ (o : Option X). first_found (option_map (of q) o) (Some (of name x))) (none e) ∙ ap (λ (n : Bytes). Some (of n x)) (same_key name q e)
       by_name false e = found_alone (option_map (of q) old)
 
 -- ---- a set in the place of the one of its name
@@ -57,13 +53,13 @@ set_put q s (x ∷ ss) = by_name (bytes_eq x.name s.name) refl (set_put q s ss)
 
     other : (b c : Bool) → bytes_eq x.name q ≡ b → bytes_eq s.name q ≡ c → bytes_eq x.name s.name ≡ false → (if b then Some x else cond c (Some s) (set_named q ss)) ≡ cond c (Some s) (if b then Some x else set_named q ss)
     other true true e f apart =
-        absurd (both_ways (bytes_eq x.name s.name) apart (ap (λ (n : Bytes). bytes_eq n s.name) (same_bytes x.name q e ∙ sym (same_bytes s.name q f)) ∙ bytes_eq-itself s.name))
+        absurd (both_ways (bytes_eq x.name s.name) apart (ap (λ (n : Bytes). bytes_eq n s.name) (same_key x.name q e ∙ sym (same_key s.name q f)) ∙ bytes_eq-itself s.name))
     other true false e f apart = refl
     other false c e f apart = refl
 
     by_name : (b : Bool) → bytes_eq x.name s.name ≡ b → set_named q (put_set s ss) ≡ cond (bytes_eq s.name q) (Some s) (set_named q ss)
         → set_named q (if b then s ∷ ss else x ∷ put_set s ss) ≡ cond (bytes_eq s.name q) (Some s) (set_named q (x ∷ ss))
-    by_name true e rest = same (bytes_eq s.name q) refl (same_bytes x.name s.name e)
+    by_name true e rest = same (bytes_eq s.name q) refl (same_key x.name s.name e)
     by_name false e rest =
         ap (λ (o : Option WatchSet). if bytes_eq x.name q then Some x else o) rest
         ∙ other (bytes_eq x.name q) (bytes_eq s.name q) refl refl e

@@ -19,6 +19,7 @@ use Rattle.mdb_schema.specs.Write.{Write}
 use Rattle.mdb_schema.specs.declared.answer.Answer.{Answer}
 use Rattle.mdb_schema.specs.declared.ask_error.AskError.{AskError}
 use Rattle.mdb_schema.specs.declared.ask_error.AskError.TheVariants as ask_errors
+use Rattle.mdb_schema.proofs.Membership.{same_key}
 use Rattle.mem_txn.specs.Checked.{IdsTellCells, IsHeldBy}
 use Rattle.mem_txn.specs.Database.{Caller, Reading, cells_seen, reading_of}
 use Rattle.mem_txn.specs.Held.{AnswersHeld, HeldWatch, IsHeldOf, tells_own}
@@ -46,7 +47,7 @@ use Rattle.client_session.proofs.IndexPlaces.{ok_once, some_once}
 use Rattle.client_session.proofs.LooksTold.{called_none, called_watch, judged_not, judged_so, unknown}
 use Rattle.client_session.proofs.QuietBefore.{state_of_more}
 use Rattle.client_session.proofs.SetsJoined.{AddsTo, count_known, put_added, set_added}
-use Rattle.client_session.proofs.WatchesNamed.{same_bytes, watches_more}
+use Rattle.client_session.proofs.WatchesNamed.{watches_more}
 
 -- ---- the answer to a question with its watch
 
@@ -228,7 +229,7 @@ module _ (p : Caller) (v : Client) (s : Sight) (name : Bytes) (q : Query) where
             watches = λ n.
                 ap (λ (w : Watch). watch_named n (v.watching.watches ++ w ∷ [])) own_watch
                 ∙ watches_more watch_of (λ m x. refl) name h v.watching.watches n (get_by_text old.watches.kept n)
-                (λ same. ap (λ (m : Bytes). get_by_text old.watches.kept m) (sym (same_bytes name n same)) ∙ no_watch) (knows.watches n)
+                (λ same. ap (λ (m : Bytes). get_by_text old.watches.kept m) (sym (same_key name n same)) ∙ no_watch) (knows.watches n)
                 ∙ ap (λ (o : Option HeldWatch). option_map (watch_of n) o) (sym (kept n));
             sets = λ n. subst (λ (x : Sets). IsSetOf p (get_by_text x.kept n) (set_named n v.watching.sets)) (sym sets) (knows.sets n);
           };

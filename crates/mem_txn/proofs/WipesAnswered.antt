@@ -5,7 +5,7 @@ use Rattle.std.proofs.lemmas.List.{length-map}
 use Rattle.mdb_datum.specs.Row.{Fields}
 use Rattle.mdb_encode.specs.Bytes.{Bytes}
 use Rattle.mdb_schema.specs.Answer.{Asked, AskRefusal, is_prefix_name, no_prefix_name, unknown_table}
-use Rattle.mdb_schema.specs.History.{after_writes, state_or, writes_in}
+use Rattle.mdb_schema.specs.History.{after_writes, writes_in}
 use Rattle.mdb_schema.specs.LawfulSchema.{IsLawfulTable}
 use Rattle.mdb_schema.specs.Query.{Query}
 use Rattle.mdb_schema.specs.Refusals.{ask_error}
@@ -14,9 +14,9 @@ use Rattle.mdb_schema.specs.State.{State, Table, table_at}
 use Rattle.mdb_schema.specs.Tests.{◌>>=◌, passed}
 use Rattle.mdb_schema.specs.Touched.{rows_written}
 use Rattle.mdb_schema.specs.Wipe.{removals, wiped_rows, without_rows}
-use Rattle.mdb_schema.specs.Write.{Write, remove, step}
+use Rattle.mdb_schema.specs.Write.{Write, remove}
 use Rattle.mdb_schema.proofs.Chains.{passed_on}
-use Rattle.mdb_schema.proofs.LawfulStates.{state_at_lawful, writes_keep}
+use Rattle.mdb_schema.proofs.LawfulStates.{after_writes-append, state_at_lawful, writes_keep}
 use Rattle.mdb_schema.proofs.PassedTests.{needed_on}
 use Rattle.mdb_schema.proofs.Removals.{AreRowsOnce, Removes, removals_accepted}
 use Rattle.mdb_schema.proofs.Tables.{IsTableAt, slice_set-same, table_at-some}
@@ -40,12 +40,6 @@ use Rattle.mem_txn.proofs.IdsCounted.{counted_more, counted_same, ids_full}
 use Rattle.mem_txn.proofs.SinceBegun.{AddsAt, removed_rows, since_more}
 use Rattle.mem_txn.proofs.StepsMade.{is_sound, stand-set}
 use Rattle.mem_txn.proofs.TablesFound.{schema_there, stand_table, table_at-none, table_place_named}
-
--- ---- writes, one list after another
-
-pub after_writes-append : (schema : DbSchema) (s : State) (ws vs : List Write) → after_writes schema s (ws ++ vs) ≡ after_writes schema (after_writes schema s ws) vs
-after_writes-append schema s [] vs = refl
-after_writes-append schema s (w ∷ ws) vs = after_writes-append schema (state_or s (step schema s w)) ws vs
 
 -- ---- the writes of a wipe
 
