@@ -2,13 +2,14 @@
 use Rattle.std.proofs.Common.{◌≡◌, ◌≢◌, ◌∙◌, ℕ, zero, suc, List, [], ◌∷◌, map, filter, length, set, slice_get, Bool, true, false, not, cond, Some, refl, sym, ap}
 use Rattle.std.specs.Ordering.{eq_by_cmp}
 use Rattle.mdb_datum.specs.Bytes.{is_prefix}
+use Rattle.mdb_datum.specs.Pairs.{rows_of, with_prefix}
 use Rattle.mdb_datum.specs.Row.{Pair}
 use Rattle.mdb_encode.specs.Bytes.{Bytes, byte_order}
-use Rattle.mdb_schema.specs.Schema.{IndexSchema}
 use Rattle.mdb_schema.specs.inner.Edits.{without, without_all}
 use Rattle.radix_node.specs.Pairs.{without_prefix}
+use Rattle.radix_txn.specs.Txn.{Txn, txn_pairs}
 use Rattle.table_index.specs.inner.TreeEdits.{without_each}
-use Rattle.table_index.specs.inner.Wipes.{cut_at}
+use Rattle.table_index.specs.inner.Wipes.{cut_at, listed_from}
 
 module _ {X : Type 0} where
   filter_keep : (p : X → Bool) (x : X) (xs : List X) → p x ≡ true → filter p (x ∷ xs) ≡ x ∷ filter p xs
@@ -62,8 +63,21 @@ set-cut_at key (x ∷ es) zero e there = let same : x ≡ e = cc in ap (λ (y : 
 set-cut_at key (x ∷ es) (suc place) e there = ap (λ (l : List (List Pair)). x ∷ l) (set-cut_at key es place e there)
 
 -- a cut of nothing
-pub cut_at-nothing : (key : Bytes) (f : IndexSchema → List Pair) (is : List IndexSchema) (place : ℕ) → ((i : IndexSchema) → slice_get is place ≡ Some i → without_prefix key (f i) ≡ f i)
+pub cut_at-nothing : {X : Type 0} (key : Bytes) (f : X → List Pair) (is : List X) (place : ℕ) → ((i : X) → slice_get is place ≡ Some i → without_prefix key (f i) ≡ f i)
     → cut_at key (map f is) place ≡ map f is
 cut_at-nothing key f [] place none = refl
 cut_at-nothing key f (i ∷ is) zero none = ap (λ (e : List Pair). e ∷ map f is) (none i refl)
 cut_at-nothing key f (i ∷ is) (suc place) none = ap (λ (l : List (List Pair)). f i ∷ l) (cut_at-nothing key f is place none)
+
+-- no key begins with the key where no row is listed under it
+none_begins : (key : Bytes) (es : List Pair) → rows_of (with_prefix key es) ≡ [] → without_prefix key es ≡ es
+none_begins key [] none = refl
+none_begins key (e ∷ es) none = of (is_prefix key e.0) none (none_begins key es)
+  where
+    of : (b : Bool) → rows_of (cond b (e ∷ with_prefix key es) (with_prefix key es)) ≡ [] → (rows_of (with_prefix key es) ≡ [] → without_prefix key es ≡ es)
+        → cond (not b) (e ∷ without_prefix key es) (without_prefix key es) ≡ e ∷ es
+    of true none later = cc
+    of false none later = ap (λ (l : List Pair). e ∷ l) (later none)
+
+pub cut_at-unlisted : (key : Bytes) (txns : List Txn) (place : ℕ) → listed_from key (slice_get txns place) ≡ [] → cut_at key (map txn_pairs txns) place ≡ map txn_pairs txns
+cut_at-unlisted key txns place none = cut_at-nothing key txn_pairs txns place (λ x there. none_begins key (txn_pairs x) (sym (ap (listed_from key) there) ∙ none))

@@ -1,13 +1,11 @@
 -- A wipe from its beginning to its end, as the code meets it.
-use Rattle.std.proofs.Common.{◌≡◌, ◌∙◌, ◌<◌, ◌≤◌, ◌+◌, ◌*◌, ◌^◌, ℕ, List, [], None, Some, length, slice_get, map, sym, ap, subst, arith}
-use Rattle.mdb_datum.specs.Pairs.{first_item, rows_of, with_prefix}
+use Rattle.std.proofs.Common.{◌≡◌, ◌∙◌, ◌<◌, ◌≤◌, ◌+◌, ◌*◌, ◌^◌, ℕ, Bool, List, [], Some, length, slice_get, map, sym, ap, subst, arith}
+use Rattle.mdb_datum.specs.Pairs.{rows_of, with_prefix}
 use Rattle.mdb_datum.specs.Row.{Fields}
 use Rattle.mdb_encode.specs.Bytes.{Bytes}
 use Rattle.mdb_schema.specs.LawfulSchema.{IsLawfulTable}
 use Rattle.mdb_schema.specs.Schema.{TableSchema}
-use Rattle.mdb_schema.specs.State.{id_key}
 use Rattle.mdb_schema.specs.Wipe.{once}
-use Rattle.mdb_schema.proofs.RowsLeft.{without_rows-nil}
 use Rattle.watch_word.specs.Logs.{Log}
 use Rattle.radix_node.specs.Ids.{Counter}
 use Rattle.radix_txn.specs.Txn.{Txn, txn_pairs}
@@ -15,11 +13,11 @@ use Rattle.table_index.specs.Table.{AreLeft}
 use Rattle.table_index.specs.declared.wipe_error.WipeError.{WipeError}
 use Rattle.table_index.specs.inner.Drawn.{HaveDrawn, ids_of_row}
 use Rattle.table_index.specs.inner.Held.{AreSound, AreTrees, nodes_of, rows_held}
-use Rattle.table_index.specs.inner.Wipes.{GivesUp, IsCut, IsMoved, IsUncut, IsWiped, is_there, listed_at, listed_from}
+use Rattle.table_index.specs.inner.Wipes.{GivesUp, IsCut, IsWiped, MovesNext, is_next_there, listed_at, listed_from}
 use Rattle.table_index.proofs.DrawnIds.{more_drawn, then_drawn}
 use Rattle.table_index.proofs.OneByOne.{taken_of}
 use Rattle.table_index.proofs.StoredRows.{same_count}
-use Rattle.table_index.proofs.WipeIds.{next_ahead, all_behind, moved_count, row_left, moved_few, all_few, end_few}
+use Rattle.table_index.proofs.WipeIds.{one_if, next_ahead, moved_count, row_left, moved_few, all_few}
 use Rattle.table_index.proofs.WipeSteps.{Stands, there_within, listed_is_at, taken_once, wipe_begins, wipe_ends}
 
 module _ (t : TableSchema) (table : IsLawfulTable t) (place : ℕ) (key : Bytes) (txns : List Txn) (held : AreTrees t (nodes_of txns)) (within : place < length t.indexes) where
@@ -46,19 +44,6 @@ module _ (t : TableSchema) (table : IsLawfulTable t) (place : ℕ) (key : Bytes)
       let drawn = subst (λ (l : List Fields). HaveDrawn log (4096 * length (once t l)) ids new txns after) from_is_at h in
       more_drawn log (4096 * length (once t defined)) (2 ^ 26 * length (once t defined)) ids new txns after (omega arith) drawn
 
-  pub nothing_wiped : (next : ℕ) (after : List Txn) (gone : List Fields) → gone ≡ [] → AreSound txns → IsUncut key place next txns after → AreLeft next (length (once t defined)) × IsWiped t (once t defined) gone txns after
-  nothing_wiped next after gone empty sound uncut =
-      let none : defined ≡ [] = sym from_is_at ∙ uncut.none in
-      subst (λ (l : List Fields). AreLeft next (length (once t l)) × IsWiped t (once t l) gone txns after) (sym none) (
-        uncut.left,
-        record {
-          each = empty;
-          held = subst (λ (xs : List Txn). AreTrees t (nodes_of xs)) (sym uncut.same) held;
-          rows = ap (λ (xs : List Txn). rows_held t (nodes_of xs)) uncut.same ∙ sym (without_rows-nil t all);
-          sound = subst AreSound (sym uncut.same) sound;
-        },
-      )
-
   -- ---- one that does
 
   module _ (listed : List Fields) (next : ℕ) (begun : List Txn) (cut : IsCut t place key listed next txns begun) where
@@ -84,39 +69,30 @@ module _ (t : TableSchema) (table : IsLawfulTable t) (place : ℕ) (key : Bytes)
 
     module _ (removed rest : List Fields) (before : List Txn) (log : Log) (ids now : Counter) (s : Stands t place key all listed removed rest before)
         (drawn : HaveDrawn log (4096 * length (once t listed) + 2 ^ 25 * length removed) ids now txns before) where
-      module _ (r : Fields) (first : first_item rest ≡ Some r) where
-        -- there are ids for a row that is still there
-        pub left_for : AreLeft ids.next (length (once t listed)) → now.next + ids_of_row (is_there t place (id_key t r) (map txn_pairs before)) ≤ 2 ^ 63
-        left_for left =
-            let there = is_there t place (id_key t r) (map txn_pairs before) in
-            let next_row = next_ahead t table place key all listed removed rest before r first s in
-            row_left (length (once t listed)) ids.next now.next (length removed) there (omega (arith, next_row, each_once)) left drawn.few
+      ahead : length removed + one_if (is_next_there t place rest (map txn_pairs before)) ≤ length (once t listed)
+      ahead = omega (arith, next_ahead t table place key all listed removed rest before s, each_once)
 
-        module _ (after : List Txn) (new : Counter) (more_ids : HaveDrawn log (ids_of_row (is_there t place (id_key t r) (map txn_pairs before))) now new before after) where
-          pub drawn_more : (more : List Fields) → IsMoved t place r before after removed more → HaveDrawn log (4096 * length (once t listed) + 2 ^ 25 * length more) ids new txns after
-          drawn_more more moved =
-              let n = length (once t listed) in
-              let there = is_there t place (id_key t r) (map txn_pairs before) in
-              then_drawn log (4096 * n + 2 ^ 25 * length removed) (ids_of_row there) (4096 * n + 2 ^ 25 * length more) ids now new txns before after drawn more_ids
-              (moved_few n (length removed) (length more) there (moved_count t place r before after removed more moved))
+      -- there are ids for the next row, if it is still there
+      pub left_for : AreLeft ids.next (length (once t listed)) → now.next + ids_of_row (is_next_there t place rest (map txn_pairs before)) ≤ 2 ^ 63
+      left_for left = row_left (length (once t listed)) ids.next now.next (length removed) (is_next_there t place rest (map txn_pairs before)) ahead left drawn.few
 
-          pub drawn_broken : HaveDrawn log (2 ^ 26 * length (once t defined)) ids new txns after
-          drawn_broken =
-              let n = length (once t listed) in
-              let there = is_there t place (id_key t r) (map txn_pairs before) in
-              let next_row = next_ahead t table place key all listed removed rest before r first s in
-              subst (λ (l : List Fields). HaveDrawn log (2 ^ 26 * length l) ids new txns after) listed_defined
-              (then_drawn log (4096 * n + 2 ^ 25 * length removed) (ids_of_row there) (2 ^ 26 * n) ids now new txns before after drawn more_ids (all_few n (length removed) there (omega (arith, next_row, each_once))))
+      module _ (after : List Txn) (new : Counter) (more_ids : HaveDrawn log (ids_of_row (is_next_there t place rest (map txn_pairs before))) now new before after) where
+        pub drawn_more : (more : Bool) (later gone : List Fields) → MovesNext t place more rest later before after removed gone → HaveDrawn log (4096 * length (once t listed) + 2 ^ 25 * length gone) ids new txns after
+        drawn_more more later gone moved =
+            let n = length (once t listed) in
+            let there = is_next_there t place rest (map txn_pairs before) in
+            then_drawn log (4096 * n + 2 ^ 25 * length removed) (ids_of_row there) (4096 * n + 2 ^ 25 * length gone) ids now new txns before after drawn more_ids
+            (moved_few n (length removed) (length gone) there (moved_count t place more rest later before after removed gone moved))
 
-      pub drawn_last : HaveDrawn log (2 ^ 26 * length (once t defined)) ids now txns before
-      drawn_last =
-          let n = length (once t listed) in
-          let behind = all_behind t place key all listed removed rest before s in
-          subst (λ (l : List Fields). HaveDrawn log (2 ^ 26 * length l) ids now txns before) listed_defined
-          (more_drawn log (4096 * n + 2 ^ 25 * length removed) (2 ^ 26 * n) ids now txns before (end_few n (length removed) (omega (arith, behind, each_once))) drawn)
+        pub drawn_all : HaveDrawn log (2 ^ 26 * length (once t defined)) ids new txns after
+        drawn_all =
+            let n = length (once t listed) in
+            let there = is_next_there t place rest (map txn_pairs before) in
+            subst (λ (l : List Fields). HaveDrawn log (2 ^ 26 * length l) ids new txns after) listed_defined
+            (then_drawn log (4096 * n + 2 ^ 25 * length removed) (ids_of_row there) (2 ^ 26 * n) ids now new txns before after drawn more_ids (all_few n (length removed) there ahead))
 
-      pub wiped_last : first_item rest ≡ None → AreSound before → AreLeft next (length (once t defined)) × IsWiped t (once t defined) removed txns before
-      wiped_last none sound = (
-        subst (λ (l : List Fields). AreLeft next (length l)) listed_defined cut.left,
-        wipe_ends t table place key txns held within tree.0 tree.1 listed listed_is removed rest before s none sound,
-      )
+    pub wiped_last : (removed rest : List Fields) (after : List Txn) → Stands t place key all listed removed rest after → rest ≡ [] → AreSound after → AreLeft next (length (once t defined)) × IsWiped t (once t defined) removed txns after
+    wiped_last removed rest after s none sound = (
+      subst (λ (l : List Fields). AreLeft next (length l)) listed_defined cut.left,
+      wipe_ends t table place key txns held within tree.0 tree.1 listed listed_is removed rest after s none sound,
+    )

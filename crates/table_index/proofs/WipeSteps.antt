@@ -21,14 +21,14 @@ use Rattle.mdb_schema.proofs.IdEntries.{id_pairs, entries-id, row_at-entries}
 use Rattle.mdb_schema.proofs.IdKeys.{IdIndex, id_index}
 use Rattle.mdb_schema.proofs.LawfulRows.{without_row_lawful}
 use Rattle.mdb_schema.proofs.ListedRows.{entries-rows, where_key-rows, once-contains}
-use Rattle.mdb_schema.proofs.Membership.{Contains-first, Contains-later, Contains-slice_get, Contains-map, Contains-filter, filter-all, is_among-from}
+use Rattle.mdb_schema.proofs.Membership.{Contains-later, Contains-slice_get, Contains-map, Contains-filter, filter-all, is_among-from}
 use Rattle.mdb_schema.proofs.RowsById.{AreRising}
 use Rattle.mdb_schema.proofs.RowsLeft.{without_rows-cases}
 use Rattle.radix_node.specs.Pairs.{without_prefix}
 use Rattle.radix_txn.specs.Txn.{Txn, txn_pairs}
 use Rattle.table_index.specs.inner.Held.{AreSound, AreTrees, nodes_of, rows_held}
 use Rattle.table_index.specs.inner.TreeEdits.{without_each}
-use Rattle.table_index.specs.inner.Wipes.{listed_at, listed_from, cut_at, holds, holds_at, is_there, IsMoved, IsStored, IsTaking, IsWiped}
+use Rattle.table_index.specs.inner.Wipes.{listed_at, listed_from, cut_at, holds, holds_at, is_there, IsMoved, IsStored, IsTaking, IsWiped, MovesNext}
 use Rattle.table_index.proofs.CutTrees.{without_each-cut, length-cut_at, slice_get-cut_at, set-cut_at, cut_at-nothing}
 use Rattle.table_index.proofs.HeldRows.{AreTrees-from, rows_held-rows}
 use Rattle.table_index.proofs.OneByOne.{taken_of, left_of, taken_of-there, taken_of-out, left_of-there, left_of-out, taken_of-once, left_of-without, Follow, follow_listed, follow_rising, rising-filter}
@@ -288,26 +288,37 @@ pub tree_count : (t : TableSchema) (cut : ℕ) (key : Bytes) (all listed removed
 tree_count t cut key all listed removed rest txns s =
     sym (length-map txns txn_pairs) ∙ ap length s.held ∙ length-cut_at key (all_entries t s.rows) cut ∙ length-map t.indexes (λ (i : IndexSchema). entries t i s.rows)
 
-module _ (t : TableSchema) (table : IsLawfulTable t) (cut : ℕ) (key : Bytes) (all listed removed rest : List Fields) (before : List Txn)
-    (r : Fields) (first : first_item rest ≡ Some r) (s : Stands t cut key all listed removed rest before) (later : List Fields) (next : later ≡ drop 1 rest) (after : List Txn) where
-  now : Stands t cut key all listed removed (r ∷ drop 1 rest) before
-  now = subst (λ (l : List Fields). Stands t cut key all listed removed l before) (first_rest rest r first) s
-
-  pub next_stored : IsStored t r
-  next_stored = now.stored r (Contains-first r (drop 1 rest))
-
-  next_taken : IsTaking t cut r true before after → Stands t cut key all listed (removed ++ r ∷ []) later after
-  next_taken did = subst (λ (l : List Fields). Stands t cut key all listed (removed ++ r ∷ []) l after) (sym next) (taken_step t table cut key all listed removed r (drop 1 rest) before after now did)
-
-  next_skipped : IsTaking t cut r false before after → Stands t cut key all listed removed later after
-  next_skipped did = subst (λ (l : List Fields). Stands t cut key all listed removed l after) (sym next) (skipped_step t table cut key all listed removed r (drop 1 rest) before after now did)
-
-  pub next_moved : (gone : List Fields) → IsMoved t cut r before after removed gone → Stands t cut key all listed gone later after
-  next_moved gone m = of m.taken m.taking m.gone
+module _ (t : TableSchema) (table : IsLawfulTable t) (cut : ℕ) (key : Bytes) (all listed removed : List Fields) (before after : List Txn) where
+  row_moved : (r : Fields) (rest gone : List Fields) → Stands t cut key all listed removed (r ∷ rest) before → IsMoved t cut r before after removed gone → Stands t cut key all listed gone rest after
+  row_moved r rest gone s m = of m.taken m.taking m.gone
     where
-      of : (b : Bool) → IsTaking t cut r b before after → gone ≡ cond b (removed ++ r ∷ []) removed → Stands t cut key all listed gone later after
-      of true did is = subst (λ (l : List Fields). Stands t cut key all listed l later after) (sym is) (next_taken did)
-      of false did is = subst (λ (l : List Fields). Stands t cut key all listed l later after) (sym is) (next_skipped did)
+      of : (b : Bool) → IsTaking t cut r b before after → gone ≡ cond b (removed ++ r ∷ []) removed → Stands t cut key all listed gone rest after
+      of true did is = subst (λ (l : List Fields). Stands t cut key all listed l rest after) (sym is) (taken_step t table cut key all listed removed r rest before after s did)
+      of false did is = subst (λ (l : List Fields). Stands t cut key all listed l rest after) (sym is) (skipped_step t table cut key all listed removed r rest before after s did)
+
+  pub next_moved : (more : Bool) (rest later gone : List Fields) → Stands t cut key all listed removed rest before → MovesNext t cut more rest later before after removed gone → Stands t cut key all listed gone later after
+  next_moved more [] later gone s m =
+      let same = subst (λ (xs : List Txn). Stands t cut key all listed removed [] xs) (sym m.2) s in
+      let out = subst (λ (l : List Fields). Stands t cut key all listed l [] after) (sym m.3) same in
+      subst (λ (l : List Fields). Stands t cut key all listed gone l after) (sym m.1) out
+  next_moved more (r ∷ rest) later gone s m = subst (λ (l : List Fields). Stands t cut key all listed gone l after) (sym m.1) (row_moved r rest gone s m.2)
+
+module _ (t : TableSchema) (cut : ℕ) (more : Bool) where
+  pub moved_sound : (rest later : List Fields) (before after : List Txn) (old new : List Fields) → AreSound before → MovesNext t cut more rest later before after old new → AreSound after
+  moved_sound [] later before after old new sound m = subst AreSound (sym m.2) sound
+  moved_sound (r ∷ rest) later before after old new sound m = let moved = m.2 in moved.taking.sound
+
+  pub later_in : (rest later : List Fields) (before after : List Txn) (old new : List Fields) → MovesNext t cut more rest later before after old new → (x : Fields) → Contains later x → Contains rest x
+  later_in [] later before after old new m x h = subst (λ (l : List Fields). Contains l x) m.1 h
+  later_in (r ∷ rest) later before after old new m x h = Contains-later r rest x (subst (λ (l : List Fields). Contains l x) m.1 h)
+
+  pub fewer_later : (rest later : List Fields) (before after : List Txn) (old new : List Fields) → more ≡ true → MovesNext t cut more rest later before after old new → length later < length rest
+  fewer_later [] later before after old new one m = cc
+  fewer_later (r ∷ rest) later before after old new one m = omega (arith, ap (λ (l : List Fields). length l) m.1)
+
+  pub none_later : (rest later : List Fields) (before after : List Txn) (old new : List Fields) → more ≡ false → MovesNext t cut more rest later before after old new → later ≡ []
+  none_later [] later before after old new none m = m.1
+  none_later (r ∷ rest) later before after old new none m = cc
 
 module _ (t : TableSchema) (table : IsLawfulTable t) (cut : ℕ) (key : Bytes) (txns : List Txn) (trees : AreTrees t (nodes_of txns)) (within : cut < length t.indexes)
     (x : Txn) (there : slice_get txns cut ≡ Some x) (listed : List Fields) (is : listed ≡ rows_of (with_prefix key (txn_pairs x))) where
@@ -346,11 +357,11 @@ module _ (t : TableSchema) (table : IsLawfulTable t) (cut : ℕ) (key : Bytes) (
       let now : map txn_pairs after ≡ cut_at key (all_entries t rows) cut = was_cut ∙ ap (λ (es : List (List Pair)). cut_at key es cut) held in
       subst (λ (l : List Fields). Stands t cut key rows l [] l after) (sym (listed_is n.0 n.1)) (first_step t table cut key rows trees.lawful n.0 n.1 after now)
 
-  pub wipe_ends : (removed rest : List Fields) (after : List Txn) → Stands t cut key (rows_held t (nodes_of txns)) listed removed rest after → first_item rest ≡ None → AreSound after
+  pub wipe_ends : (removed rest : List Fields) (after : List Txn) → Stands t cut key (rows_held t (nodes_of txns)) listed removed rest after → rest ≡ [] → AreSound after
       → IsWiped t (once t (listed_at t (rows_held t (nodes_of txns)) (slice_get t.indexes cut) key)) removed txns after
   wipe_ends removed rest after s none sound =
       let n = named in
       let done = subst (λ (l : List Fields). Stands t cut key rows l removed [] after) (listed_is n.0 n.1)
-      (subst (λ (l : List Fields). Stands t cut key rows listed removed l after) (no_more rest none) s) in
+      (subst (λ (l : List Fields). Stands t cut key rows listed removed l after) none s) in
       subst (λ (o : Option IndexSchema). IsWiped t (once t (listed_at t rows o key)) removed txns after) (sym n.1)
       (last_step t table cut key rows trees.lawful n.0 n.1 txns removed after refl done sound)

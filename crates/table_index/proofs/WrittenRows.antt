@@ -1,5 +1,5 @@
 -- The rows whose keys a write wrote.
-use Rattle.std.proofs.Common.{◌≡◌, ◌∙◌, ◌⊎◌, ◌<◌, ◌++◌, ◌∷◌, [], ℕ, zero, suc, List, map, length, drop, slice_get, Bool, Result, Ok, Err, IfOk, OnOk, MatchResult, Option, Some, None, Contains, refl, sym, ap, subst, inl, inr, arith}
+use Rattle.std.proofs.Common.{◌≡◌, ◌∙◌, ◌⊎◌, ◌<◌, ◌++◌, ◌∷◌, [], ℕ, zero, suc, List, map, length, slice_get, Bool, Result, Ok, Err, IfOk, OnOk, MatchResult, Option, Some, None, Contains, refl, sym, ap, subst, inl, inr, arith}
 use Rattle.std.proofs.lemmas.List.{length-map}
 use Rattle.std.proofs.lemmas.List.Elements.{Contains-append_left, Contains-append_right}
 use Rattle.mdb_datum.specs.Bytes.{is_prefix}
@@ -148,18 +148,16 @@ module _ (t : TableSchema) (table : IsLawfulTable t) (cut : ℕ) (prefix : Bytes
 
 -- ---- the rows that are listed, one after another
 
-pub first_in : (xs : List Fields) (x : Fields) → first_item xs ≡ Some x → Contains xs x
+first_in : (xs : List Fields) (x : Fields) → first_item xs ≡ Some x → Contains xs x
 first_in [] x e = cc
 first_in (y ∷ xs) x e = let same : y ≡ x = cc in subst (Contains (y ∷ xs)) same (Contains-first y xs)
 
-pub rest_in : (xs later : List Fields) → later ≡ drop 1 xs → (x : Fields) → Contains later x → Contains xs x
-rest_in [] later is x h = subst (λ (l : List Fields). Contains l x) is h
-rest_in (y ∷ xs) later is x h = Contains-later y xs x (subst (λ (l : List Fields). Contains l x) is h)
+pub first_wrote : (t : TableSchema) (listed : List Fields) (row : Fields) → first_item listed ≡ Some row → (xs ys : List Txn) → WroteRows t (row ∷ []) xs ys → WroteRows t listed xs ys
+first_wrote t listed row first xs ys h =
+    more_rows t (row ∷ []) listed (each_of_cons (Contains listed) row [] (first_in listed row first) (λ r none. absurd (Contains-nil r none))) xs ys h
 
-pub next_wrote : (t : TableSchema) (listed : List Fields) (row : Fields) → Contains listed row → (start xs ys : List Txn) → WroteRows t listed start xs → WroteRows t (row ∷ []) xs ys → WroteRows t listed start ys
-next_wrote t listed row within start xs ys before h =
-    trees_then (InIndex (IsKeyOf t listed) t.indexes) start xs ys before
-    (more_rows t (row ∷ []) listed (each_of_cons (Contains listed) row [] within (λ r none. absurd (Contains-nil r none))) xs ys h)
+pub next_wrote : (t : TableSchema) (listed rest : List Fields) → ((r : Fields) → Contains rest r → Contains listed r) → (start xs ys : List Txn) → WroteRows t listed start xs → WroteRows t rest xs ys → WroteRows t listed start ys
+next_wrote t listed rest within start xs ys before h = trees_then (InIndex (IsKeyOf t listed) t.indexes) start xs ys before (more_rows t rest listed within xs ys h)
 
 -- ---- a change
 

@@ -11,7 +11,7 @@ ghost use Rattle.table_index.specs.Table.{AreLeft, AreSpent};
 ghost use Rattle.table_index.specs.declared.wipe_error.WipeError.TheVariants.{IdsSpent, Memory};
 ghost use Rattle.table_index.specs.inner.Drawn.{AreReady, HaveDrawn};
 ghost use Rattle.table_index.specs.inner.Held.{AreSound, AreTrees, nodes_of};
-ghost use Rattle.table_index.specs.inner.Wipes.{BeginsWipe, GivesUp, IsStored, cut_at, listed_from};
+ghost use Rattle.table_index.specs.inner.Wipes.{GivesUp, IsCut, IsStored, cut_at, listed_from};
 ghost use Rattle.table_index.specs.inner.Writes.{TreesWrote, IsCutAt};
 
 use crate::id_key::IdKey;
@@ -28,7 +28,7 @@ use std::alloc::{AllocError, Global};
 use watch_word::Front;
 
 /// A walk over the rows that the index at a place lists under a key, once the keys that begin with
-/// it are out of its tree; `None` where it lists no row, and then nothing has changed.
+/// it are out of its tree. Where it lists no row nothing changes.
 pub(crate) fn cut_listed(
     alloc: Global,
     def: &TableDef,
@@ -37,7 +37,7 @@ pub(crate) fn cut_listed(
     ids: &mut Ids,
     place: usize,
     key: &[u8],
-) -> Result<Option<Walk>, WipeError>
+) -> Result<Walk, WipeError>
     requires place { place < length txns.old }
     requires short { length key.now ≤ 2048 }
     requires ready { AreReady front.now ids.old txns.old }
@@ -45,7 +45,7 @@ pub(crate) fn cut_listed(
     ensures answers { let rows = length
         (once def.now (listed_from key.now (slice_get txns.old place))) in
         MatchResult result
-        (λ listed. BeginsWipe def.now place key.now ids.old.next txns.old txns.new listed)
+        (λ listed. IsCut def.now place key.now listed ids.old.next txns.old txns.new)
         (λ e. GivesUp ids.old.next rows e txns.old txns.new) }
     ensures drawn { let rows = length
         (once def.now (listed_from key.now (slice_get txns.old place))) in
@@ -57,10 +57,10 @@ pub(crate) fn cut_listed(
     let listed = checked_walk(alloc, def, txns, ids, place, key)?;
     let count = listed.len();
     if count == 0 {
-        return Ok(None);
+        return Ok(listed);
     }
     cut_at(txns, front, ids, place, key)?;
-    Ok(Some(listed))
+    Ok(listed)
 }
 
 /// A walk over the rows that the index at a place lists under a key, if there are ids for them.

@@ -1,7 +1,8 @@
 //! The removal of the rows that an index lists under a key.
 ghost use Rattle.std.specs.Prelude.{◌≡◌, ◌⊎◌, ◌+◌, ◌*◌, ◌<◌, ◌≤◌, ◌^◌, ◌∷◌, [], Ok, false, length};
 ghost use Rattle.std.specs.Prelude.{map};
-ghost use Rattle.std.specs.Prelude.{IfErr, MatchResult, OnOk, slice_get};
+ghost use Rattle.std.specs.Prelude.{Contains, IfErr, MatchResult, OnOk, slice_get};
+ghost use Rattle.mdb_datum.specs.Row.{Fields};
 ghost use Rattle.mdb_schema.specs.State.{id_key};
 ghost use Rattle.mdb_schema.specs.Wipe.{once};
 ghost use Rattle.mdb_schema.specs.Write.{id_of};
@@ -12,7 +13,7 @@ ghost use Rattle.table_index.specs.inner.Drawn.{AreReady, HaveDrawn, ids_of_row}
 ghost use Rattle.table_index.specs.inner.Held.{AreSound, AreTrees, nodes_of, rows_held};
 ghost use Rattle.table_index.specs.inner.Wipes.{GivesUp, IsMoved, IsOut, IsStored, IsTaking};
 ghost use Rattle.table_index.specs.inner.Wipes.{IsWiped};
-ghost use Rattle.table_index.specs.inner.Wipes.{is_there, listed_at};
+ghost use Rattle.table_index.specs.inner.Wipes.{MovesNext, is_next_there, is_there, listed_at};
 ghost use Rattle.table_index.specs.inner.Writes.{WroteRows};
 
 use crate::cut::cut_listed;
@@ -24,6 +25,7 @@ use crate::stored::stored_id;
 use crate::wipe_error::WipeError;
 use mdb_datum::Row;
 use mdb_schema::{Rows, TableDef};
+use radix_iter::Walk;
 use radix_node::Ids;
 use radix_txn::TreeTxn;
 use std::alloc::Global;
@@ -60,20 +62,49 @@ pub(crate) fn wipe_listed(
         (listed_at def.now rows (slice_get def.now.indexes place) key.now) in
         OnOk result (WroteRows def.now gone txns.old txns.new) }
 {
-    let indexes = def.len();
-    prove!(place < indexes);
-    let listed = match cut_listed(alloc, def, txns, front, ids, place, key) {
+    // The definition is lawful by its type.
+    let _ = def.len();
+    let mut listed = match cut_listed(alloc, def, txns, front, ids, place, key) {
         Ok(listed) => listed,
         Err(error) => return Err(error),
     };
-    let Some(mut listed) = listed else {
-        return Ok(Rows::new(alloc));
-    };
     let mut gone = Rows::new(alloc);
-    'rows: while let Some(row) = listed.next()? {
-        move_listed(alloc, def, txns, front, ids, place, row, &mut gone)?;
-    }
+    'rows: while move_next(alloc, def, txns, front, ids, place, &mut listed, &mut gone)? {}
     Ok(gone)
+}
+
+/// Takes the next of the listed rows out of the trees if it is still there, and adds it to those
+/// that are out; `false` where no row is left. After an error some of its keys may be out.
+fn move_next(
+    alloc: Global,
+    def: &TableDef,
+    txns: &mut [TreeTxn],
+    front: &Front,
+    ids: &mut Ids,
+    cut: usize,
+    listed: &mut Walk,
+    gone: &mut Rows,
+) -> Result<bool, WipeError>
+    requires stored { (r : Fields) → Contains listed.old r → IsStored def.now r }
+    requires ready { AreReady front.now ids.old txns.old }
+    requires left { let there = is_next_there def.now cut listed.old (map txn_pairs txns.old) in
+        ids.old.next + ids_of_row there ≤ 2 ^ 63 }
+    requires both { length txns.old ≡ length def.now.indexes }
+    ensures answers { MatchResult result
+        (λ more. MovesNext def.now cut more
+        listed.old listed.new txns.old txns.new gone.old gone.new)
+        (λ e. e ≡ Memory) }
+    ensures drawn { let there = is_next_there def.now cut listed.old (map txn_pairs txns.old) in
+        HaveDrawn front.now (ids_of_row there) ids.old ids.new txns.old txns.new }
+    ensures written { OnOk result (WroteRows def.now listed.old txns.old txns.new) }
+{
+    match listed.next()? {
+        Some(row) => {
+            move_listed(alloc, def, txns, front, ids, cut, row, gone)?;
+            Ok(true)
+        }
+        None => Ok(false),
+    }
 }
 
 /// Takes a listed row out of the trees if it is still there, and adds it to those that are out.

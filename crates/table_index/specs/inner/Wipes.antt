@@ -51,6 +51,11 @@ holds_at cut key es (Some place) = nat_eq place cut || holds key (slice_get es p
 abbrev pub is_there : TableSchema → ℕ → Bytes → List (List Pair) → Bool
 is_there t cut id es = holds_at cut id es (index_place (codes "id") t.indexes)
 
+-- the same of the next of the listed rows, if there is one
+abbrev pub is_next_there : TableSchema → ℕ → List Fields → List (List Pair) → Bool
+is_next_there t cut [] es = false
+is_next_there t cut (row ∷ listed) es = is_there t cut (id_key t row) es
+
 -- each index takes the row, as it takes those of a table
 abbrev pub IsStored : TableSchema → Fields → Type 0
 IsStored t row = (i : IndexSchema) → Contains t.indexes i → Takes row i
@@ -77,27 +82,22 @@ pub record IsMoved (t : TableSchema) (cut : ℕ) (row : Fields) (before after : 
   pub taking : IsTaking t cut row taken before after
   pub gone : new ≡ (if taken then old ++ row ∷ [] else old)
 
--- the rows are all that the tree of an index lists under a key, there are ids for them, and the
--- tree is without its keys that begin with the key
+-- the next of the listed rows, if there is one more, is moved so, and the later ones are left
+abbrev pub MovesNext : TableSchema → ℕ → Bool → List Fields → List Fields → List Txn → List Txn
+    → List Fields → List Fields → Type 0
+MovesNext t cut more [] later before after old new =
+    (more ≡ false) × (later ≡ []) × (after ≡ before) × (new ≡ old)
+MovesNext t cut more (row ∷ listed) later before after old new =
+    (more ≡ true) × (later ≡ listed) × IsMoved t cut row before after old new
+
+-- the beginning of a wipe: the rows are all that the tree of an index lists under a key, there are
+-- ids for them, and the tree is without its keys that begin with the key
 pub record IsCut (t : TableSchema) (place : ℕ) (key : Bytes) (listed : List Fields) (next : ℕ)
     (before after : List Txn) : Type 0 where
   pub rows : listed ≡ listed_from key (slice_get before place)
   pub left : AreLeft next (length (once t listed))
   pub pairs : map txn_pairs after ≡ cut_at key (map txn_pairs before) place
   pub sound : AreSound after
-
--- the tree lists no row, and nothing has changed
-pub record IsUncut (key : Bytes) (place next : ℕ) (before after : List Txn) : Type 0 where
-  pub none : listed_from key (slice_get before place) ≡ []
-  pub left : AreLeft next 0
-  pub same : after ≡ before
-
--- the beginning of a wipe
-abbrev pub BeginsWipe : TableSchema → ℕ → Bytes → ℕ → List Txn → List Txn → Option (List Fields)
-    → Type 0
-BeginsWipe t place key next before after None = IsUncut key place next before after
-BeginsWipe t place key next before after (Some listed) =
-    IsCut t place key listed next before after
 
 -- a wipe of so many rows finds no memory; or too few ids, and nothing has changed
 abbrev pub GivesUp : ℕ → ℕ → WipeError → List Txn → List Txn → Type 0

@@ -1,10 +1,13 @@
 use Rattle.std.proofs.Common.{◌≡◌, ◌∙◌, ◌<◌, ◌≤◌, ◌*◌, List, length, map, slice_get, sym, ap, subst, arith}
+use Rattle.std.proofs.lemmas.List.{nil_from_length}
 use Rattle.mdb_datum.specs.Row.{Fields}
 use Rattle.mdb_schema.specs.Wipe.{once}
 use Rattle.radix_txn.specs.Txn.{Txn, txn_pairs}
 use Rattle.table_index.specs.Table.{AreLeft}
 use Rattle.table_index.specs.inner.Drawn.{AreReady, HaveDrawn}
+use Rattle.table_index.specs.inner.Held.{AreSound}
 use Rattle.table_index.specs.inner.Wipes.{cut_at, listed_from}
+use Rattle.table_index.proofs.CutTrees.{cut_at-unlisted}
 use Rattle.table_index.proofs.DrawnIds.{idle_drawn, more_drawn}
 use Rattle.table_index.proofs.RowCounts.{once_more}
 use Rattle.table_index.specs.inner.Writes.{TreesWrote, IsCutAt}
@@ -74,3 +77,17 @@ returns-clause-answers c = record {
   pairs = subst (λ (txns : List Txn). map txn_pairs c.cut_at.new.txns ≡ cut_at c.args.key.now (map txn_pairs txns) c.args.place) c.checked_walk.ensures.unchanged c.in_ok-cut_at.ensures.pairs;
   sound = c.in_ok-cut_at.ensures.sound;
 }
+
+pub returns-then-count-eq0-clause-answers : goal.returns-then-count-eq0-clause-answers
+returns-then-count-eq0-clause-answers c =
+    let key = c.args.key.now in
+    let place = c.args.place in
+    let same = c.checked_walk.ensures.unchanged in
+    let is = c.in_ok-listed.ensures.answers.0 in
+    let none = sym is ∙ nil_from_length c.in_ok-listed.listed (sym c.len-count.ensures ∙ c.if-count-eq0.true) in
+    record {
+      rows = is;
+      left = subst (λ (l : List Fields). AreLeft c.args.ids.now.next (length (once c.args.def.now l))) (sym is) c.in_ok-listed.ensures.answers.1;
+      pairs = ap (map txn_pairs) same ∙ sym (cut_at-unlisted key c.args.txns.now place none);
+      sound = subst AreSound (sym same) c.requires.ready.sound;
+    }
