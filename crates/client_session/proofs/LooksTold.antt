@@ -131,18 +131,6 @@ module _ (v : Client) (free : no_write_open v.transaction ≡ Ok tt) where
 
 -- ---- a check
 
-pub check_unknown : (g : Watching) (name : Bytes) (p : Caller) → Holds p g → get_by_text g.watches.kept name ≡ None → TellsLook g (command.Check name) p p (refused unknown)
-check_unknown g name p holds none = record {
-  prints = prints_none p unknown;
-  told = λ v may. record {
-    next = v;
-    says = judged_not v (check_judged v name) unknown _ (check_free v may.free name ∙ called_none p g v name may.knows none);
-    cells = tt;
-    knows = may.knows;
-    holds = holds;
-  };
-}
-
 prints_number : (old : Caller) (l : Look) → count_told (reply_of old.schema (look_reply l)) ≡ number_of l ∷ []
 prints_number old (look.Quiet at) = refl
 prints_number old (look.Fired at) = refl

@@ -76,9 +76,6 @@ other_rule schema s w t why there refuses = subst (λ (r : Stepped). IsKnown r) 
 
 -- ---- the name of a rule
 
-slice_none : {A : Type 0} (i : ℕ) → slice_get {X = A} [] i ≡ None
-slice_none i = refl
-
 one_index : (i : Option IndexSchema) → name_part (option_map (λ (x : IndexSchema). x.name) i) ≡ said.name_part i
 one_index None = refl
 one_index (Some i) = refl

@@ -15,7 +15,7 @@ use Rattle.watch_set.specs.Members.{AreHeldBy, Member, watches_of}
 use Rattle.watch_set.specs.declared.woken.Woken.{Woken}
 use Rattle.watch_set.specs.declared.woken.Woken.TheVariants as woken
 use Rattle.client_script.specs.Client.{Client, Judged, Watch, WatchSet}
-use Rattle.client_script.specs.Reply.{Reply, refused, stopped_at, woken_by}
+use Rattle.client_script.specs.Reply.{Reply, stopped_at, woken_by}
 use Rattle.client_script.specs.Watching as told
 use Rattle.client_script.specs.Watching.{IsStopped, IsWoken, told_number, until_judged, wait_judged, watch_called}
 use Rattle.client_script.specs.declared.command.Command.TheVariants as command
@@ -32,7 +32,7 @@ use Rattle.client_session.proofs.HeldOn.{holds_longer, knows_longer}
 use Rattle.client_session.proofs.IndexPlaces.{some_once}
 use Rattle.mem_txn.specs.CellHistory.{AreComplete, MovesAreTouches}
 use Rattle.mem_txn.proofs.HeldAlong.{length_longer}
-use Rattle.client_session.proofs.LooksTold.{called_no_set, called_none, called_set, called_watch, checked_begins, fired_touched, judged_not, judged_so, named_watch, prints_count, prints_none, unknown, until_free, wait_free}
+use Rattle.client_session.proofs.LooksTold.{called_no_set, called_none, called_set, called_watch, checked_begins, fired_touched, judged_so, named_watch, prints_count, unknown, until_free, wait_free}
 use Rattle.client_session.proofs.SetsJoined.{set_there}
 use Rattle.client_session.proofs.QuietMembers.{Follows, first_quiet, follows_itself, follows_on, follows_seen, look_quiet, look_quiet_until, looks_follow, members_quiet, quiet_follows}
 
@@ -63,15 +63,6 @@ awaited_set g set (Some until) ms u e = (found_until (get_by_text g.sets.kept se
 pub awaited_held : (p : Caller) (g : Watching) (set : Bytes) (until : Option Bytes) (ms : List Member) (u : Option HeldWatch) → Holds p g → awaited_in g set until ≡ Some (ms, u) → AreHeldBy p (watches_of ms)
 awaited_held p g set until ms u holds e = let all = holds.sets set ms (awaited_set g set until ms u e) in all.held
 
-missed_alone : (kept : Option (List Member)) → beside kept (Some None) ≡ None → kept ≡ None
-missed_alone None e = refl
-missed_alone (Some xs) e = cc
-
-missed_until : (kept : Option (List Member)) (o : Option HeldWatch) → beside kept (option_map Some o) ≡ None → (kept ≡ None) ⊎ ((ms : List Member) × (kept ≡ Some ms) × (o ≡ None))
-missed_until None o e = inl refl
-missed_until (Some xs) None e = inr (xs, refl, refl)
-missed_until (Some xs) (Some h) e = cc
-
 -- ---- what is judged where no write transaction is open
 
 module _ (p : Caller) (g : Watching) (set : Bytes) (v : Client) (may : MayLook p g v) where
@@ -98,30 +89,6 @@ module _ (p : Caller) (g : Watching) (set : Bytes) (v : Client) (may : MayLook p
       let s = called_set p g v set ms may.knows there in
       until_free v may.free set until ∙ ap (λ (j : Judged WatchSet). j >>= (λ (x : WatchSet). watch_called until v >>= (λ (w : Watch). Ok (x, w)))) s.1
       ∙ ap (λ (j : Judged Watch). j >>= (λ (w : Watch). Ok (s.0, w))) (called_none p g v until may.knows none)
-
--- ---- a name is unknown
-
-pub wait_unknown : (g : Watching) (set : Bytes) (until : Option Bytes) (p : Caller) → Holds p g → awaited_in g set until ≡ None → TellsLook g (wait_for set until) p p (refused unknown)
-wait_unknown g set None p holds none = record {
-  prints = prints_none p unknown;
-  told = λ v may. record {
-    next = v;
-    says = judged_not v (wait_judged v set) unknown _ (wait_missed p g set v may (missed_alone (get_by_text g.sets.kept set) none));
-    cells = tt;
-    knows = may.knows;
-    holds = holds;
-  };
-}
-wait_unknown g set (Some until) p holds none = record {
-  prints = prints_none p unknown;
-  told = λ v may. record {
-    next = v;
-    says = judged_not v (until_judged v set until) unknown _ (until_missed p g set v may until (missed_until (get_by_text g.sets.kept set) (get_by_text g.watches.kept until) none));
-    cells = tt;
-    knows = may.knows;
-    holds = holds;
-  };
-}
 
 -- ---- all were quiet
 

@@ -4,9 +4,6 @@ use mathlib.Core.Logic.{dite}
 use native.Mathlib.Decide.{dec_le}
 use Rattle.mem_txn.specs.Database.{AreAll, Caller}
 
-pub one_back : (n : ℕ) (p : Caller) → n ≡ 1 → p.number ≡ 1 → AreAll n (p ∷ [])
-one_back n p alone first c pos few = inl (omega (arith, alone, first, pos, few))
-
 pub two_back : (n : ℕ) (p q : Caller) → n ≡ 2 → p.number ≡ 1 → q.number ≡ 2 → AreAll n (p ∷ q ∷ [])
 two_back n p q pair first second c pos few = dite (dec_le c 1)
     (λ low. inl (omega (arith, first, low, pos)))

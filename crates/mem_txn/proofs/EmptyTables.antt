@@ -14,9 +14,6 @@ use Rattle.mem_txn.specs.inner.VersionTables.{AreWithin, schemas_of, state_of, t
 use Rattle.mem_txn.proofs.ListLoops.{gathered_more}
 use Rattle.mem_txn.proofs.IdsCounted.{forest_more}
 
-pub none_empty : (ids : Counter) (ts : List TableRows) → ts ≡ [] → AreEmpty [] ids ts
-none_empty ids ts none = subst (AreEmpty [] ids) (sym none) (record { schemas = refl; state = refl; within = All-nil (AreWithin ids); held = All-nil HoldsRows })
-
 pub one_more : (schema : DbSchema) (at : ℕ) (def : TableSchema) (ids ids' : Counter) (ts ts' : List TableRows) (t : TableRows) → slice_get schema at ≡ Some def → AreEmpty (take at schema) ids ts → ids'.book ≡ ids.book → ids.next ≤ ids'.next → IsEmptyOf def ids' t
     → ts' ≡ ts ++ t ∷ [] → AreEmpty (take (at + 1) schema) ids' ts'
 one_more schema at def ids ids' ts ts' t there before same later table joined =

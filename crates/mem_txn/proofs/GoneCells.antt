@@ -170,10 +170,6 @@ trees_more : (ts : List TableRows) (t : TableRows) → trees_of (ts ++ t ∷ [])
 trees_more [] t = refl
 trees_more (s ∷ ts) t = ap (λ (f : Forest). s.trees ∷ f) (trees_more ts t)
 
--- no tables yet
-pub end_none : EndWith [] [] []
-end_none = record { made = tt; told = record { all = λ c f. no_old c [] f; gone = λ c has. absurd has } }
-
 pub end_more : (ts : List TableChange) (mades : List TableRows) (gone : List (List (List Cell))) (t : TableChange) (notices : Option (List (List Cell))) → EndWith ts mades gone → EndsWith t (standing t) notices
     → EndWith (ts ++ t ∷ []) (mades ++ standing t ∷ []) (gone ++ option_to_list notices)
 end_more ts mades gone t notices before one = record {

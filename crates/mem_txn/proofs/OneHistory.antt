@@ -131,9 +131,6 @@ turned old new token is seen room counts tries =
 pub numbered : (old new : Known Version) (n : ℕ) → IsToken 0 old → IsPrefix old.seen new.seen → IsNumber old new n → HasRead (caller_of old) (caller_of new) (length (caller_of new).seen)
 numbered old new n token seen is = let read = has_read 0 old new token seen n is in subst (λ (k : ℕ). HasRead (caller_of old) (caller_of new) k) read.0 read
 
-pub left_token : (k k' : Known Version) → IsToken 1 k → k' ≡ record k { stage = 0 } → IsToken 0 k'
-left_token k k' token left = subst (IsToken 0) (sym left) (record { at = refl; named = token.named; few = token.few; begun = token.begun; steps = token.steps })
-
 -- ---- the passes of a new database
 
 append_tokens : (ks : List (Known Version)) (k : Known Version) → AreTokens ks → IsToken 0 k → AreTokens (ks ++ k ∷ [])

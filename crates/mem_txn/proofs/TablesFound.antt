@@ -1,5 +1,5 @@
 -- The table of a name among tables that stand for a state, and what a question of it is answered.
-use Rattle.std.proofs.Common.{◌≡◌, ◌∙◌, ◌<◌, ◌+◌, ◌++◌, ℕ, zero, List, [], ◌∷◌, map, length, take, drop, get_or, slice_get, append-nil, Bool, true, false, Option, Some, None, option_map, option_and_then, Result, Err, refl, sym, ap, subst, add-one, arith}
+use Rattle.std.proofs.Common.{◌≡◌, ◌∙◌, ◌<◌, ◌+◌, ◌++◌, ℕ, zero, List, [], ◌∷◌, map, length, take, drop, get_or, slice_get, append-nil, Bool, true, false, Option, Some, None, option_map, option_and_then, Result, refl, sym, ap, subst, add-one, arith}
 use Rattle.std.specs.Prelude.{if◌then◌else◌}
 use Rattle.std.specs.Str.{bytes_eq}
 use Rattle.std.proofs.Math.Seq.{drop-length}
@@ -62,9 +62,6 @@ table_at-none schema s name none = ap (option_and_then (at_place schema s)) none
 abbrev asked_in : Query → Option Table → Asked Answer
 asked_in q o = needed unknown_table o >>= (λ (table : Table). ask_rows table.schema table.rows q)
 
-pub ask-unknown : (schema : DbSchema) (s : State) (q : Query) → table_place q.table schema ≡ None → ask schema s q ≡ Err unknown_table
-ask-unknown schema s q none = ap (asked_in q) (table_at-none schema s q.table none)
-
 -- ---- the table of a name
 
 module _ (tables : List TableRows) (schema : DbSchema) (s : State) (schemas : schemas_of tables ≡ schema) (rows : state_of tables ≡ s) (name : Bytes) (place : ℕ) (found : table_place name schema ≡ Some place) where
@@ -96,9 +93,6 @@ module _ (tables : List TableRows) (schema : DbSchema) (s : State) (schemas : sc
 
   pub answers-found : (result : Result Answer AskError) → AnswersAsk (ask_rows t.schema t.rows q) result → AnswersAsk (ask schema s q) result
   answers-found result told = subst (λ (r : Asked Answer). AnswersAsk r result) (sym ask-found) told
-
-pub answers-unknown : (schema : DbSchema) (s : State) (q : Query) (result : Result Answer AskError) → table_place q.table schema ≡ None → AnswersAsk (Err unknown_table) result → AnswersAsk (ask schema s q) result
-answers-unknown schema s q result none told = subst (λ (r : Asked Answer). AnswersAsk r result) (sym (ask-unknown schema s q none)) told
 
 -- ---- tables that are being changed
 

@@ -6,7 +6,7 @@ use Rattle.std.specs.Str.{bytes_eq}
 use Rattle.std.proofs.lemmas.Slice.Eq.{bytes_eq-Decides}
 use Rattle.clap.specs.Words.{App, HasKind, HasMatchesOf, IsAmong, Kinds, Shape, Text, built, fault_of, is_simple, is_simple_and_free, kind_of, subcommand_of, subcommand_rows_of}
 use Rattle.clap.specs.Walk.{Names, Walk, finished, nothing_held, settled, walk, walk_from, walked}
-use Rattle.clap.specs.Simple.{entered, names_of}
+use Rattle.clap.specs.Simple.{entered}
 use Rattle.clap.specs.Faults.{check_fault, defaults_fault, entered_fault, settle_fault, walk_fault}
 use Rattle.clap.specs.Kinds.{or_else}
 use Rattle.clap.specs.declared.error.Error.{Error}
@@ -31,17 +31,8 @@ is_fit = refl
 abbrev names : Names
 names = (codes "run", []) ∷ (codes "make", []) ∷ []
 
-names_are : names_of (built program) ≡ names
-names_are = refl
-
-subs_are : (built program).subs ≡ run.below ∷ make.below ∷ []
-subs_are = refl
-
 abbrev above : Shape
 above = record bare.top { is_leaf = false; is_built = true }
-
-above_is : (built program).top ≡ above
-above_is = refl
 
 -- ---- the name of a command, and the words behind it
 

@@ -106,10 +106,6 @@ read_answered words seen status text named read a f plain = by_answer a
     by_answer (outcome.too_large is l) =
         absurd (found_through words seen l.named named read l.file l.cause.name f l.command l.cause.reached (large_not_whole seen.told l.cause.name plain.tells l.cause.large))
 
--- the same inputs
-ok_once : (read : Result Inputs LoadError) (a b : Inputs) → read ≡ Ok a → read ≡ Ok b → a ≡ b
-ok_once read a b e f = let h : Ok a ≡ Ok b = sym e ∙ f in cc
-
 never_both : (read : Result Inputs LoadError) (inputs : Inputs) (e : LoadError) → read ≡ Ok inputs → read ≡ Err e → ⊥
 never_both read inputs e f g = let h : Ok inputs ≡ Err e = sym f ∙ g in cc
 

@@ -1,9 +1,8 @@
 -- The sessions of all clients of a database have made its whole history.
-use Rattle.std.proofs.Common.{arith, ◌≡◌, refl, ap, sym, ◌∙◌, subst, inl, inr, ℕ, zero, suc, ◌+◌, ◌-◌, ◌<◌, ◌≤◌, List, ◌∷◌, [], ◌++◌, length, map, take, drop, take_all, Option, Some, Result, Ok, Err, IfOk, OnOk, IsPermutation, slice_get}
+use Rattle.std.proofs.Common.{arith, ◌≡◌, refl, ap, sym, ◌∙◌, subst, inl, inr, ℕ, zero, suc, ◌+◌, ◌-◌, ◌<◌, ◌≤◌, List, ◌∷◌, [], ◌++◌, length, map, Option, Some, Result, Ok, Err, IfOk, OnOk, IsPermutation, slice_get}
 use Rattle.std.specs.Prelude.{◌==◌}
 use Rattle.std.specs.List.{enumerate_from}
-use Rattle.std.proofs.lemmas.List.{append-nil, length-append}
-use Rattle.std.proofs.Math.Seq.{drop-length}
+use Rattle.std.proofs.lemmas.List.{length-append}
 use mathlib.Core.List.{IsPrefix}
 use mathlib.Core.Logic.{dite}
 use native.Mathlib.Decide.{dec_le}
@@ -301,11 +300,3 @@ module _ (db : Database) (scripts : List (List Line)) (left : Callers) (items : 
           → IfOk r (λ out. Legal db.schema names scripts (text_of out))
       all_legal text_of (Ok out) names named answered is = legal names (text_of out) named answered is
       all_legal text_of (Err e) names named answered is = tt
-
--- a vector whose list was lent as a whole, and is as long as it was
-pub lent_again : {X : Type 0} (items present : List X) (n : ℕ) → length present ≡ length items → n ≡ length items → take n (present ++ drop (length present) items) ≡ present
-lent_again {X} items present n same count =
-    ap (λ (k : ℕ). take n (present ++ drop k items)) same
-    ∙ ap (λ (ys : List X). take n (present ++ ys)) (drop-length items)
-    ∙ ap (take n) (append-nil present)
-    ∙ take_all n present (omega (arith, same, count))

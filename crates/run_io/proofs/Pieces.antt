@@ -29,10 +29,6 @@ grown_front bytes buffer file n front got within =
     let held : take n buffer ≡ take n (drop (length bytes) file) = got.held in
     rw long (rw pieces (rw (← held) (ap (λ x. x ++ take n buffer) front)))
 
-pub front_empty : (told : Option Contents) (name : Bytes) → IfSome told (λ files. IsFront files name [])
-front_empty None name = tt
-front_empty (Some files) name = record { front = λ file there. refl }
-
 -- the fetched piece and what came before are a front again
 pub front_grown : (told : Option Contents) (name bytes buffer : Bytes) (n : ℕ)
     → IfSome told (λ files. IsFront files name bytes)

@@ -1,5 +1,5 @@
 -- One step of a walk over the trees of a table, and of one over the keys of a row.
-use Rattle.std.proofs.Common.{◌≡◌, ◌∙◌, ◌<◌, ◌≤◌, ◌+◌, ◌∷◌, ◌++◌, [], ℕ, List, Bool, true, false, cond, not, map, take, drop, set, get_or, length, sym, ap, append_assoc, arith}
+use Rattle.std.proofs.Common.{◌≡◌, ◌∙◌, ◌<◌, ◌≤◌, ◌+◌, ◌∷◌, ◌++◌, [], ℕ, List, Bool, false, cond, not, map, take, drop, set, get_or, length, sym, ap, append_assoc, arith}
 use Rattle.std.specs.List.{zip}
 use Rattle.std.proofs.lemmas.List.{append-nil, take_all, take_more_set, drop_all, drop_more, drop-set-lt, map-set, length-map, get_or-map}
 use Rattle.std.proofs.lemmas.Slice.Zip.{length-zip, get_or-zip}
@@ -56,15 +56,7 @@ both_end xs ys at no_xs = let both = length-zip xs ys in omega arith
 
 -- ---- stale keys
 
--- a key that is kept isn't taken out
-pub stale_kept : (kept old : List Bytes) (at : ℕ) (k : Bytes) (es : List Pair) → at < length old → get_or old at k ≡ k → is_among kept k ≡ true
-    → without_all (stale_keys kept (drop (at + 1) old)) es ≡ without_all (stale_keys kept (drop at old)) es
-stale_kept kept old at k es within key has =
-    let rest = stale_keys kept (drop (at + 1) old) in
-    let keys : drop at old ≡ k ∷ drop (at + 1) old = drop_more old at k within ∙ ap (λ x. x ∷ drop (at + 1) old) key in
-    sym (ap (λ (ks : List Bytes). without_all (stale_keys kept ks) es) keys ∙ ap (λ (b : Bool). without_all (cond (not b) (k ∷ rest) rest) es) has)
-
--- another one is
+-- a key that isn't kept is taken out
 pub stale_out : (kept old : List Bytes) (at : ℕ) (k : Bytes) (es : List Pair) → at < length old → get_or old at k ≡ k → is_among kept k ≡ false
     → without_all (stale_keys kept (drop (at + 1) old)) (without k es) ≡ without_all (stale_keys kept (drop at old)) es
 stale_out kept old at k es within key has =

@@ -1,20 +1,18 @@
 -- The `id` key of a row is its only key in the index `id`, and its only full key there.
-use Rattle.std.proofs.Common.{◌≡◌, ◌≢◌, ◌∙◌, ◌||◌, ◌++◌, ℕ, List, [], ◌∷◌, Bool, true, codes, map, Some, Ok, Contains, sym, ap}
-use Rattle.std.specs.Prelude.{if◌then◌else◌}
+use Rattle.std.proofs.Common.{◌≡◌, ◌≢◌, ◌∙◌, ℕ, List, [], ◌∷◌, codes, Some, Ok, Contains, sym, ap}
 use Rattle.mdb_datum.specs.Pairs.{first_item}
 use Rattle.mdb_datum.specs.Row.{Fields}
 use Rattle.mdb_encode.specs.Bytes.{Bytes}
 use Rattle.mdb_encode.specs.Keys.{keys}
-use Rattle.mdb_schema.specs.LawfulSchema.{IsId, IsLawfulTable}
+use Rattle.mdb_schema.specs.LawfulSchema.{IsLawfulTable}
 use Rattle.mdb_schema.specs.Schema.{IndexSchema, TableSchema, index_place}
-use Rattle.mdb_schema.specs.State.{full_key, id_keys}
-use Rattle.mdb_schema.specs.Tests.{◌>>=◌, needed, passed}
-use Rattle.mdb_schema.specs.Write.{Tested, no_id, missing, keys_at, has_key, id_of}
+use Rattle.mdb_schema.specs.State.{id_keys}
+use Rattle.mdb_schema.specs.Tests.{◌>>=◌, needed}
+use Rattle.mdb_schema.specs.Write.{Tested, no_id, keys_at, id_of}
 use Rattle.mdb_schema.proofs.Chains.{passed_on}
 use Rattle.mdb_schema.proofs.IdKeys.{id_index, id_index-only, id_keys-named, keys_at-ok}
 use Rattle.mdb_schema.proofs.OneKey.{one_key}
-use Rattle.mdb_schema.proofs.PassedTests.{needed_some, goes_on}
-use Rattle.table_index.specs.inner.Keys.{full_keys_at}
+use Rattle.mdb_schema.proofs.PassedTests.{needed_some}
 
 not_empty : (k : Bytes) (ks : List Bytes) → (k ∷ ks) ≢ []
 not_empty k ks e = cc
@@ -36,10 +34,3 @@ only_id_key t table row id known i within name =
     let found : keys at.index.indexer row ≡ Ok b.0 = sym (id_keys-named t row at.index at.named) ∙ keys_at-ok a.0 (id_keys t row) b.0 b.1 in
     let alone = alone_of b.0 id (needed_some no_id (first_item b.0) id b.2) (one_key at.index.indexer row b.0 at.rules.single found) in
     ap (λ (x : IndexSchema). keys x.indexer row) (id_index-only t table at i within name) ∙ found ∙ ap Ok alone
-
-pub id_alone : (id : Bytes) (row : Fields) (place : ℕ) (i : IndexSchema) → IsId i → keys i.indexer row ≡ Ok (id ∷ []) → full_keys_at id row (place, i) ≡ Ok (id ∷ [])
-id_alone id row place i rules found =
-    goes_on (keys_at place (keys i.indexer row)) (λ (js : List Bytes). let r : Tested (List Bytes) = passed (missing place) (i.allow_missing || has_key js) >>= (λ enough. Ok (map (full_key i id) js)) in r) (id ∷ [])
-    (ap (keys_at place) found)
-    ∙ ap (λ (b : Bool). let r : Tested (List Bytes) = passed (missing place) (b || true) >>= (λ enough. Ok (map (full_key i id) (id ∷ []))) in r) rules.always
-    ∙ ap (λ (b : Bool). let r : Tested (List Bytes) = Ok ((if b then id else id ++ id) ∷ []) in r) rules.unique

@@ -124,10 +124,6 @@ pub once_few : (t : TableSchema) (rs : List Fields) → length (once t rs) ≤ l
 once_few t rs = once_within t [] rs
 
 -- and one, if there is a row
-pub once_some : (t : TableSchema) (rs : List Fields) → length rs ≡ 0 → once t rs ≡ []
-once_some t [] none = refl
-once_some t (r ∷ rs) none = cc
-
 pub once_more : (t : TableSchema) (rs : List Fields) (n : ℕ) → n ≡ length rs → 1 ≤ n → 1 ≤ length (once t rs)
 once_more t [] n is some = absurd (omega (arith, is, some))
 once_more t (r ∷ rs) n is some = omega arith

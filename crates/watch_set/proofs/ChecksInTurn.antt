@@ -12,10 +12,6 @@ use Rattle.watch_set.specs.Members.{AreHeldBy, Member, watches_of}
 
 -- ---- a pass that has seen more
 
-pub only_looks : (old new : Caller) → HasSeen old new → new.tries ≡ old.tries → OnlyLooks old new
-only_looks old new seen tries =
-    seen.others ∙ ap (λ (ts : List ℕ). let r : Caller = record old { seen = new.seen; trees = new.trees; counts = new.counts; tries = ts } in r) tries
-
 pub looks_on : (old mid new : Caller) → OnlyLooks old mid → OnlyLooks mid new → OnlyLooks old new
 looks_on old mid new first then =
     then ∙ ap (λ (p : Caller). let r : Caller = record p { seen = new.seen; trees = new.trees; counts = new.counts } in r) first
