@@ -18,15 +18,32 @@ fn one_cell(alloc: Global) -> Result<(Arc<Book>, Front, Arc<WatchCell>), AllocEr
     Ok((book, front, cell))
 }
 
-/// Whether the cell is found fired before it fires, after, and after a second firing.
-fn found(alloc: Global) -> Result<[bool; 3], AllocError> {
+/// A cell with a watch of it, and a front from before.
+fn watched(alloc: Global) -> Result<(Front, Arc<WatchCell>, Watch), AllocError>
+    ensures cell { IfOk result (λ t. (arc_value t.1).book ≡ t.0.book) }
+    ensures watch { IfOk result (λ t. t.2.book ≡ t.0.book) }
+{
     let (_book, front, cell) = one_cell(alloc)?;
     let watch = Watch::of(Arc::try_clone(&cell)?);
-    let new = watch.moved(&front).fired;
-    let later = fire(&front, &cell, 3);
-    let fired = watch.moved(&front).fired;
-    let _again = fire(&later, &cell, 4);
-    Ok([new, fired, watch.moved(&later).fired])
+    Ok((front, cell, watch))
+}
+
+/// Whether a cell is found fired before it fires, after, and after a second firing.
+fn found_in_turn(front: &Front, cell: &WatchCell, watch: &Watch) -> [bool; 3]
+    requires cell { cell.now.book ≡ front.now.book }
+    requires watch { watch.now.book ≡ front.now.book }
+{
+    let new = watch.moved(front).fired;
+    let later = fire(front, cell, 3);
+    let fired = watch.moved(front).fired;
+    let _again = fire(&later, cell, 4);
+    [new, fired, watch.moved(&later).fired]
+}
+
+/// The same of a new cell.
+fn found(alloc: Global) -> Result<[bool; 3], AllocError> {
+    let (front, cell, watch) = watched(alloc)?;
+    Ok(found_in_turn(&front, &cell, &watch))
 }
 
 #[test]
@@ -36,13 +53,25 @@ fn a_new_cell_is_not_moved_and_a_fired_one_is(rt: HostRuntime) -> Result<(), Fai
     Ok(())
 }
 
-/// Whether another cell of the book is found fired, and the ids of both.
+/// Whether another cell is found fired after this one fires, and the ids of both.
+fn found_in_other(
+    front: &Front,
+    cell: &WatchCell,
+    other: &Watch,
+) -> Result<(bool, u64, u64), AllocError>
+    requires cell { cell.now.book ≡ front.now.book }
+    requires other { other.now.book ≡ front.now.book }
+{
+    let later = fire(front, cell, 1);
+    let shared = other.share()?;
+    Ok((shared.moved(&later.share()).fired, cell.id(), shared.id()))
+}
+
+/// The same of two new cells.
 fn other(alloc: Global) -> Result<(bool, u64, u64), AllocError> {
     let (book, front, cell) = one_cell(alloc)?;
     let other = Watch::of(open_cell(alloc, &book, &front, 8)?);
-    let later = fire(&front, &cell, 1);
-    let shared = other.share()?;
-    Ok((shared.moved(&later.share()).fired, cell.id(), shared.id()))
+    found_in_other(&front, &cell, &other)
 }
 
 #[test]
@@ -52,22 +81,34 @@ fn a_firing_leaves_other_cells(rt: HostRuntime) -> Result<(), Fail> {
     Ok(())
 }
 
-/// Two threads fire a cell, and a third cell stays.
-fn by_two<R: Threads + Sync>(rt: &R, alloc: Global) -> Result<(bool, bool), AllocError> {
-    let (_book, front, cell) = one_cell(alloc)?;
-    let watch = Watch::of(Arc::try_clone(&cell)?);
+/// Whether a cell is found fired from the front of each of two threads that fire it.
+fn found_by_two<R: Threads + Sync>(
+    rt: &R,
+    front: &Front,
+    cell: &WatchCell,
+    watch: &Watch,
+) -> (bool, bool)
+    requires cell { cell.now.book ≡ front.now.book }
+    requires watch { watch.now.book ≡ front.now.book }
+{
     let (one, two) = join(
         rt,
         || -> Front
-            requires { (arc_value cell).book ≡ front.book }
-            ensures { result.book ≡ front.book }
-        { fire(&front, &cell, 1) },
+            requires { cell.now.book ≡ front.now.book }
+            ensures { result.book ≡ front.entry.now.book }
+        { fire(front, cell, 1) },
         || -> Front
-            requires { (arc_value cell).book ≡ front.book }
-            ensures { result.book ≡ front.book }
-        { fire(&front, &cell, 2) },
+            requires { cell.now.book ≡ front.now.book }
+            ensures { result.book ≡ front.entry.now.book }
+        { fire(front, cell, 2) },
     );
-    Ok((watch.moved(&one).fired, watch.moved(&two).fired))
+    (watch.moved(&one).fired, watch.moved(&two).fired)
+}
+
+/// The same of a new cell.
+fn by_two<R: Threads + Sync>(rt: &R, alloc: Global) -> Result<(bool, bool), AllocError> {
+    let (front, cell, watch) = watched(alloc)?;
+    Ok(found_by_two(rt, &front, &cell, &watch))
 }
 
 #[test]
