@@ -1,10 +1,11 @@
 //! Commits of one, two and sixty-four callers, with values that list who committed.
-ghost use Rattle.std.specs.Prelude.{◌≡◌, ◌+◌, ◌<◌, [], length, IfOk, OnOk, OnErr};
+ghost use Rattle.std.specs.Prelude.{◌≡◌, ◌+◌, ◌<◌, ◌^◌, length, IfOk, OnOk, OnErr};
 ghost use Rattle.std.specs.Arc.{arc_value};
 ghost use Rattle.db_front.specs.Passes.{all_fresh, AreAll, AreIdle};
 
 use crate::{Pass, Passes, Ready, Shared, Shown, Version, make_shared};
 use std::alloc::{AllocError, Global};
+use std::marker::Model;
 use std::sync::{Arc, Wait};
 use std::test::*;
 use std::thread::{Threads, join_mut};
@@ -72,6 +73,24 @@ fn with_entry(alloc: Global, old: &Roll, entry: Entry) -> Result<Arc<Roll>, Allo
     Ok(Arc::new(alloc, roll)?)
 }
 
+/// The value with one entry more, ready to be published. No test comes near the number of commits
+/// at which it gives up.
+fn readied(
+    alloc: Global,
+    shared: &Shared<Roll>,
+    shown: &Shown<Roll>,
+    entry: Entry,
+) -> Result<Ready<Roll>, AllocError>
+    ensures room { OnOk result (shown.now.number < 2 ^ 63) }
+    ensures longer { IfOk result (λ r. length r.entries.items
+        ≡ length (arc_value shown.now.value).entries.items + 1) }
+{
+    if shown.number >= 1 << 63 {
+        return Err(AllocError);
+    }
+    shared.ready(with_entry(alloc, &shown.value, entry)?)
+}
+
 /// Begins and publishes. The log that is still to be shown.
 fn publish<R: Wait>(
     rt: &R,
@@ -86,19 +105,7 @@ fn publish<R: Wait>(
     ensures idle { OnErr result (pass.new.stage ≡ 0) }
 {
     let shown = shared.begin(rt, pass)?;
-    // No test comes near so many commits.
-    if shown.number >= 1 << 63 {
-        shared.leave(pass);
-        return Err(AllocError);
-    }
-    let next = match with_entry(alloc, &shown.value, entry) {
-        Ok(next) => next,
-        Err(e) => {
-            shared.leave(pass);
-            return Err(e);
-        }
-    };
-    match shared.ready(next) {
+    match readied(alloc, shared, &shown, entry) {
         Ok(ready) => {
             shared.publish(rt, pass, ready);
             Ok(shown.log)
@@ -127,41 +134,139 @@ fn commit<R: Wait>(
     Ok(())
 }
 
-/// The first two passes, and the list that they were taken from.
-fn pair(
-    alloc: Global,
-    token: Option<Arc<u64>>,
-) -> Result<(Shared<Roll>, Passes<Roll>, Pass<Roll>, Pass<Roll>), AllocError>
-    ensures rest { IfOk result (λ t. (t.1.passes ≡ []) × (t.1.room ≡ 2)) }
-    ensures callers { IfOk result (λ t. t.0.callers ≡ 2) }
-    ensures one { IfOk result (λ t. (t.2.table ≡ t.0.table) × (t.2.stage ≡ 0)
-        × (t.2.number ≡ 1)) }
-    ensures two { IfOk result (λ t. (t.3.table ≡ t.0.table) × (t.3.stage ≡ 0)
-        × (t.3.number ≡ 2)) }
+/// The numbers of commits and of finished ones that a pass sees.
+fn numbers<R: Wait>(
+    rt: &R,
+    shared: &Shared<Roll>,
+    pass: &mut Pass<Roll>,
+) -> Result<(u64, u64), AllocError>
+    requires { pass.old.table ≡ shared.now.table }
+    ensures { (pass.new.table ≡ pass.old.table) × (pass.new.stage ≡ pass.old.stage)
+        × (pass.new.number ≡ pass.old.number) }
 {
-    let (shared, mut passes) = opened(alloc, token, 2)?;
-    match (passes.take(), passes.take()) {
-        (Some(one), Some(two)) => Ok((shared, passes, one, two)),
-        _ => unreachable!(),
+    let shown = shared.look(rt, pass)?;
+    Ok((shown.number, shown.finished))
+}
+
+/// Whether a try found the turn taken. It gives the turn back.
+fn is_taken<R: Wait>(
+    rt: &R,
+    shared: &Shared<Roll>,
+    pass: &mut Pass<Roll>,
+) -> Result<bool, AllocError>
+    requires { (pass.old.table ≡ shared.now.table) × (pass.old.stage ≡ 0) }
+    ensures { (pass.new.table ≡ pass.old.table) × (pass.new.stage ≡ 0)
+        × (pass.new.number ≡ pass.old.number) }
+{
+    match shared.try_begin(rt, pass)? {
+        None => Ok(true),
+        Some(_) => {
+            shared.leave(pass);
+            Ok(false)
+        }
     }
 }
 
-/// Gives both passes back, and closes.
-fn end<R: Wait>(
-    rt: &R,
+/// A front of two callers. Their passes are out of the list, and neither has the writer's turn.
+struct Duo {
     shared: Shared<Roll>,
-    mut passes: Passes<Roll>,
+    passes: Passes<Roll>,
     one: Pass<Roll>,
     two: Pass<Roll>,
-) -> Shown<Roll>
-    requires rest { (passes.passes ≡ []) × (passes.room ≡ 2) }
-    requires callers { shared.callers ≡ 2 }
-    requires one { (one.table ≡ shared.table) × (one.stage ≡ 0) × (one.number ≡ 1) }
-    requires two { (two.table ≡ shared.table) × (two.stage ≡ 0) × (two.number ≡ 2) }
-{
-    passes.give(one);
-    passes.give(two);
-    shared.close(rt, passes)
+}
+
+impl Model for Duo {
+    ghost use Rattle.std.specs.Prelude.{◌≡◌, []};
+
+    ghost Value = { Unit {0} };
+
+    ghost view = { λ d. tt };
+
+    ghost invariant = { λ d. (d.shared.callers ≡ 2) × (d.passes.passes ≡ [])
+        × (d.passes.room ≡ 2) × (d.one.table ≡ d.shared.table) × (d.one.stage ≡ 0)
+        × (d.one.number ≡ 1) × (d.two.table ≡ d.shared.table) × (d.two.stage ≡ 0)
+        × (d.two.number ≡ 2) };
+}
+
+impl Duo {
+    /// A front without a commit.
+    fn opened(alloc: Global, token: Option<Arc<u64>>) -> Result<Duo, AllocError> {
+        let (shared, mut passes) = opened(alloc, token, 2)?;
+        match (passes.take(), passes.take()) {
+            (Some(one), Some(two)) => Ok(Duo {
+                shared,
+                passes,
+                one,
+                two,
+            }),
+            _ => unreachable!(),
+        }
+    }
+
+    /// A front without a commit, whose opening value owns the token too.
+    fn with_token(alloc: Global, token: &Arc<u64>) -> Result<Duo, AllocError> {
+        Duo::opened(alloc, Some(Arc::try_clone(token)?))
+    }
+
+    /// One whole commit of the first caller.
+    fn commit<R: Wait>(&mut self, rt: &R, alloc: Global) -> Result<(), AllocError> {
+        commit(
+            rt,
+            alloc,
+            &self.shared,
+            &mut self.one,
+            Entry { caller: 1, own: 1 },
+        )
+    }
+
+    /// The same, and what the second caller sees of it between `publish` and `finish`.
+    fn look_amid_commit<R: Wait>(
+        &mut self,
+        rt: &R,
+        alloc: Global,
+    ) -> Result<(u64, u64), AllocError> {
+        let entry = Entry { caller: 1, own: 1 };
+        let log = publish(rt, alloc, &self.shared, &mut self.one, entry)?;
+        let seen = numbers(rt, &self.shared, &mut self.two);
+        self.shared.finish(rt, &mut self.one, log);
+        seen
+    }
+
+    /// What the first caller sees.
+    fn look_of_one<R: Wait>(&mut self, rt: &R) -> Result<(u64, u64), AllocError> {
+        numbers(rt, &self.shared, &mut self.one)
+    }
+
+    /// What the second caller sees.
+    fn look_of_two<R: Wait>(&mut self, rt: &R) -> Result<(u64, u64), AllocError> {
+        numbers(rt, &self.shared, &mut self.two)
+    }
+
+    /// Whether the second caller finds the writer's turn taken.
+    fn try_of_two<R: Wait>(&mut self, rt: &R) -> Result<bool, AllocError> {
+        is_taken(rt, &self.shared, &mut self.two)
+    }
+
+    /// The same while the first caller has the turn.
+    fn try_amid_turn<R: Wait>(&mut self, rt: &R) -> Result<bool, AllocError> {
+        drop(self.shared.begin(rt, &mut self.one)?);
+        let taken = is_taken(rt, &self.shared, &mut self.two);
+        self.shared.leave(&mut self.one);
+        taken
+    }
+
+    /// Gives both passes back, and closes.
+    fn end<R: Wait>(self, rt: &R) -> Shown<Roll> {
+        let Duo {
+            shared,
+            mut passes,
+            one,
+            two,
+        } = self;
+        passes.give(one);
+        passes.give(two);
+        shared.close(rt, passes)
+    }
 }
 
 /// Fifty commits of one caller.
@@ -227,135 +332,101 @@ fn in_order(entries: &[Entry], caller: u64) -> Option<u64> {
     Some(last)
 }
 
+/// The last value after fifty commits each on two threads.
+fn after_hundred<R: Threads + Wait + Sync>(
+    rt: &R,
+    alloc: Global,
+) -> Result<Shown<Roll>, AllocError> {
+    let mut duo = Duo::opened(alloc, None)?;
+    let done = hundred(rt, alloc, &duo.shared, &mut duo.one, &mut duo.two);
+    let last = duo.end(rt);
+    done.and(Ok(last))
+}
+
+/// How many commits there are, and how many the first two callers have, where they stand in order.
+fn counts(last: &Shown<Roll>) -> (u64, [Option<u64>; 2]) {
+    let entries = last.value.entries.as_slice();
+    (last.number, [in_order(entries, 1), in_order(entries, 2)])
+}
+
 #[test]
 fn two_threads_make_fifty_commits_each(rt: HostRuntime) -> Result<(), Fail> {
-    let alloc = rt.alloc();
-    let (shared, passes, mut one, mut two) = pair(alloc, None)?;
-    let done = hundred(&rt, alloc, &shared, &mut one, &mut two);
-    let last = end(&rt, shared, passes, one, two);
-    done?;
-    let entries = last.value.entries.as_slice();
-    let counts = (in_order(entries, 1), in_order(entries, 2));
-    assert!(rt; last.number == 100 && counts == (Some(50), Some(50)));
+    let last = after_hundred(&rt, rt.alloc())?;
+    assert!(rt; counts(&last) == (100, [Some(50), Some(50)]));
     Ok(())
 }
 
-/// While one pass has the writer's turn, a try of the other finds it taken; then it finds it free.
-fn try_twice<R: Wait>(
-    rt: &R,
-    shared: &Shared<Roll>,
-    one: &mut Pass<Roll>,
-    two: &mut Pass<Roll>,
-) -> Result<bool, AllocError>
-    requires one { (one.old.table ≡ shared.now.table) × (one.old.stage ≡ 0) }
-    requires two { (two.old.table ≡ shared.now.table) × (two.old.stage ≡ 0) }
-    ensures one { (one.new.table ≡ one.old.table) × (one.new.stage ≡ 0)
-        × (one.new.number ≡ one.old.number) }
-    ensures two { (two.new.table ≡ two.old.table) × (two.new.stage ≡ 0)
-        × (two.new.number ≡ two.old.number) }
-{
-    drop(shared.begin(rt, one)?);
-    let taken = is_taken(rt, shared, two);
-    shared.leave(one);
-    Ok(taken? && !is_taken(rt, shared, two)?)
+/// Whether the second caller finds the writer's turn taken: while the first one has it, and then.
+fn try_twice<R: Wait>(rt: &R, duo: &mut Duo) -> Result<[bool; 2], AllocError> {
+    Ok([duo.try_amid_turn(rt)?, duo.try_of_two(rt)?])
 }
 
-/// Whether a try found the turn taken. It gives the turn back.
-fn is_taken<R: Wait>(
-    rt: &R,
-    shared: &Shared<Roll>,
-    pass: &mut Pass<Roll>,
-) -> Result<bool, AllocError>
-    requires { (pass.old.table ≡ shared.now.table) × (pass.old.stage ≡ 0) }
-    ensures { (pass.new.table ≡ pass.old.table) × (pass.new.stage ≡ 0)
-        × (pass.new.number ≡ pass.old.number) }
-{
-    match shared.try_begin(rt, pass)? {
-        None => Ok(true),
-        Some(_) => {
-            shared.leave(pass);
-            Ok(false)
-        }
-    }
+/// What `try_twice` finds in a front of its own.
+fn tried<R: Wait>(rt: &R, alloc: Global) -> Result<[bool; 2], AllocError> {
+    let mut duo = Duo::opened(alloc, None)?;
+    let taken = try_twice(rt, &mut duo);
+    duo.end(rt);
+    taken
 }
 
 #[test]
 fn a_try_finds_the_turn_taken_and_then_free(rt: HostRuntime) -> Result<(), Fail> {
-    let (shared, passes, mut one, mut two) = pair(rt.alloc(), None)?;
-    let right = try_twice(&rt, &shared, &mut one, &mut two);
-    end(&rt, shared, passes, one, two);
-    assert!(rt; right?);
+    assert!(rt; tried(&rt, rt.alloc())? == [true, false]);
     Ok(())
 }
 
-/// The numbers that the second pass sees between `publish` and `finish` of the first, and then.
+/// The numbers that the second caller sees between `publish` and `finish` of the first, and those
+/// that both see then.
 fn look_between<R: Wait>(
     rt: &R,
     alloc: Global,
-    shared: &Shared<Roll>,
-    one: &mut Pass<Roll>,
-    two: &mut Pass<Roll>,
-) -> Result<[(u64, u64); 3], AllocError>
-    requires one { (one.old.table ≡ shared.now.table) × (one.old.stage ≡ 0) }
-    requires two { (two.old.table ≡ shared.now.table) × (two.old.stage ≡ 0) }
-    ensures one { (one.new.table ≡ one.old.table) × (one.new.stage ≡ 0)
-        × (one.new.number ≡ one.old.number) }
-    ensures two { (two.new.table ≡ two.old.table) × (two.new.stage ≡ 0)
-        × (two.new.number ≡ two.old.number) }
-{
-    let log = publish(rt, alloc, shared, one, Entry { caller: 1, own: 1 })?;
-    let between = shared.look(rt, two);
-    shared.finish(rt, one, log);
-    let between = between?;
-    let after = shared.look(rt, two)?;
-    let own = shared.look(rt, one)?;
-    Ok([
-        (between.number, between.finished),
-        (after.number, after.finished),
-        (own.number, own.finished),
-    ])
+    duo: &mut Duo,
+) -> Result<[(u64, u64); 3], AllocError> {
+    let between = duo.look_amid_commit(rt, alloc)?;
+    Ok([between, duo.look_of_two(rt)?, duo.look_of_one(rt)?])
+}
+
+/// What `look_between` sees in a front of its own.
+fn looked<R: Wait>(rt: &R, alloc: Global) -> Result<[(u64, u64); 3], AllocError> {
+    let mut duo = Duo::opened(alloc, None)?;
+    let seen = look_between(rt, alloc, &mut duo);
+    duo.end(rt);
+    seen
 }
 
 #[test]
 fn a_look_before_finish_sees_the_commit_unfinished(rt: HostRuntime) -> Result<(), Fail> {
-    let (shared, passes, mut one, mut two) = pair(rt.alloc(), None)?;
-    let seen = look_between(&rt, rt.alloc(), &shared, &mut one, &mut two);
-    end(&rt, shared, passes, one, two);
-    assert!(rt; seen? == [(1, 0), (1, 1), (1, 1)]);
+    assert!(rt; looked(&rt, rt.alloc())? == [(1, 0), (1, 1), (1, 1)]);
     Ok(())
 }
 
-/// How many owners the opening value's token has: while a reader still has the value after a
+/// How many owners the token has: while the second caller still has the opening value after a
 /// commit, and once it has let it go.
 fn owners<R: Wait>(
     rt: &R,
     alloc: Global,
     token: &Arc<u64>,
-    shared: &Shared<Roll>,
-    one: &mut Pass<Roll>,
-    two: &mut Pass<Roll>,
-) -> Result<(usize, usize), AllocError>
-    requires one { (one.old.table ≡ shared.now.table) × (one.old.stage ≡ 0) }
-    requires two { (two.old.table ≡ shared.now.table) × (two.old.stage ≡ 0) }
-    ensures one { (one.new.table ≡ one.old.table) × (one.new.stage ≡ 0)
-        × (one.new.number ≡ one.old.number) }
-    ensures two { (two.new.table ≡ two.old.table) × (two.new.stage ≡ 0)
-        × (two.new.number ≡ two.old.number) }
-{
-    let shown = shared.look(rt, two)?;
-    commit(rt, alloc, shared, one, Entry { caller: 1, own: 1 })?;
+    duo: &mut Duo,
+) -> Result<(usize, usize), AllocError> {
+    let shown = duo.shared.look(rt, &mut duo.two)?;
+    duo.commit(rt, alloc)?;
     let read = Arc::strong_count(token);
     drop(shown);
     Ok((read, Arc::strong_count(token)))
 }
 
+/// What `owners` counts of a token in a front of its own.
+fn counted<R: Wait>(rt: &R, alloc: Global) -> Result<(usize, usize), AllocError> {
+    let token = Arc::new(alloc, 0)?;
+    let mut duo = Duo::with_token(alloc, &token)?;
+    let owners = owners(rt, alloc, &token, &mut duo);
+    duo.end(rt);
+    owners
+}
+
 #[test]
 fn a_value_is_dropped_with_its_last_owner(rt: HostRuntime) -> Result<(), Fail> {
-    let token = Arc::new(rt.alloc(), 0)?;
-    let (shared, passes, mut one, mut two) = pair(rt.alloc(), Some(Arc::try_clone(&token)?))?;
-    let owners = owners(&rt, rt.alloc(), &token, &shared, &mut one, &mut two);
-    end(&rt, shared, passes, one, two);
-    assert!(rt; owners? == (2, 1));
+    assert!(rt; counted(&rt, rt.alloc())? == (2, 1));
     Ok(())
 }
 
@@ -403,14 +474,23 @@ fn by_each<R: Wait>(
     Ok(())
 }
 
+/// The last value after a commit by each of 64 passes.
+fn after_each<R: Wait>(rt: &R, alloc: Global) -> Result<Shown<Roll>, AllocError> {
+    let (shared, mut passes) = opened(alloc, None, 64)?;
+    let done = by_each(rt, alloc, &shared, &mut passes);
+    let last = shared.close(rt, passes);
+    done.and(Ok(last))
+}
+
+/// Whether each of 64 callers has one commit.
+fn each_has_one(entries: &[Entry]) -> bool {
+    (1..65).all(|caller| in_order(entries, caller) == Some(1))
+}
+
 #[test]
 fn sixty_four_callers_commit_in_turn(rt: HostRuntime) -> Result<(), Fail> {
-    let (shared, mut passes) = opened(rt.alloc(), None, 64)?;
-    let done = by_each(&rt, rt.alloc(), &shared, &mut passes);
-    let last = shared.close(&rt, passes);
-    done?;
-    let each = (1..65).all(|caller| in_order(last.value.entries.as_slice(), caller) == Some(1));
-    assert!(rt; last.number == 64 && each);
+    let last = after_each(&rt, rt.alloc())?;
+    assert!(rt; last.number == 64 && each_has_one(&last.value.entries));
     Ok(())
 }
 
@@ -437,9 +517,9 @@ fn threads_may_have_all<V: Version + Send + Sync>(
 
 #[test]
 fn all_goes_to_threads(rt: HostRuntime) -> Result<(), Fail> {
-    let (shared, passes, one, two) = pair(rt.alloc(), None)?;
-    may_be_shared(&shared);
-    may_be_sent(&one);
-    end(&rt, shared, passes, one, two);
+    let duo = Duo::opened(rt.alloc(), None)?;
+    may_be_shared(&duo.shared);
+    may_be_sent(&duo.one);
+    duo.end(&rt);
     Ok(())
 }
