@@ -111,13 +111,20 @@ fn command_text(alloc: Global, command: &Command) -> Result<String, AllocError> 
         Command::End => String::from_str(alloc, "end"),
         Command::Commit => String::from_str(alloc, "commit"),
         Command::Abort => String::from_str(alloc, "abort"),
+        Command::Defer { text } => one(alloc, "defer", text),
+        Command::Snapshot { name } => one(alloc, "snapshot", name),
+        command => rows_text(alloc, command),
+    }
+}
+
+/// A command of rows; any other is one of watches.
+fn rows_text(alloc: Global, command: &Command) -> Result<String, AllocError> {
+    match command {
         Command::Insert { table, row } => of_row(alloc, "insert", table, row),
         Command::Delete { table, row } => of_row(alloc, "delete", table, row),
         Command::DeleteAll { query } => asked(alloc, "delete-all", query),
         Command::DeletePrefix { query } => asked(alloc, "delete-prefix", query),
-        Command::Defer { text } => one(alloc, "defer", text),
         Command::Question { query } => query_text(alloc, query),
-        Command::Snapshot { name } => one(alloc, "snapshot", name),
         Command::InSnapshot { name, query } => named(alloc, "in", name, query),
         command => watches_text(alloc, command),
     }
