@@ -180,34 +180,37 @@ module _ {V : Type 0} (stands : List (ℕ × V) → V → Type 0) (fired : List 
 
   -- who holds the shown turn at the end knows the commits of all numbers that it carries
   pub closes : (callers id : ℕ) (v : View V) (ws : List ℕ) (xs : List (Option (V × Log))) → 0 < v.out → 0 < v.number → Final (Seen (Rule callers) id v) ws xs
-      → IsHistory callers v.seen × (commits_by v.number v.seen ≡ v.mine) × Made v.seen v.more
+      → IsHistory callers v.seen × HasHand v.seen v
   closes callers id v ws xs out named fin =
       let r = fin.1.0 in
       let f = r.seats id v fin.1.1 in
       let same : v.seen ≡ log_of r.now = (f.shows out).3 in (
         (r.now.opening, r.now.commits, same, subst (λ n. AreNamed n r.now.commits) r.limit r.turns.named),
-        subst (λ h. commits_by v.number h ≡ v.mine) (sym same) (f.own named).made,
-        subst (λ h. Made h v.more) (sym same) (hands_made r.now.callers r.now.owner (log_of r.now) id v.more f.more),
+        (
+          subst (λ h. commits_by v.number h ≡ v.mine) (sym same) (f.own named).made,
+          prefix_self v.seen,
+          subst (λ h. Made h v.more) (sym same) (hands_made r.now.callers r.now.owner (log_of r.now) id v.more f.more),
+        ),
       )
 
   -- what the end tells, from the views of the last seat as it goes
-  pub ended : (callers id : ℕ) (st : Step (Option (V × Log))) (m1 m2 m3 m4 m5 : Sat V) (h h' : List (ℕ × V)) (ts : List ℕ) (l : Log) (n d : ℕ) (ws : List ℕ) (xs : List (Option (V × Log)))
+  pub ended : (callers : ℕ) (st : Step (Option (V × Log))) (m1 m2 m3 m4 m5 : Sat V) (h h' : List (ℕ × V)) (ts : List ℕ) (l : Log) (n d : ℕ)
       → 0 < m1.0.number → IsPrefix m1.0.seen h → m2.0 ≡ begun m1.0 h ts → (0 < m2.0.stage → h' ≡ m2.0.seen) → m3.0 ≡ record m2.0 { seen = h'; out = 1; log = l } → counted st m3 n m4 → noted stands fired st m4 d m5
-      → Final (Seen (Rule callers) id m5.0) ws xs → IsHistory callers h' × (n + 1 ≡ length h') × (d ≡ n) × HasHand h' m1.0 × (n ≤ 2 ^ 63) × HasFirings fired d h' l
-  ended callers id st m1 m2 m3 m4 m5 h h' ts l n d ws xs named pre e2 whole e3 c o fin =
+      → IsHistory callers m5.0.seen × HasHand m5.0.seen m5.0 → IsHistory callers h' × (n + 1 ≡ length h') × (d ≡ n) × HasHand h' m1.0 × (n ≤ 2 ^ 63) × HasFirings fired d h' l
+  ended callers st m1 m2 m3 m4 m5 h h' ts l n d named pre e2 whole e3 c o fin =
       let x3 : View V = record m1.0 { seen = h'; tries = ts; stage = 1; out = 1; log = l } in
       let x4 : View V = record x3 { counts = m1.0.counts ++ n ∷ [] } in
       let q3 : m3.0 ≡ x3 = e3 ∙ ap (λ (u : View V). record u { seen = h'; out = 1; log = l }) e2 in
       let q4 : m4.0 ≡ x4 = ap (λ m. m.0) c.0 ∙ ap (λ (u : View V). record u { counts = u.counts ++ n ∷ [] }) q3 in
       let q5 : m5.0 ≡ x4 = ap (λ m. m.0) o.0 ∙ q4 in
       let same : h' ≡ h = whole (subst (λ (u : View V). 0 < u.stage) (sym e2) (omega arith)) ∙ ap (λ (u : View V). u.seen) e2 in
-      let k = closes callers id x4 ws xs (omega arith) named (subst (λ (u : View V). Final (Seen (Rule callers) id u) ws xs) q5 fin) in
+      let k = subst (λ (u : View V). IsHistory callers u.seen × HasHand u.seen u) q5 fin in
       let len : n + 1 ≡ length h' = subst (λ (u : View V). 0 < u.out → n + 1 ≡ length u.seen) q3 c.1 (omega arith) in
       let fin_len : d + 1 ≡ length h' = subst (λ (u : View V). u.stage ≡ 1 → d + 1 ≡ length u.seen) q4 o.2 refl in (
         k.0,
         len,
         omega (arith, len, fin_len),
-        (k.1, subst (λ z. IsPrefix m1.0.seen z) (sym same) pre, k.2),
+        (k.1.0, subst (λ z. IsPrefix m1.0.seen z) (sym same) pre, k.1.2),
         c.3,
         (subst (λ (u : View V). 0 < u.out → HasFirings fired d u.seen u.log) q4 (λ out. (o.1 out).0)) (omega arith),
       )

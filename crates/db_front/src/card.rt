@@ -1,6 +1,8 @@
 //! What lies in the slot.
 ghost use Rattle.std.specs.Prelude.{◌≡◌, IfOk};
+ghost use Rattle.std.specs.Arc.{arc_value};
 
+use crate::shown::Shown;
 use std::alloc::AllocError;
 use std::marker::Model;
 use std::sync::Arc;
@@ -30,5 +32,20 @@ impl<V: Drop> Card<V> {
         let value = Arc::try_clone(&self.value)?;
         let log = self.log.share();
         Ok(Card { value, log })
+    }
+
+    /// What callers are shown of it after so many commits, of which so many are finished.
+    pub(crate) fn shown(self, number: u64, finished: u64) -> Shown<V>
+        ensures value { arc_value result.value ≡ self.0 }
+        ensures log { result.log ≡ self.1 }
+        ensures numbers { (result.number ≡ number) × (result.finished ≡ finished) }
+    {
+        let Card { value, log } = self;
+        Shown {
+            value,
+            number,
+            finished,
+            log,
+        }
     }
 }

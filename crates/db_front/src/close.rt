@@ -7,7 +7,6 @@ ghost use Rattle.db_front.specs.inner.Kept.{HasHand};
 ghost use Rattle.db_front.specs.inner.Seats.{IsSized, IsFree, IsSame, hand_of};
 
 use crate::board::{Board, BoardTable, COUNT, DONE, Place};
-use crate::card::Card;
 use crate::pass::Pass;
 use crate::passes::Passes;
 use crate::plays::{Count, Hand, Note};
@@ -53,6 +52,18 @@ fn gather<V: Version>(board: &Board<V>, place: &mut Place<V>, mut passes: Passes
     passes.end();
 }
 
+/// Takes the table apart, with the shown turn held: nobody can commit any more, so the list that
+/// the seat has seen is the whole history.
+fn take_apart<V: Version>(table: BoardTable<V>, place: Place<V>)
+    requires table { (place.table_id ≡ table.shared.table_id) × IsSized table.shared.table_id }
+    requires shown { (0 < place.me.0.out) × (0 < place.me.0.number) }
+    ensures { IsHistory table.shared.key.1 place.me.0.seen × HasHand place.me.0.seen place.me.0 }
+{
+    let mut closed = table.close_with(place);
+    drop(closed.take(0));
+    closed.free();
+}
+
 /// Takes both turns, and the table apart.
 fn settle<V: Version, R: Wait>(
     rt: &R,
@@ -69,18 +80,11 @@ fn settle<V: Version, R: Wait>(
         × HasFirings V.fired result.finished h result.log }
 {
     take_turn(rt, &table.shared, sleepers, &mut place, number);
-    let Card { value, log } = enter(rt, &table.shared, sleepers, &mut place, number);
+    let card = enter(rt, &table.shared, sleepers, &mut place, number);
     let count = table.shared.load::<Count>(&mut place, COUNT);
     let finished = table.shared.load::<Note>(&mut place, DONE);
-    let mut closed = table.close_with(place);
-    drop(closed.take(0));
-    closed.free();
-    Shown {
-        value,
-        number: count,
-        finished,
-        log,
-    }
+    take_apart(table, place);
+    card.shown(count, finished)
 }
 
 impl<V: Version> Shared<V> {

@@ -8,7 +8,6 @@ ghost use Rattle.db_front.specs.Passes.{IsNumber, AllOrAllButLast, IfBegun, IfTa
 ghost use Rattle.db_front.specs.Passes.{WonAtLast, Lost};
 
 use crate::board::BoardTable;
-use crate::card::Card;
 use crate::commits::{commit, end};
 use crate::pass::Pass;
 use crate::shown::{Ready, Shown};
@@ -71,13 +70,10 @@ impl<V: Version> Shared<V> {
         let sleepers = &self.sleepers;
         let (number, finished, shared) = see(rt, board, sleepers, &mut pass.place, pass.number);
         pass.last = number;
-        let Card { value, log } = shared?;
-        Ok(Shown {
-            value,
-            number,
-            finished,
-            log,
-        })
+        match shared {
+            Ok(card) => Ok(card.shown(number, finished)),
+            Err(e) => Err(e),
+        }
     }
 
     /// Takes the writer's turn, and waits until it is free. The value shown is the current one
@@ -110,13 +106,10 @@ impl<V: Version> Shared<V> {
         take_turn(rt, board, &self.sleepers, &mut pass.place, pass.number);
         let (number, shared) = see_begun(rt, board, &self.sleepers, &mut pass.place, pass.number);
         pass.last = number;
-        let Card { value, log } = shared?;
-        Ok(Shown {
-            value,
-            number,
-            finished: number,
-            log,
-        })
+        match shared {
+            Ok(card) => Ok(card.shown(number, number)),
+            Err(e) => Err(e),
+        }
     }
 
     /// Makes one try to take the writer's turn. `None` comes exactly where the try found the number
@@ -155,13 +148,10 @@ impl<V: Version> Shared<V> {
         }
         let (number, shared) = see_begun(rt, board, &self.sleepers, &mut pass.place, pass.number);
         pass.last = number;
-        let Card { value, log } = shared?;
-        Ok(Some(Shown {
-            value,
-            number,
-            finished: number,
-            log,
-        }))
+        match shared {
+            Ok(card) => Ok(Some(card.shown(number, number))),
+            Err(e) => Err(e),
+        }
     }
 
     /// Makes a value ready to be published: takes the owners that its commit needs, one for each

@@ -3,7 +3,7 @@ ghost use Rattle.std.specs.Prelude.{IfOk, OnOk, OnErr, ◌≢◌, ◌≡◌, ◌
 ghost use Rattle.std.specs.Prelude.{None};
 ghost use Rattle.db_front.specs.Commits.{HasFirings};
 ghost use Rattle.db_front.specs.inner.Seats.{IsSized, IsFree, IsSame, Entered, Began, Sees};
-ghost use Rattle.db_front.specs.inner.Seats.{SeesBegun};
+ghost use Rattle.db_front.specs.inner.Seats.{SeesBegun, TookShown};
 
 use crate::board::{Board, COUNT, DONE, Place, SHOWN, WRITER};
 use crate::card::Card;
@@ -51,6 +51,29 @@ pub(crate) fn wake<V: Version>(board: &Board<V>, sleepers: &AtomicU64, turn: usi
     }
 }
 
+/// Takes the shown turn.
+fn take_shown<V: Version, R: Wait>(
+    rt: &R,
+    board: &Board<V>,
+    sleepers: &AtomicU64,
+    place: &mut Place<V>,
+    number: u64,
+)
+    requires table { (place.old.table_id ≡ board.now.table_id) × IsSized board.now.table_id }
+    requires free { IsFree place.old number }
+    ensures seat { IsSame place.old place.new }
+    ensures took { TookShown V.stands place.old place.new }
+{
+    for _ in rt.forever() {
+        let found = board.compare_exchange::<Take>(place, SHOWN, 0, number);
+        if found == 0 {
+            return;
+        }
+        rest(rt, board, sleepers, SHOWN, found);
+    }
+    unreachable!()
+}
+
 /// Takes the shown turn, and what lies in the slot.
 pub(crate) fn enter<V: Version, R: Wait>(
     rt: &R,
@@ -64,14 +87,8 @@ pub(crate) fn enter<V: Version, R: Wait>(
     ensures seat { IsSame place.old place.new }
     ensures took { Entered V.stands place.old place.new result }
 {
-    for _ in rt.forever() {
-        let found = board.compare_exchange::<Take>(place, SHOWN, 0, number);
-        if found == 0 {
-            return board.exchange(place, 0, None).unwrap();
-        }
-        rest(rt, board, sleepers, SHOWN, found);
-    }
-    unreachable!()
+    take_shown(rt, board, sleepers, place, number);
+    board.exchange(place, 0, None).unwrap()
 }
 
 /// Puts the card back into the slot, and gives the shown turn back.

@@ -1,5 +1,5 @@
 -- What the runs of steps between two public calls do to a seat.
-use Rattle.std.specs.Prelude.{◌≡◌, ◌⊎◌, ℕ, ◌+◌, ◌^◌, ◌<◌, ◌≤◌, List, [], ◌∷◌, ◌++◌, length, Option, None}
+use Rattle.std.specs.Prelude.{◌≡◌, ◌⊎◌, ℕ, ◌+◌, ◌^◌, ◌<◌, ◌≤◌, List, [], ◌∷◌, ◌++◌, length, Option, Some, None}
 use mathlib.Core.List.{IsPrefix}
 use Rattle.atomic_table.specs.Seated.{TableId}
 use Rattle.atomic_table.specs.declared.shared.Seat.{Seat}
@@ -53,12 +53,21 @@ module _ {V : Type 0} where
     log = l;
   }
 
-  -- the seat took the shown turn, and the card out of the slot
-  abbrev pub Entered : (List (ℕ × V) → V → Type 0) → Spot V → Spot V → V × Log → Type 0
-  Entered stands s t c =
+  -- the seat took the shown turn when the card lay in the slot, which now has what is named last
+  abbrev pub AtSlot : (List (ℕ × V) → V → Type 0) → Spot V → Spot V → V × Log
+      → Option (V × Log) → Type 0
+  AtSlot stands s t c slot =
       (h : List (ℕ × V)) × IsPrefix s.me.0.seen h × (0 < s.me.0.stage → h ≡ s.me.0.seen)
       × stands h c.0
-      × (t.me ≡ (record s.me.0 { seen = h; out = 1; log = c.1 }, (0, None) ∷ []))
+      × (t.me ≡ (record s.me.0 { seen = h; out = 1; log = c.1 }, (0, slot) ∷ []))
+
+  -- the seat took the shown turn, and the card still lies in the slot
+  abbrev pub TookShown : (List (ℕ × V) → V → Type 0) → Spot V → Spot V → Type 0
+  TookShown stands s t = (c : V × Log) × AtSlot stands s t c (Some c)
+
+  -- the seat took the shown turn, and the card out of the slot
+  abbrev pub Entered : (List (ℕ × V) → V → Type 0) → Spot V → Spot V → V × Log → Type 0
+  Entered stands s t c = AtSlot stands s t c None
 
   -- the seat took the writer's turn, by its last try
   abbrev pub Began : Spot V → Spot V → Type 0

@@ -1,4 +1,4 @@
-use Rattle.std.proofs.Common.{rules, ◌<◌, [], ◌∷◌, ◌++◌, ap, sym, subst, arith}
+use Rattle.std.proofs.Common.{rules, ◌≡◌, ◌+◌, ◌^◌, ◌<◌, ◌≤◌, [], ◌∷◌, ◌++◌, length, ap, sym, ◌∙◌, subst, arith}
 use Rattle.std.proofs.lemmas.Grind.{common_steps}
 use mathlib.Core.Option.{none}
 use Rattle.atomic_table.specs.Table.{step}
@@ -16,17 +16,19 @@ load-finished-requires g c = (search rules, first_of (search rules, grind (arith
 pub returns : goal.returns
 returns g c =
     let t = c.take_turn.ensures.began in
-    let e = c.enter.ensures.took in
+    let e = c.enter-card.ensures.took in
     let free = c.requires.free.0 in
-    let k = ended g.V.Version.stands g.V.Version.fired _ c.load-finished.new.seat.id (step 0 0 0 0 none) c.args.place.me c.take_turn.new.place.me c.enter.new.place.me c.load-count.new.seat.me c.load-finished.new.seat.me
-    t.0 e.0 (c.args.place.me.0.tries ++ t.1 ++ 0 ∷ []) c.enter.result.1 c.load-count.result c.load-finished.result _ _
-    (subst (λ n. 0 < n) (sym free.0) free.1) t.2 (ap (λ m. m.0) t.3) e.2 (ap (λ m. m.0) e.4) c.load-count.ensures.2 c.load-finished.ensures.2 c.close_with-closed.ensures.values.2 in (
+    let k = ended g.V.Version.stands g.V.Version.fired _ (step 0 0 0 0 none) c.args.place.me c.take_turn.new.place.me c.enter-card.new.place.me c.load-count.new.seat.me c.load-finished.new.seat.me
+    t.0 e.0 (c.args.place.me.0.tries ++ t.1 ++ 0 ∷ []) c.enter-card.result.1 c.load-count.result c.load-finished.result
+    (subst (λ n. 0 < n) (sym free.0) free.1) t.2 (ap (λ m. m.0) t.3) e.2 (ap (λ m. m.0) e.4) c.load-count.ensures.2 c.load-finished.ensures.2 c.take_apart.ensures in
+    let told = c.shown.ensures.numbers in (
       e.0,
       k.0,
       k.3,
-      k.1,
-      k.2,
-      k.4,
-      subst (λ v. g.V.Version.stands e.0 v) (sym (ap (λ p. p.0) c.value.view_is)) e.3,
-      subst (λ l. HasFirings g.V.Version.fired c.load-finished.result e.0 l) (sym (ap (λ p. p.1) c.value.view_is)) k.5,
+      subst (λ n. n + 1 ≡ length e.0) (sym told.0) k.1,
+      told.1 ∙ k.2 ∙ sym told.0,
+      subst (λ n. n ≤ 2 ^ 63) (sym told.0) k.4,
+      subst (λ v. g.V.Version.stands e.0 v) (sym c.shown.ensures.value) e.3,
+      subst (λ n. HasFirings g.V.Version.fired n e.0 c.shown.result.log) (sym told.1)
+          (subst (λ l. HasFirings g.V.Version.fired c.load-finished.result e.0 l) (sym c.shown.ensures.log) k.5),
     )
