@@ -1,28 +1,24 @@
 //! Firings, on the trees of the words `foo`, `football` and `fool`, each ended by a byte 00.
 ghost use Rattle.std.specs.Prelude.{◌≡◌, ◌+◌, ◌<◌, ◌≤◌, ◌^◌, IfOk, length};
-ghost use Rattle.mdb_datum.specs.Datum as of;
-ghost use Rattle.mdb_datum.specs.Row.{IsCanonicalRow};
 ghost use Rattle.radix_node.specs.Cells.{AreBelow, AreCellsOf, AreOf};
 
 use crate::fire_all;
-use mdb_datum::{Datum, Members, Row, read_doc};
+use mdb_datum::{Datum, Row, read_doc};
 use radix_node::{Ids, Tree};
 use radix_txn::{Edit, Notice};
-use std::alloc::Global;
+use std::alloc::{AllocError, Global};
 use std::sync::Arc;
 use std::test::Fail;
 use watch_word::{Front, Watch, open_book};
 
 mod run;
 
-/// A row without members.
+/// A row without members. Another document counts as want of memory, which ends a test.
 #[tactic(auto, using(mdb_datum::proofs::Variants::doc_of_members))]
-fn members(alloc: Global) -> Result<Members, Fail>
-    ensures { IfOk result (λ m. IsCanonicalRow (of.members_of m)) }
-{
-    match read_doc(alloc, b"{}")? {
-        Datum::Members(members) => Ok(members),
-        _ => Err(Fail::from("no object")),
+fn row(alloc: Global) -> Result<Row, AllocError> {
+    match read_doc(alloc, b"{}") {
+        Ok(Datum::Members(members)) => Row::of(alloc, members),
+        _ => Err(AllocError),
     }
 }
 
@@ -30,7 +26,7 @@ fn members(alloc: Global) -> Result<Members, Fail>
 type Work = (Tree, Front, Ids);
 
 /// The tree without words.
-fn empty(alloc: Global) -> Result<Work, Fail>
+fn empty(alloc: Global) -> Result<Work, AllocError>
     ensures book { IfOk result (λ w. w.1.book ≡ w.2.book) }
     ensures of { IfOk result (λ w. AreOf w.2.book w.0) }
     ensures below { IfOk result (λ w. AreBelow w.2.next w.0) }
@@ -49,7 +45,7 @@ fn with(
     ids: &mut Ids,
     word: &[u8],
     row: &Row,
-) -> Result<(Tree, Notice), Fail>
+) -> Result<(Tree, Notice), AllocError>
     requires short { length word.now ≤ 2048 }
     requires book { front.now.book ≡ ids.old.book }
     requires of { AreOf ids.old.book tree.now }
@@ -62,40 +58,62 @@ fn with(
     ensures notice { IfOk result (λ w. AreCellsOf ids.new.book w.1) }
 {
     let mut txn = tree.txn()?;
-    txn.insert(front, ids, word, row)?;
+    drop(txn.insert(front, ids, word, row)?);
     Ok(txn.freeze()?)
 }
 
-/// The tree of `foo` and `football`.
-fn two_words(alloc: Global, row: &Row) -> Result<Work, Fail>
-    ensures book { IfOk result (λ w. w.1.book ≡ w.2.book) }
-    ensures of { IfOk result (λ w. AreOf w.2.book w.0) }
-    ensures below { IfOk result (λ w. AreBelow w.2.next w.0) }
-    ensures left { IfOk result (λ w. w.2.next ≤ 10000) }
+/// The tree with `foo` and `football` put in turn.
+fn with_two(tree: &Tree, front: &Front, ids: &mut Ids, row: &Row) -> Result<Tree, AllocError>
+    requires book { front.now.book ≡ ids.old.book }
+    requires of { AreOf ids.old.book tree.now }
+    requires below { AreBelow ids.old.next tree.now }
+    requires left { ids.old.next ≤ 1 }
+    ensures book { ids.new.book ≡ ids.old.book }
+    ensures of { IfOk result (λ t. AreOf ids.new.book t) }
+    ensures below { IfOk result (λ t. AreBelow ids.new.next t) }
+    ensures left { ids.new.next ≤ 10000 }
 {
-    let (none, front, mut ids) = empty(alloc)?;
-    let (one, _) = with(&none, &front, &mut ids, b"foo\0", row)?;
-    let (two, _) = with(&one, &front, &mut ids, b"football\0", row)?;
-    Ok((two, front, ids))
+    let (one, _) = with(tree, front, ids, b"foo\0", row)?;
+    let (two, _) = with(&one, front, ids, b"football\0", row)?;
+    Ok(two)
 }
 
-/// The notice of an insert of `fool` into the tree of `foo` and `football`, with a front from
-/// before, and the ids of two watches of the tree before: that of the missing key, and that of the
-/// leaf of `foo`.
-fn noticed(alloc: Global) -> Result<(Notice, Front, u64, u64), Fail>
+/// The ids of two watches of a tree: that of `fool`, which it has not, and that of `foo`.
+fn watched(tree: &Tree) -> (u64, u64) {
+    let missing = tree.get_watch(b"fool\0").0.id();
+    (missing, tree.get_watch(b"foo\0").0.id())
+}
+
+/// The notice of an insert of `fool` after `foo` and `football`, and both watches before.
+fn told_of_third(
+    tree: &Tree,
+    front: &Front,
+    ids: &mut Ids,
+    row: &Row,
+) -> Result<(Notice, (u64, u64)), AllocError>
+    requires book { front.now.book ≡ ids.old.book }
+    requires of { AreOf ids.old.book tree.now }
+    requires below { AreBelow ids.old.next tree.now }
+    requires left { ids.old.next ≤ 1 }
+    ensures { IfOk result (λ n. AreCellsOf front.now.book n.0) }
+{
+    let old = with_two(tree, front, ids, row)?;
+    let (_, notice) = with(&old, front, ids, b"fool\0", row)?;
+    Ok((notice, watched(&old)))
+}
+
+/// The same from an empty tree on, with a front from before.
+fn noticed(alloc: Global, row: &Row) -> Result<(Notice, Front, (u64, u64)), AllocError>
     ensures { IfOk result (λ n. AreCellsOf n.1.book n.0) }
 {
-    let row = Row::of(alloc, members(alloc)?)?;
-    let (old, front, mut ids) = two_words(alloc, &row)?;
-    let missing = old.get_watch(b"fool\0").0.id();
-    let leaf = old.get_watch(b"foo\0").0.id();
-    let (_, notice) = with(&old, &front, &mut ids, b"fool\0", &row)?;
-    Ok((notice, front, missing, leaf))
+    let (tree, front, mut ids) = empty(alloc)?;
+    let (notice, watches) = told_of_third(&tree, &front, &mut ids, row)?;
+    Ok((notice, front, watches))
 }
 
 /// Whether the cell at a place of a notice has fired.
 #[tactic(auto, using(crate::proofs::Firings::of_at))]
-fn fired_at(notice: &Notice, at: usize, front: &Front) -> Result<bool, Fail>
+fn fired_at(notice: &Notice, at: usize, front: &Front) -> Result<bool, AllocError>
     requires of { AreCellsOf front.now.book notice.now }
     requires within { at < length notice.now }
 {
@@ -104,7 +122,7 @@ fn fired_at(notice: &Notice, at: usize, front: &Front) -> Result<bool, Fail>
 }
 
 /// How many cells of a notice have fired.
-fn fired(notice: &Notice, front: &Front) -> Result<usize, Fail>
+fn fired(notice: &Notice, front: &Front) -> Result<usize, AllocError>
     requires { AreCellsOf front.now.book notice.now }
 {
     let mut count = 0;
@@ -126,14 +144,29 @@ fn has(notice: &Notice, id: u64) -> bool {
     false
 }
 
-/// How many cells have fired before a firing, after it, and after a second one.
-fn firings(alloc: Global) -> Result<[usize; 3], Fail> {
-    let (notice, front, _, _) = noticed(alloc)?;
-    let before = fired(&notice, &front)?;
-    let log = fire_all(&notice, &front, 1);
-    let after = fired(&notice, &log)?;
-    let again = fire_all(&notice, &front, 2);
-    Ok([before, after, fired(&notice, &again)?])
+/// How many cells of a notice have fired after its firing by this number.
+fn fired_by(notice: &Notice, front: &Front, by: u64) -> Result<usize, AllocError>
+    requires of { AreCellsOf front.now.book notice.now }
+    requires number { 1 ≤ by }
+{
+    let log = fire_all(notice, front, by);
+    fired(notice, &log)
+}
+
+/// How many have fired before a firing, after it, and after a second one.
+fn fired_in_turn(notice: &Notice, front: &Front) -> Result<[usize; 3], AllocError>
+    requires { AreCellsOf front.now.book notice.now }
+{
+    let before = fired(notice, front)?;
+    let after = fired_by(notice, front, 1)?;
+    Ok([before, after, fired_by(notice, front, 2)?])
+}
+
+/// The same of the notice of an insert.
+fn firings(alloc: Global) -> Result<[usize; 3], AllocError> {
+    let row = row(alloc)?;
+    let (notice, front, _) = noticed(alloc, &row)?;
+    fired_in_turn(&notice, &front)
 }
 
 #[test]
@@ -143,8 +176,9 @@ fn all_cells_of_a_notice_fire(rt: HostRuntime) -> Result<(), Fail> {
 }
 
 /// Whether the notice has the watch of the missing key, and that of the leaf that stays.
-fn told(alloc: Global) -> Result<[bool; 2], Fail> {
-    let (notice, _, missing, leaf) = noticed(alloc)?;
+fn told(alloc: Global) -> Result<[bool; 2], AllocError> {
+    let row = row(alloc)?;
+    let (notice, _, (missing, leaf)) = noticed(alloc, &row)?;
     Ok([has(&notice, missing), has(&notice, leaf)])
 }
 
@@ -155,7 +189,7 @@ fn a_missing_key_is_noticed_and_a_leaf_that_stays_is_not(rt: HostRuntime) -> Res
 }
 
 /// The notice of a transaction without writes.
-fn noticed_nothing(tree: &Tree, front: &Front) -> Result<Notice, Fail>
+fn noticed_nothing(tree: &Tree, front: &Front) -> Result<Notice, AllocError>
     requires { AreOf front.now.book tree.now }
     ensures { IfOk result (λ n. AreCellsOf front.now.book n) }
 {
@@ -165,11 +199,10 @@ fn noticed_nothing(tree: &Tree, front: &Front) -> Result<Notice, Fail>
 }
 
 /// How many cells of an empty notice fire.
-fn of_nothing(alloc: Global) -> Result<usize, Fail> {
+fn of_nothing(alloc: Global) -> Result<usize, AllocError> {
     let (tree, front, _ids) = empty(alloc)?;
     let notice = noticed_nothing(&tree, &front)?;
-    let log = fire_all(&notice, &front, 1);
-    fired(&notice, &log)
+    fired_by(&notice, &front, 1)
 }
 
 #[test]

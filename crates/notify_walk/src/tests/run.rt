@@ -4,11 +4,11 @@
 ghost use Rattle.std.specs.Prelude.{◌≡◌, ◌+◌, ◌≤◌, ◌^◌, IfOk, OnOk, false, length};
 ghost use Rattle.radix_node.specs.Cells.{AreBelow, AreOf};
 
-use super::{empty, has, members};
+use super::{empty, has, row};
 use mdb_datum::Row;
 use radix_node::{Ids, Tree};
 use radix_txn::{Edit, Notice, TreeTxn};
-use std::alloc::Global;
+use std::alloc::{AllocError, Global};
 use std::test::Fail;
 use watch_word::Front;
 
@@ -57,7 +57,7 @@ fn write(
     ids: &mut Ids,
     number: u64,
     row: &Row,
-) -> Result<(), Fail>
+) -> Result<(), AllocError>
     requires sound { txn.old.spoiled ≡ false }
     requires book { front.now.book ≡ ids.old.book }
     requires of { AreOf ids.old.book txn.old.tree }
@@ -81,6 +81,32 @@ fn write(
     Ok(())
 }
 
+/// Three writes, of other bits of a number each.
+fn write_thrice(
+    txn: &mut TreeTxn,
+    front: &Front,
+    ids: &mut Ids,
+    number: u64,
+    row: &Row,
+) -> Result<(), AllocError>
+    requires sound { txn.old.spoiled ≡ false }
+    requires book { front.now.book ≡ ids.old.book }
+    requires of { AreOf ids.old.book txn.old.tree }
+    requires below { AreBelow ids.old.next txn.old.tree }
+    requires below_start { AreBelow ids.old.next txn.old.start }
+    requires left { ids.old.next ≤ 2 ^ 40 }
+    ensures sound { OnOk result (txn.new.spoiled ≡ false) }
+    ensures start { txn.new.start ≡ txn.old.start }
+    ensures book { ids.new.book ≡ ids.old.book }
+    ensures of { AreOf ids.new.book txn.new.tree }
+    ensures below { AreBelow ids.new.next txn.new.tree }
+    ensures left { ids.new.next ≤ ids.old.next + 12288 }
+{
+    write(txn, front, ids, number >> 20, row)?;
+    write(txn, front, ids, number >> 33, row)?;
+    write(txn, front, ids, number >> 46, row)
+}
+
 /// The tree after three writes, and their notice.
 fn changed(
     tree: &Tree,
@@ -88,7 +114,7 @@ fn changed(
     ids: &mut Ids,
     number: u64,
     row: &Row,
-) -> Result<(Tree, Notice), Fail>
+) -> Result<(Tree, Notice), AllocError>
     requires book { front.now.book ≡ ids.old.book }
     requires of { AreOf ids.old.book tree.now }
     requires below { AreBelow ids.old.next tree.now }
@@ -99,9 +125,7 @@ fn changed(
     ensures left { ids.new.next ≤ ids.old.next + 12288 }
 {
     let mut txn = tree.txn()?;
-    write(&mut txn, front, ids, number >> 20, row)?;
-    write(&mut txn, front, ids, number >> 33, row)?;
-    write(&mut txn, front, ids, number >> 46, row)?;
+    write_thrice(&mut txn, front, ids, number, row)?;
     Ok(txn.freeze()?)
 }
 
@@ -128,8 +152,31 @@ fn all_are_told(old: &Tree, new: &Tree, notice: &Notice) -> bool {
     true
 }
 
+/// Whether all is told in one transaction, whose tree takes the old one's place.
+fn turn(
+    tree: &mut Tree,
+    front: &Front,
+    ids: &mut Ids,
+    number: u64,
+    row: &Row,
+) -> Result<bool, AllocError>
+    requires book { front.now.book ≡ ids.old.book }
+    requires of { AreOf ids.old.book tree.old }
+    requires below { AreBelow ids.old.next tree.old }
+    requires left { ids.old.next ≤ 2 ^ 40 }
+    ensures book { ids.new.book ≡ ids.old.book }
+    ensures of { OnOk result (AreOf ids.new.book tree.new) }
+    ensures below { OnOk result (AreBelow ids.new.next tree.new) }
+    ensures left { ids.new.next ≤ ids.old.next + 12288 }
+{
+    let (new, notice) = changed(tree, front, ids, number, row)?;
+    let told = all_are_told(tree, &new, &notice);
+    *tree = new;
+    Ok(told)
+}
+
 /// Whether all is told in each transaction, from this tree on.
-fn run_on(mut tree: Tree, front: &Front, mut ids: Ids, row: &Row) -> Result<bool, Fail>
+fn run_on(mut tree: Tree, front: &Front, mut ids: Ids, row: &Row) -> Result<bool, AllocError>
     requires book { front.now.book ≡ ids.book }
     requires of { AreOf ids.book tree }
     requires below { AreBelow ids.next tree }
@@ -138,18 +185,16 @@ fn run_on(mut tree: Tree, front: &Front, mut ids: Ids, row: &Row) -> Result<bool
     let mut number = 1;
     for _at in 0..TURNS {
         number = next(number);
-        let (new, notice) = changed(&tree, front, &mut ids, number, row)?;
-        if !all_are_told(&tree, &new, &notice) {
+        if !turn(&mut tree, front, &mut ids, number, row)? {
             return Ok(false);
         }
-        tree = new;
     }
     Ok(true)
 }
 
 /// The same from an empty tree on.
-fn run(alloc: Global) -> Result<bool, Fail> {
-    let row = Row::of(alloc, members(alloc)?)?;
+fn run(alloc: Global) -> Result<bool, AllocError> {
+    let row = row(alloc)?;
     let (tree, front, ids) = empty(alloc)?;
     run_on(tree, &front, ids, &row)
 }
