@@ -1,13 +1,13 @@
 //! Sessions of two callers of one database, step by step.
 ghost use Rattle.std.specs.Prelude.{◌≡◌, [], IfOk};
-ghost use Rattle.mem_txn.specs.Database.{IsOf};
 ghost use Rattle.mem_txn.specs.inner.CallerOf.{IsCaller};
 
-use super::{schema_of, script_of};
+use super::{Told, schema_of, script_of};
 use crate::{Session, Stepped};
 use client_script::Script;
 use mem_txn::{Db, Pass, Passes};
-use std::alloc::Global;
+use std::alloc::{AllocError, Global};
+use std::marker::Model;
 use std::sync::Wait;
 use std::test::Fail;
 
@@ -74,7 +74,7 @@ static WOKEN: Pair = Pair {
 };
 
 /// A database of two callers, the list of its passes without them, and they.
-fn two_callers(alloc: Global) -> Result<(Db, Passes, Pass, Pass), Fail>
+fn two_callers(alloc: Global) -> Result<(Db, Passes, Pass, Pass), AllocError>
     ensures one { IfOk result (λ made. IsCaller made.0 1 made.2) }
     ensures two { IfOk result (λ made. IsCaller made.0 2 made.3) }
     ensures both { IfOk result (λ made. made.0.callers ≡ 2) }
@@ -87,117 +87,102 @@ fn two_callers(alloc: Global) -> Result<(Db, Passes, Pass, Pass), Fail>
     }
 }
 
-/// The scripts of two callers.
-fn scripts(alloc: Global, pair: &Pair) -> Result<(Script, Script), Fail> {
-    let first = script_of(alloc, pair.first)?;
-    Ok((first, script_of(alloc, pair.second)?))
+/// A database of two callers, and the session of each.
+struct Duo {
+    db: Db,
+    passes: Passes,
+    one: Session,
+    two: Session,
 }
 
-/// Takes so many steps, and tells what the last one did.
-fn last_step<R: Wait>(rt: &R, db: &Db, session: &mut Session, steps: u32) -> Result<Stepped, Fail>
-    requires { IsOf db.now session.old.caller }
-    ensures { IsCaller db.now session.old.caller.number session.new.caller }
-{
-    let mut last = Stepped::Ended;
-    for _ in 0..steps {
-        last = session.step(rt, db)?;
+impl Model for Duo {
+    ghost use Rattle.std.specs.Prelude.{◌≡◌, []};
+    ghost use Rattle.mem_txn.specs.inner.CallerOf.{IsCaller};
+
+    ghost Value = { Unit {0} };
+
+    ghost view = { λ d. tt };
+
+    ghost invariant = { λ d. IsCaller d.db 1 d.one.caller × IsCaller d.db 2 d.two.caller
+        × (d.db.callers ≡ 2) × (d.passes ≡ record { passes = []; made = 2 }) };
+}
+
+impl Duo {
+    /// The sessions of two scripts in a new database.
+    fn of(alloc: Global, first: Script, second: Script) -> Result<Duo, AllocError> {
+        let (db, passes, one, two) = two_callers(alloc)?;
+        Ok(Duo {
+            db,
+            passes,
+            one: Session::new(alloc, one.number(), first, one),
+            two: Session::new(alloc, two.number(), second, two),
+        })
     }
-    Ok(last)
-}
 
-/// Whether a caller's turn ends so.
-fn is_taken<R: Wait>(
-    rt: &R,
-    db: &Db,
-    one: &mut Session,
-    two: &mut Session,
-    turn: Turn,
-) -> Result<bool, Fail>
-    requires one { IsOf db.now one.old.caller }
-    requires two { IsOf db.now two.old.caller }
-    ensures one { IsCaller db.now one.old.caller.number one.new.caller }
-    ensures two { IsCaller db.now two.old.caller.number two.new.caller }
-{
-    match turn.0 {
-        false => Ok(last_step(rt, db, one, turn.1)? == turn.2),
-        true => Ok(last_step(rt, db, two, turn.1)? == turn.2),
+    /// The sessions of a pair in a new database.
+    fn opened(alloc: Global, pair: &Pair) -> Result<Duo, AllocError> {
+        let first = script_of(alloc, pair.first)?;
+        Duo::of(alloc, first, script_of(alloc, pair.second)?)
     }
-}
 
-/// Whether all turns end so.
-fn are_taken<R: Wait>(
-    rt: &R,
-    db: &Db,
-    one: &mut Session,
-    two: &mut Session,
-    turns: &[Turn],
-) -> Result<bool, Fail>
-    requires one { IsOf db.now one.old.caller }
-    requires two { IsOf db.now two.old.caller }
-    ensures one { IsCaller db.now one.old.caller.number one.new.caller }
-    ensures two { IsCaller db.now two.old.caller.number two.new.caller }
-{
-    for at in 0..turns.len() {
-        if !is_taken(rt, db, one, two, turns[at])? {
-            return Ok(false);
+    /// Takes a step of the first caller, or of the second.
+    fn step<R: Wait>(&mut self, rt: &R, second: bool) -> Result<Stepped, AllocError> {
+        if second {
+            self.two.step(rt, &self.db)
+        } else {
+            self.one.step(rt, &self.db)
         }
     }
-    Ok(true)
-}
 
-/// Whether each caller has its answers.
-fn have_answers(one: &Session, two: &Session, pair: &Pair) -> bool {
-    one.answers() == pair.first_told.as_bytes() && two.answers() == pair.second_told.as_bytes()
+    /// Takes the steps of a turn, and tells what the last one did.
+    fn last_step<R: Wait>(&mut self, rt: &R, turn: Turn) -> Result<Stepped, AllocError> {
+        let mut last = Stepped::Ended;
+        for _ in 0..turn.1 {
+            last = self.step(rt, turn.0)?;
+        }
+        Ok(last)
+    }
+
+    /// Whether all turns end so.
+    fn takes<R: Wait>(&mut self, rt: &R, turns: &[Turn]) -> Told {
+        for at in 0..turns.len() {
+            if self.last_step(rt, turns[at])? != turns[at].2 {
+                return Ok(false);
+            }
+        }
+        Ok(true)
+    }
+
+    /// Whether each caller has its answers.
+    fn have_told(&self, pair: &Pair) -> bool {
+        self.one.answers() == pair.first_told.as_bytes()
+            && self.two.answers() == pair.second_told.as_bytes()
+    }
+
+    /// Ends both sessions and closes their database, and gives the number of commits.
+    fn close<R: Wait>(self, rt: &R) -> u64 {
+        let Duo {
+            db,
+            mut passes,
+            one,
+            two,
+        } = self;
+        passes.give(one.end(&db));
+        passes.give(two.end(&db));
+        db.close(rt, passes).number()
+    }
 }
 
 /// Whether all turns end so, and each caller has its answers then.
-fn are_told<R: Wait>(
-    rt: &R,
-    db: &Db,
-    one: &mut Session,
-    two: &mut Session,
-    pair: &Pair,
-) -> Result<bool, Fail>
-    requires one { IsOf db.now one.old.caller }
-    requires two { IsOf db.now two.old.caller }
-    ensures one { IsCaller db.now one.old.caller.number one.new.caller }
-    ensures two { IsCaller db.now two.old.caller.number two.new.caller }
-{
-    Ok(are_taken(rt, db, one, two, pair.turns)? && have_answers(one, two, pair))
-}
-
-/// Ends both sessions and closes their database, and gives the number of commits.
-fn close_both<R: Wait>(rt: &R, db: Db, passes: Passes, one: Session, two: Session) -> u64
-    requires one { IsCaller db 1 one.caller }
-    requires two { IsCaller db 2 two.caller }
-    requires both { db.callers ≡ 2 }
-    requires rest { passes ≡ record { passes = []; made = 2 } }
-{
-    let mut passes = passes;
-    passes.give(one.end(&db));
-    passes.give(two.end(&db));
-    db.close(rt, passes).number()
-}
-
-/// A new database, and the sessions of its two callers.
-fn begun(alloc: Global, pair: &Pair) -> Result<(Db, Passes, Session, Session), Fail>
-    ensures one { IfOk result (λ made. IsCaller made.0 1 made.2.caller) }
-    ensures two { IfOk result (λ made. IsCaller made.0 2 made.3.caller) }
-    ensures both { IfOk result (λ made. made.0.callers ≡ 2) }
-    ensures rest { IfOk result (λ made. made.1 ≡ record { passes = []; made = 2 }) }
-{
-    let (first, second) = scripts(alloc, pair)?;
-    let (db, passes, one, two) = two_callers(alloc)?;
-    let one = Session::new(alloc, one.number(), first, one);
-    let two = Session::new(alloc, two.number(), second, two);
-    Ok((db, passes, one, two))
+fn are_told<R: Wait>(rt: &R, duo: &mut Duo, pair: &Pair) -> Told {
+    Ok(duo.takes(rt, pair.turns)? && duo.have_told(pair))
 }
 
 /// Whether two callers of a new database are told so, and make so many commits.
-fn holds<R: Wait>(rt: &R, alloc: Global, pair: &Pair) -> Result<bool, Fail> {
-    let (db, passes, mut one, mut two) = begun(alloc, pair)?;
-    let told = are_told(rt, &db, &mut one, &mut two, pair);
-    let commits = close_both(rt, db, passes, one, two);
+fn holds<R: Wait>(rt: &R, alloc: Global, pair: &Pair) -> Told {
+    let mut duo = Duo::opened(alloc, pair)?;
+    let told = are_told(rt, &mut duo, pair);
+    let commits = duo.close(rt);
     Ok(told? && commits == pair.commits)
 }
 

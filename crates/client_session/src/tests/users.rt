@@ -1,10 +1,5 @@
 //! Sessions over keys, notes, rules and users.
-ghost use Rattle.mem_txn.specs.Database.{IsOf};
-ghost use Rattle.mem_txn.specs.inner.CallerOf.{IsCaller};
-
-use super::{Case, all_answered, close, opened, tells};
-use crate::Session;
-use mem_txn::Db;
+use super::{Case, Solo, Told, all_answered};
 use std::alloc::Global;
 use std::sync::Wait;
 use std::test::Fail;
@@ -219,20 +214,15 @@ fn worked_sessions_are_answered(rt: HostRuntime) -> Result<(), Fail> {
 const ONE_COMMIT: &str = "1: write @0\n2: commit @1\n";
 
 /// Runs a session twice, and tells whether the text of its answers is this each time.
-fn tells_twice<R: Wait>(rt: &R, db: &Db, session: &mut Session, answers: &str) -> Result<bool, Fail>
-    requires own { IsOf db.now session.old.caller }
-    ensures { IsCaller db.now session.old.caller.number session.new.caller }
-{
-    let first = tells(rt, db, session, answers)?;
-    let second = tells(rt, db, session, answers)?;
-    Ok(first && second)
+fn tells_twice<R: Wait>(rt: &R, solo: &mut Solo, answers: &str) -> Told {
+    Ok(solo.tells(rt, answers)? & solo.tells(rt, answers)?)
 }
 
 /// Whether a second run of a session adds no answer and no commit.
-fn is_run_once<R: Wait>(rt: &R, alloc: Global) -> Result<bool, Fail> {
-    let (db, passes, mut session) = opened(alloc, SCHEMA, "write\ncommit\n")?;
-    let told = tells_twice(rt, &db, &mut session, ONE_COMMIT);
-    let commits = close(rt, db, passes, session);
+fn is_run_once<R: Wait>(rt: &R, alloc: Global) -> Told {
+    let mut solo = Solo::opened(alloc, "write\ncommit\n")?;
+    let told = tells_twice(rt, &mut solo, ONE_COMMIT);
+    let commits = solo.close(rt);
     Ok(told? && commits == 1)
 }
 
