@@ -16,7 +16,7 @@ use Rattle.mdb_schema.specs.State.{State, empty_state, IsLawfulState}
 use Rattle.mdb_schema.specs.Tests.{◌>>=◌, needed, passed}
 use Rattle.mdb_schema.specs.Wipe.{wipe, wipe_by_prefix}
 use Rattle.mdb_schema.specs.Write.{Write, put, remove, Stepped, step}
-use Rattle.mdb_schema.proofs.LawfulStates.{after_writes-append, state_at_lawful, writes_keep}
+use Rattle.mdb_schema.proofs.LawfulStates.{state_at_lawful, writes_keep}
 use Rattle.client_script.specs.Alone.{alone, commit_printed}
 use Rattle.client_script.specs.Client.{Sight, Writing, Transaction, closed, reading, writing, Client, at_start, state_seen, snapshot_named, none_open, some_open, read_open, write_open, sight_of, Judged}
 use Rattle.client_script.specs.Legal.{Legal, printed, number_printed, all_printed, callers}
@@ -31,6 +31,7 @@ use Rattle.client_script.specs.inner.Within.{IsWithin}
 use Rattle.client_script.proofs.LongerHistory.{next_within, start_within}
 use Rattle.client_script.proofs.OneClient.{AreTurns, IsOn, Keeps, same, commits, keeps, StandsOn, Prints, told_here, later, later_commit, next_commit, within_history, within_up, told_each, as_many, printed_few, one_session, self_le, writing_is, rows_told}
 use Rattle.client_script.proofs.RowCounts.{rows_in, rows_in-empty, put_count, remove_count, wipe_count, wipe_by_prefix_count}
+use Rattle.mdb_schema.proofs.HistorySteps.{after_writes-append, after_commits-more, writes_in-more}
 
 -- after so many lines: a transaction stands on the first k commits, and all writes until now, with
 -- as many rows as it sees, are at most two for each line
@@ -142,22 +143,14 @@ module _ (schema : DbSchema) (H : History) (k lines : ℕ) (laws : IsLawfulSchem
 
 -- ---- a commit
 
-writes_more : (H : History) (c : Commit) → writes_in (H ++ c ∷ []) ≡ writes_in H + length c.writes
-writes_more [] c = omega arith
-writes_more (h ∷ H) c = let rest = writes_more H c in omega (arith, rest)
-
-commits_more : (schema : DbSchema) (s : State) (H : History) (c : Commit) → after_commits schema s (H ++ c ∷ []) ≡ after_writes schema (after_commits schema s H) c.writes
-commits_more schema s [] c = refl
-commits_more schema s (h ∷ H) c = commits_more schema (after_writes schema s h.writes) H c
-
 -- what is written and stored after the commit of a transaction
 committed_base : (schema : DbSchema) (H : History) (k lines : ℕ) (t : Writing) (r : Reply) (texts : List Bytes) → r ≡ committed (suc k) texts → IsEntry H 1 (writing t) r → Bounded schema H k lines (writing t)
     → writes_in (take (suc k) H) + rows_in (state_at schema H (suc k)) ≤ 2 * suc lines
 committed_base schema H k lines t r texts is entry bound =
     let c : Commit = record { caller = 1; writes = t.writes } in
     let more : take k H ++ c ∷ [] ≡ take (suc k) H = ap (λ (x : Reply). take k H ++ commit_printed x (writing t)) (sym is) ∙ next_commit H k t r texts is bound.0 entry in
-    let first : writes_in (take (suc k) H) ≡ writes_in (take k H) + length t.writes = ap writes_in (sym more) ∙ writes_more (take k H) c in
-    let rows : rows_in (state_at schema H (suc k)) ≡ rows_in (after_writes schema (state_at schema H k) t.writes) = ap (λ (G : History). rows_in (after_commits schema (empty_state schema) G)) (sym more) ∙ ap rows_in (commits_more schema (empty_state schema) (take k H) c) in
+    let first : writes_in (take (suc k) H) ≡ writes_in (take k H) + length t.writes = ap writes_in (sym more) ∙ writes_in-more (take k H) c in
+    let rows : rows_in (state_at schema H (suc k)) ≡ rows_in (after_writes schema (state_at schema H k) t.writes) = ap (λ (G : History). rows_in (after_commits schema (empty_state schema) G)) (sym more) ∙ ap rows_in (after_commits-more schema (empty_state schema) (take k H) c) in
     let seen : rows_in (state_seen schema H (sight_of t)) ≡ rows_in (after_writes schema (state_at schema H k) t.writes) = ap (λ (n : ℕ). rows_in (after_writes schema (state_at schema H n) t.writes)) bound.0 in
     let le = bound.1 in
     omega (arith, first, rows, seen, le)

@@ -1,7 +1,6 @@
 pub mod AloneIsLegal
 pub mod BlankEnds
 pub mod DocParts
-pub mod ErrorWords
 pub mod FewCommits
 pub mod FewWrites
 pub mod LimitDigits

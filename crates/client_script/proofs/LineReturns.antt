@@ -2,27 +2,13 @@
 use Rattle.std.proofs.Common.{arith, ◌≡◌, ◌≢◌, refl, ap, sym, ◌∙◌, ◌-◌, [], ◌∷◌, ◌++◌, length, take, drop, Bool, true, false, length-append}
 use Rattle.std.specs.Prelude.{if◌then◌else◌, nat_eq, codes}
 use Rattle.std.specs.List.{ends_with}
-use Rattle.std.specs.Str.{bytes_eq}
-use Rattle.std.proofs.lemmas.List.{take_at, drop_at, take-append-drop}
+use Rattle.std.proofs.lemmas.List.{take-append-drop}
 use Rattle.std.proofs.lemmas.Slice.Eq.{bytes_eq-Decides}
 use Rattle.mdb_datum.specs.Bytes.{Bytes}
 use Rattle.client_script.specs.Lines.{without_return}
 
 one_less : (kept : Bytes) → length (kept ++ 13 ∷ []) - 1 ≡ length kept
 one_less kept = omega (arith, length-append kept (13 ∷ []))
-
-pub without_return-dropped : (kept line : Bytes) → line ≡ kept ++ 13 ∷ [] → without_return line ≡ kept
-without_return-dropped kept line is = ap without_return is ∙ by_test (ends_with nat_eq (kept ++ 13 ∷ []) (codes "\r")) ends
-  where
-    last : drop (length (kept ++ 13 ∷ []) - 1) (kept ++ 13 ∷ []) ≡ 13 ∷ []
-    last = drop_at kept (13 ∷ []) (length (kept ++ 13 ∷ []) - 1) (sym (one_less kept))
-
-    ends : ends_with nat_eq (kept ++ 13 ∷ []) (codes "\r") ≡ true
-    ends = ap (bytes_eq (13 ∷ [])) last
-
-    by_test : (t : Bool) → t ≡ true → (if t then take (length (kept ++ 13 ∷ []) - 1) (kept ++ 13 ∷ []) else kept ++ 13 ∷ []) ≡ kept
-    by_test true e = take_at kept (13 ∷ []) (length (kept ++ 13 ∷ []) - 1) (sym (one_less kept))
-    by_test false e = cc
 
 pub without_return-kept : (line : Bytes) → ((front : Bytes) → line ≢ front ++ 13 ∷ []) → without_return line ≡ line
 without_return-kept line none = by_test (ends_with nat_eq line (codes "\r")) refl

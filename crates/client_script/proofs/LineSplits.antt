@@ -1,5 +1,5 @@
 -- The lines of a file, one after the other, and how many there are.
-use Rattle.std.proofs.Common.{arith, ◌≡◌, refl, ap, sym, ◌∙◌, ℕ, suc, ◌+◌, ◌-◌, ◌<◌, List, [], ◌∷◌, ◌++◌, length, take, drop, get_or, Bool, true, false, cond, not, Some, None, one-add, add-one, length-drop}
+use Rattle.std.proofs.Common.{arith, ◌≡◌, refl, ap, sym, ◌∙◌, ℕ, suc, ◌+◌, ◌-◌, List, [], ◌∷◌, ◌++◌, length, take, drop, get_or, Bool, true, false, cond, not, Some, None, one-add, add-one}
 use Rattle.std.specs.Prelude.{◌==◌, ◌||◌, if◌then◌else◌, count_by, Result, Ok, Err}
 use Rattle.std.specs.List.{prefix_len, before_first, after_first}
 use Rattle.std.proofs.lemmas.Bool.Decides.{nat_tests}
@@ -53,19 +53,6 @@ lines_of-first (b ∷ bs) p e =
     let there = e ∙ first_line-cons b bs in
     let is : (before_first is_feed (b ∷ bs), after_first is_feed (b ∷ bs)) ≡ p = cc in
     lines_of-cons b bs ∙ ap (λ q. q.0 ∷ lines_of q.1) is
-
-pub lines_of-none : (bs : Bytes) → None ≡ first_line bs → lines_of bs ≡ []
-lines_of-none [] e = refl
-lines_of-none (b ∷ bs) e = let there = e ∙ first_line-cons b bs in cc
-
--- what follows a line is shorter
-pub rest_is_shorter : (bs : Bytes) (p : Bytes × Bytes) → Some p ≡ first_line bs → length p.1 < length bs
-rest_is_shorter [] p e = cc
-rest_is_shorter (b ∷ bs) p e =
-    let there = e ∙ first_line-cons b bs in
-    let is : (before_first is_feed (b ∷ bs), after_first is_feed (b ∷ bs)) ≡ p = cc in
-    let size : length (after_first is_feed (b ∷ bs)) ≡ length p.1 = ap (λ q. length q.1) is in
-    omega (arith, size, length-drop (prefix_len in_line (b ∷ bs) + 1) (b ∷ bs))
 
 -- ---- what lines read as
 

@@ -34,7 +34,7 @@ state_longer : (schema : DbSchema) (H more : History) (n : ℕ) → n ≤ length
 state_longer schema H more n there = ap (after_commits schema (empty_state schema)) (take-append-le n H more there)
 
 -- what is seen
-seen_longer : (schema : DbSchema) (H more : History) (s : Sight) → s.number ≤ length H → state_seen schema (H ++ more) s ≡ state_seen schema H s
+pub seen_longer : (schema : DbSchema) (H more : History) (s : Sight) → s.number ≤ length H → state_seen schema (H ++ more) s ≡ state_seen schema H s
 seen_longer schema H more s there = ap (λ (x : State). after_writes schema x s.writes) (state_longer schema H more s.number there)
 
 client : ℕ → Transaction → List Snapshot → Watching → Client
@@ -304,17 +304,3 @@ start_within n = record { transaction = tt; snapshots = tt }
 -- a longer history keeps a session a session
 pub session_longer : (schema : DbSchema) (H more : History) (client : ℕ) (script : List Line) (replies : List Reply) → Session schema H client script replies → Session schema (H ++ more) client script replies
 session_longer schema H more client script replies (end, runs) = (end, runs_longer schema H more client at_start script replies end (start_within (length H)) runs)
-
--- ---- one more line
-
-pub runs_within : (schema : DbSchema) (H : History) (client : ℕ) (v : Client) (ls : List Line) (rs : List Reply) (end : Client) → IsWithin (length H) v → Runs schema H client v ls rs end → IsWithin (length H) end
-runs_within schema H client v [] [] end within runs = subst (IsWithin (length H)) (sym runs) within
-runs_within schema H client v [] (r ∷ rs) end within runs = absurd runs
-runs_within schema H client v (l ∷ ls) [] end within runs = absurd runs
-runs_within schema H client v (l ∷ ls) (r ∷ rs) end within (next, a, runs) = runs_within schema H client next ls rs end (answered_within schema H client v l.command r next within a) runs
-
-pub runs_more : (schema : DbSchema) (H : History) (client : ℕ) (v : Client) (ls : List Line) (rs : List Reply) (mid end : Client) (l : Line) (r : Reply) → Runs schema H client v ls rs mid → Answers schema H client mid l.command r end → Runs schema H client v (ls ++ l ∷ []) (rs ++ r ∷ []) end
-runs_more schema H client v [] [] mid end l r runs a = (end, subst (λ (x : Client). Answers schema H client x l.command r end) runs a, refl)
-runs_more schema H client v [] (r' ∷ rs) mid end l r runs a = absurd runs
-runs_more schema H client v (l' ∷ ls) [] mid end l r runs a = absurd runs
-runs_more schema H client v (l' ∷ ls) (r' ∷ rs) mid end l r (next, a', runs) a = (next, a', runs_more schema H client next ls rs mid end l r runs a)

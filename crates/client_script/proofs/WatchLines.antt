@@ -250,9 +250,6 @@ module _ (schema : DbSchema) (H H' : History) (client now now' : ℕ) (v : Clien
 
 -- ---- a longer history
 
-state_of_longer : (schema : DbSchema) (H more : History) → Type 0
-state_of_longer schema H more = (n : ℕ) → n ≤ length H → state_at schema (H ++ more) n ≡ state_at schema H n
-
 get_first : {A : Type 0} (xs more : List A) (n : ℕ) → n < length xs → slice_get (xs ++ more) n ≡ slice_get xs n
 get_first [] more n lt = absurd (none lt)
   where

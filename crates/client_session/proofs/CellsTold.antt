@@ -16,7 +16,7 @@ use Rattle.mem_txn.specs.CellHistory.{AreComplete, CellHistory, Forest, asked_in
 use Rattle.mem_txn.specs.Checked.{IsBeginning, IsFired, IsHeldBy}
 use Rattle.mem_txn.specs.Database.{Caller, cells_seen}
 use Rattle.mem_txn.specs.Held.{HeldWatch}
-use Rattle.mem_txn.proofs.HeldAlong.{length_longer}
+use Rattle.mem_txn.proofs.HeldAlong.{length_longer, state_longer}
 use Rattle.client_script.proofs.LongerHistory.{answered_within, answers_longer, start_within}
 use Rattle.client_script.specs.inner.Within.{IsWithin}
 use Rattle.client_script.specs.Client.{Client, Watch, WatchSet, at_start}
@@ -27,7 +27,6 @@ use Rattle.client_script.specs.Watching.{set_for}
 use Rattle.client_script.specs.declared.command.Command.{Command}
 use Rattle.client_script.specs.declared.command.Command.TheVariants as command
 use Rattle.client_script.specs.declared.line.Line.{Line}
-use Rattle.client_session.proofs.QuietBefore.{state_of_more}
 use Rattle.client_session.specs.Cells.{AreOfOneCell, AreOfOtherCells, HasCell, HasEachCellOnce, HasMoved, HasTreesAfter, RunsByCells, TellsCells}
 use Rattle.client_session.specs.inner.WatchingView.{watch_of}
 
@@ -124,7 +123,7 @@ module _ (p q : Caller) (more : IsBeginning p q) where
   cell_more : (x : Query) (n : ℕ) → HasTreesAfter J n → cell_at K x n ≡ cell_at J x n
   cell_more x n h =
       let schema : q.schema ≡ p.schema = more.schema in
-      let state : state_after K n ≡ state_after J n = ap (λ (s : DbSchema). state_at s q.seen n) schema ∙ state_of_more p.schema p.seen q.seen n more.seen h.commit in
+      let state : state_after K n ≡ state_after J n = ap (λ (s : DbSchema). state_at s q.seen n) schema ∙ state_longer p.schema p.seen q.seen n more.seen h.commit in
       let forest : slice_get q.trees n ≡ slice_get p.trees n = one_there p.trees q.trees n more.trees h.trees in
       (λ i. question_cell (schema i) (state i) (forest_or_none (forest i)) x)
 

@@ -4,11 +4,9 @@ use Rattle.std.specs.Prelude.{OnOk, option_map, is_some, if◌then◌else◌, Bo
 use Rattle.std.specs.BTreeMap.{get_by_text}
 use Rattle.std.specs.Str.{bytes_eq}
 use Rattle.std.specs.Bool.{⊤}
-use Rattle.std.proofs.lemmas.List.{append-nil}
 use Rattle.mem_txn.specs.Changes.{present_view}
 use Rattle.mem_txn.specs.Transactions.{AnswersSnapshot, changes_of, items_of}
 use Rattle.mem_txn.specs.declared.write_txn.WriteTxn.{WriteTxn}
-use Rattle.std.proofs.lemmas.Slice.Eq.{bytes_eq-Decides}
 use Rattle.mdb_datum.specs.Bytes.{Bytes}
 use Rattle.mdb_schema.specs.History.{Commit, History}
 use Rattle.mdb_schema.specs.Schema.{DbSchema}
@@ -35,8 +33,8 @@ use Rattle.client_session.proofs.CellsTold.{tells_rows}
 use Rattle.client_session.proofs.ToldCounts.{TellsNone, answered_none}
 use Rattle.client_session.proofs.FollowsOn.{follows_then, holds_on, knows_on, seen_more, within_more}
 use Rattle.client_session.proofs.KeptSteps.{seen_step}
-use Rattle.client_session.proofs.OpenTurns.{looks_self}
-use Rattle.client_session.proofs.RequestTurns.{rule_of_question, name_of_question, none_numbered}
+use Rattle.client_session.proofs.OpenTurns.{looks_self, no_more}
+use Rattle.client_session.proofs.RequestTurns.{rule_of_question, name_of_question, none_numbered, answer_makes, refused_makes}
 use Rattle.client_session.specs.declared.rule.Rule.TheVariants as rules
 use Rattle.client_session.specs.inner.Refusal.{question_rule}
 use Rattle.client_session.specs.inner.RuleName.{rule_name}
@@ -54,6 +52,8 @@ use Rattle.client_session.specs.inner.DeskView.{Follows, IsHeldUp, IsKeptOf, Loo
 use Rattle.client_session.specs.inner.KeptView.{kept_view, seen_in}
 use Rattle.client_session.specs.inner.OpenView.{Grows, IsNumbered, LooksAndTurns, TriesWrite, TurnsTo, caller_of, transaction_of, Stands, made}
 use Rattle.client_session.specs.inner.WatchingView.{Holds, IsReadBy, Knows}
+use Rattle.client_script.proofs.OneClient.{snapshot_prints}
+use Rattle.mdb_schema.proofs.Membership.{same_key}
 
 -- ---- the entry of a commit
 
@@ -189,17 +189,9 @@ tried_told n c d o s s' (Err e) is same tries = tt
 
 -- ---- snapshots
 
-no_more : (p : Caller) → p ≡ record p { seen = p.seen ++ []; trees = p.trees ++ []; own = p.own ++ [] }
-no_more p = λ i. record p { seen = sym (append-nil p.seen) i; trees = sym (append-nil p.trees) i; own = sym (append-nil p.own) i }
-
 -- a reply that tells no commit makes none
 pub none_grown : (p : Caller) (t : Transaction) (r : said.Reply) → made p.number t r ≡ [] → Grows p p t r
 none_grown p t r makes = ([], no_more p ∙ ap (λ (cs : History). record p { seen = p.seen ++ cs; trees = p.trees ++ []; own = p.own ++ cs }) (sym makes))
-
-refused_makes : (rule : Bytes) (n : ℕ) (t : Transaction) → made n t (said.refused rule) ≡ []
-refused_makes rule n closed = refl
-refused_makes rule n (reading m) = refl
-refused_makes rule n (writing t) = refl
 
 kept_makes : (t' : Transaction) (s : Sight) (n : ℕ) (t : Transaction) → made n t (snapshot_reply t' s) ≡ []
 kept_makes closed s n closed = refl
@@ -251,11 +243,6 @@ snapshot_tells d v name q view a follows there tells =
     let told : ask (caller_of d.«open»).schema (state_seen (caller_of d.«open»).schema (caller_of d.«open»).seen found.sight) q ≡ Ok a = ap (λ (x : View). ask x.schema x.state q) found.sees ∙ tells in
     rw (found.is, told) refl
 
-answered_makes : (a : Answer) (n : ℕ) (t : Transaction) → made n t (said.answered a) ≡ []
-answered_makes a n closed = refl
-answered_makes a n (reading m) = refl
-answered_makes a n (writing t) = refl
-
 -- a question of a snapshot that is answered
 pub snapshot_answered : (d : Desk) (name : Bytes) (q : Query) (view : View) (a : Answer) → Stands d.«open» → seen_in d.snapshots name ≡ Some view → AnswersAsk (ask view.schema view.state q) (Ok a) → RepliesTo (command.InSnapshot name q) d d (said.answered a)
 snapshot_answered d name q view a stands there answers = of (ask view.schema view.state q) refl answers
@@ -264,7 +251,7 @@ snapshot_answered d name q view a stands there answers = of (ask view.schema vie
     of (Err why) is told = cc
     of (Ok b) is told =
         let same : a ≡ b = cc in
-        kept_desk (command.InSnapshot name q) d (said.answered a) refl stands refl (answered_makes a) (λ v follows. snapshot_tells d v name q view a follows there (is ∙ ap Ok (sym same)))
+        kept_desk (command.InSnapshot name q) d (said.answered a) refl stands refl (answer_makes a) (λ v follows. snapshot_tells d v name q view a follows there (is ∙ ap Ok (sym same)))
 
 no_rule : {A : Type 0} (P : A → Type 0) (r : Result A AllocError) → IsErr r → IfOk r P
 no_rule P (Ok x) is = cc
@@ -296,14 +283,6 @@ snapshot_refused d name q view e rule result stands there answers rule_is told =
 abbrev or_else : Option Sight → Option Sight → Option Sight
 or_else None y = y
 or_else (Some x) y = Some x
-
-bytes_same : (a b : Bytes) → bytes_eq a b ≡ true → a ≡ b
-bytes_same a b is = (bytes_eq-Decides a b).0 is
-
-kept_prints : (t : Transaction) (s : Sight) → number_printed (snapshot_reply t s) ≡ []
-kept_prints closed s = refl
-kept_prints (reading m) s = refl
-kept_prints (writing t) s = refl
 
 -- a name that no snapshot has
 not_named : (p : Caller) (found : Option Sight) → is_some (option_map (view_of p) found) ≡ false → found ≡ None
@@ -338,7 +317,7 @@ module _ (d : Desk) (o : Open) (snaps : Named Kept) (name : Bytes) (s : Sight) (
   d' = record { «open» = o; snapshots = snaps; watching = d.watching }
 
   none : number_printed r ≡ []
-  none = ap number_printed reply ∙ kept_prints (transaction_of d.«open») s
+  none = ap number_printed reply ∙ snapshot_prints (transaction_of d.«open») s
 
   makes : made holder.number (transaction_of d.«open») r ≡ []
   unfolding holder
@@ -348,7 +327,7 @@ module _ (d : Desk) (o : Open) (snaps : Named Kept) (name : Bytes) (s : Sight) (
   unnamed v follows = not_named (caller_of d.«open») (snapshot_named name v.snapshots) (ap is_some (sym (follows.snapshots name)) ∙ free)
 
   not_there : (v : Client) → Follows d v → (q : Bytes) → bytes_eq name q ≡ true → snapshot_named q v.snapshots ≡ None
-  not_there v follows q is = subst (λ (x : Bytes). snapshot_named x v.snapshots ≡ None) (bytes_same name q is) (unnamed v follows)
+  not_there v follows q is = subst (λ (x : Bytes). snapshot_named x v.snapshots ≡ None) (same_key name q is) (unnamed v follows)
 
   answers : (v : Client) → Follows d v → Answers holder.schema (caller_of o).seen holder.number v (command.Snapshot name) r (with_snapshot name s v)
   unfolding holder

@@ -3,11 +3,9 @@ use Rattle.std.proofs.Common.{arith, ◌≡◌, refl, ap, subst, sym, ◌∙◌,
 use Rattle.std.specs.Prelude.{option_map, if◌then◌else◌, Bool, true, false}
 use Rattle.std.specs.BTreeMap.{get_by_text}
 use Rattle.std.specs.Str.{bytes_eq}
-use Rattle.std.proofs.lemmas.List.{length-append, take-append-le}
+use Rattle.std.proofs.lemmas.List.{length-append}
 use Rattle.mdb_datum.specs.Bytes.{Bytes}
-use Rattle.mdb_schema.specs.History.{History, after_commits, after_writes}
-use Rattle.mdb_schema.specs.Schema.{DbSchema}
-use Rattle.mdb_schema.specs.State.{empty_state}
+use Rattle.mdb_schema.specs.History.{History}
 use Rattle.mem_txn.proofs.SeenBegins.{begins_twice}
 use Rattle.mem_txn.specs.Checked.{IsBeginning}
 use Rattle.mem_txn.specs.Database.{Caller, Reading, View}
@@ -24,6 +22,7 @@ use Rattle.client_session.specs.inner.DeskView.{Follows, IsKeptOf, view_of}
 use Rattle.client_session.specs.inner.KeptView.{seen_in}
 use Rattle.client_session.specs.inner.OpenView.{Looks, Stands, WasRead, caller_of, transaction_of}
 use Rattle.client_session.specs.inner.WatchingView.{Holds, IsReadBy, Knows}
+use Rattle.client_script.proofs.LongerHistory.{seen_longer}
 
 -- as many commits are seen, or more
 pub seen_more : (p q : Caller) → IsBeginning p q → length p.seen ≤ length q.seen
@@ -40,9 +39,6 @@ within_more n k v le within = record { transaction = stands v.transaction within
     all : (ss : List Snapshot) → AllWithin n ss → AllWithin k ss
     all [] w = tt
     all (s ∷ ss) w = (let at = w.0 in omega arith, all ss w.1)
-
-seen_longer : (schema : DbSchema) (H more : History) (s : Sight) → s.number ≤ length H → state_seen schema (H ++ more) s ≡ state_seen schema H s
-seen_longer schema H more s there = ap (λ (first : History). after_writes schema (after_commits schema (empty_state schema) first) s.writes) (take-append-le s.number H more there)
 
 -- a snapshot sees what it saw
 pub view_more : (p q : Caller) (more : History) (s : Sight) → q.schema ≡ p.schema → p.seen ++ more ≡ q.seen → s.number ≤ length p.seen → view_of q s ≡ view_of p s

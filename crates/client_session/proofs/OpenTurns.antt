@@ -32,7 +32,7 @@ use Rattle.client_session.proofs.ToldCounts.{TellsNone, told_none}
 use Rattle.mdb_schema.specs.Schema.{DbSchema}
 
 -- a caller that has seen no more
-no_more : (p : Caller) → p ≡ record p { seen = p.seen ++ []; trees = p.trees ++ []; own = p.own ++ [] }
+pub no_more : (p : Caller) → p ≡ record p { seen = p.seen ++ []; trees = p.trees ++ []; own = p.own ++ [] }
 no_more p = λ i. record p { seen = sym (append-nil p.seen) i; trees = sym (append-nil p.trees) i; own = sym (append-nil p.own) i }
 
 -- what is read at once is read from what the caller has seen

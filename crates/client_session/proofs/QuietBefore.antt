@@ -1,14 +1,15 @@
 -- What is told of a quiet watch holds after fewer commits too, and in a longer history.
-use Rattle.std.proofs.Common.{◌≡◌, ◌∙◌, ◌+◌, ◌-◌, ◌<◌, ◌≤◌, ◌++◌, ◌⊎◌, inl, inr, ℕ, zero, suc, List, [], ◌∷◌, length, slice_get, refl, sym, ap, subst, arith}
+use Rattle.std.proofs.Common.{◌≡◌, ◌∙◌, ◌-◌, ◌<◌, ◌≤◌, ◌⊎◌, inl, inr, ℕ, length, slice_get, sym, ap, subst, arith}
 use Rattle.std.proofs.Math.Nat.{eq-or-lt_of_le}
-use Rattle.std.proofs.lemmas.List.{take-append-le}
 use mathlib.Core.List.{IsPrefix}
 use Rattle.mdb_schema.specs.Answer.{ask}
 use Rattle.mdb_schema.specs.Guarded.{IsGuarded, IsUnchanged}
-use Rattle.mdb_schema.specs.History.{History, IsMadeBy, after_commits, state_at}
+use Rattle.mdb_schema.specs.History.{History, IsMadeBy}
 use Rattle.mdb_schema.specs.Query.{Query}
 use Rattle.mdb_schema.specs.Schema.{DbSchema}
-use Rattle.mdb_schema.specs.State.{State, empty_state}
+use Rattle.mdb_schema.specs.State.{State}
+use Rattle.watch_set.proofs.GuardedChains.{item-there}
+use Rattle.mem_txn.proofs.HeldAlong.{state_longer}
 
 -- ---- fewer commits
 
@@ -27,21 +28,11 @@ unchanged_before schema H caller q v m n less is = of (eq-or-lt_of_le less)
 
 -- ---- a longer history
 
--- the state after a commit is that of each longer history
-pub state_of_more : (schema : DbSchema) (old new : History) (n : ℕ) → IsPrefix old new → n ≤ length old → state_at schema new n ≡ state_at schema old n
-state_of_more schema old new n p few =
-    ap (λ (H : History). state_at schema H n) (sym p.1) ∙ ap (after_commits schema (empty_state schema)) (take-append-le n old p.0 few)
-
-item_first : {X : Type 0} (xs more : List X) (n : ℕ) → n < length xs → slice_get (xs ++ more) n ≡ slice_get xs n
-item_first [] more n within = absurd (omega arith)
-item_first (x ∷ xs) more zero within = refl
-item_first (x ∷ xs) more (suc n) within = item_first xs more n (omega arith)
-
 module _ (schema : DbSchema) (old new : History) (more : IsPrefix old new) where
   guarded_longer : (q : Query) (v n : ℕ) → n ≤ length old → IsGuarded schema old q v n → IsGuarded schema new q v n
   guarded_longer q v n within guarded j low high =
-      let there = state_of_more schema old new j more (omega (arith, within, high)) in
-      let first = state_of_more schema old new v more (omega (arith, within, low, high)) in
+      let there = state_longer schema old new j more (omega (arith, within, high)) in
+      let first = state_longer schema old new v more (omega (arith, within, low, high)) in
       ap (λ (s : State). ask schema s q) there ∙ guarded j low high ∙ sym (ap (λ (s : State). ask schema s q) first)
 
   made_before : (caller n : ℕ) → n ≤ length old → IsMadeBy new caller n → IsMadeBy old caller n
@@ -49,7 +40,7 @@ module _ (schema : DbSchema) (old new : History) (more : IsPrefix old new) where
       let some = own.0 in (
         own.0,
         own.1,
-        sym (item_first old more.0 (n - 1) (omega (arith, within, some))) ∙ ap (λ (H : History). slice_get H (n - 1)) more.1 ∙ own.2,
+        sym (item-there old more.0 (n - 1) (omega (arith, within, some))) ∙ ap (λ (H : History). slice_get H (n - 1)) more.1 ∙ own.2,
         own.3,
       )
 

@@ -1,16 +1,14 @@
 -- Members of a set that were quiet in looks at it, as the client is told of them.
-use Rattle.std.proofs.Common.{◌≡◌, ◌∙◌, ◌≤◌, ◌++◌, ℕ, zero, suc, List, [], ◌∷◌, length, map, take, refl, sym, ap, subst, append-nil, arith}
-use mathlib.Core.List.{IsPrefix}
+use Rattle.std.proofs.Common.{◌≡◌, ◌≤◌, ◌++◌, ℕ, zero, suc, List, [], ◌∷◌, length, map, take, sym, subst, append-nil, arith}
 use Rattle.mdb_datum.specs.Bytes.{Bytes}
 use Rattle.mdb_schema.specs.Guarded.{IsUnchanged}
 use Rattle.mdb_schema.specs.Schema.{DbSchema}
-use Rattle.mem_txn.specs.Database.{Caller, HasSeen}
+use Rattle.mem_txn.specs.Database.{Caller}
 use Rattle.mem_txn.specs.Held.{HeldWatch}
-use Rattle.mem_txn.proofs.HeldAlong.{prefix_twice}
 use Rattle.watch_set.specs.Checks.{AreQuiet, AreQuietLooks}
 use Rattle.watch_set.specs.GuardedLooks.{AreGuarded, IsGuardedBy}
 use Rattle.watch_set.specs.Members.{Member, watches_of}
-use Rattle.watch_set.proofs.GuardedChains.{quiet_is_guarded}
+use Rattle.watch_set.proofs.GuardedChains.{Follows, chain-follows, follows-itself, follows-on, quiet_is_guarded}
 use Rattle.client_script.specs.Client.{Watch}
 use Rattle.client_script.specs.Watching as told
 use Rattle.client_session.specs.Steps.{WasQuiet, WereQuiet}
@@ -19,42 +17,9 @@ use Rattle.client_session.proofs.QuietBefore.{unchanged_before, unchanged_longer
 
 -- ---- a caller that has looked
 
-prefix_itself : {X : Type 0} (xs : List X) → IsPrefix xs xs
-prefix_itself xs = ([], append-nil xs)
-
--- it has seen and read as much or more, and is the same caller
-pub record Follows (old new : Caller) : Type 0 where
-  pub seen : IsPrefix old.seen new.seen
-  pub counts : IsPrefix old.counts new.counts
-  pub schema : new.schema ≡ old.schema
-  pub number : new.number ≡ old.number
-
-pub follows_itself : (p : Caller) → Follows p p
-follows_itself p = record { seen = prefix_itself p.seen; counts = prefix_itself p.counts; schema = refl; number = refl }
-
-pub follows_seen : (old new : Caller) → HasSeen old new → Follows old new
-follows_seen old new seen = record {
-  seen = seen.seen;
-  counts = seen.counts;
-  schema = ap (λ (p : Caller). p.schema) seen.others;
-  number = ap (λ (p : Caller). p.number) seen.others;
-}
-
-pub follows_on : (old mid new : Caller) → Follows old mid → Follows mid new → Follows old new
-follows_on old mid new first then = record {
-  seen = prefix_twice old.seen mid.seen new.seen first.seen then.seen;
-  counts = prefix_twice old.counts mid.counts new.counts first.counts then.counts;
-  schema = then.schema ∙ first.schema;
-  number = then.number ∙ first.number;
-}
-
-pub quiet_follows : (old new : Caller) (hs : List HeldWatch) → AreQuiet old hs new → Follows old new
-quiet_follows old new [] same = subst (Follows old) (sym same) (follows_itself old)
-quiet_follows old new (h ∷ hs) (next, at, told, rest) = follows_on old next new (follows_seen old next told.0) (quiet_follows next new hs rest)
-
 pub looks_follow : (looks : ℕ) (old new : Caller) (hs : List HeldWatch) → AreQuietLooks looks old hs new → Follows old new
-looks_follow zero old new hs same = subst (Follows old) (sym same) (follows_itself old)
-looks_follow (suc looks) old new hs (mid, first, last) = follows_on old mid new (looks_follow looks old mid hs first) (quiet_follows mid new hs last)
+looks_follow zero old new hs same = subst (Follows old) (sym same) (follows-itself old)
+looks_follow (suc looks) old new hs (mid, first, last) = follows-on old mid new (looks_follow looks old mid hs first) (chain-follows mid new hs last)
 
 -- ---- quiet up to what the client was told
 

@@ -1,7 +1,7 @@
 -- The turns of requests that leave the open transaction open.
 use Rattle.std.proofs.Common.{◌≡◌, inl, inr, refl, ap, subst, sym, ◌∙◌, ℕ, ◌+◌, ◌≤◌, ◌^◌, add_assoc, take, true, false, Bool, List, [], ◌∷◌, ◌++◌, length, Option, Some, None, Result, Ok, Err, IfOk, IsErr, MatchOption, map, if◌then◌else◌}
 use Rattle.std.specs.declared.alloc.AllocError.{AllocError}
-use Rattle.std.proofs.lemmas.List.{append-nil, length-append}
+use Rattle.std.proofs.lemmas.List.{length-append}
 use Rattle.std.proofs.Math.Seq.{take-length}
 use Rattle.mdb_datum.specs.Bytes.{Bytes}
 use Rattle.mdb_datum.specs.Row.{Fields}
@@ -52,9 +52,7 @@ use Rattle.mdb_encode.specs.ArgRefusal.{arg_count, arg_kind, arg_out_of_range, a
 use Rattle.client_session.specs.declared.open.Open.{Open}
 use Rattle.client_session.specs.declared.open.Open.TheVariants as opens
 use Rattle.client_session.specs.inner.OpenView.{TurnsTo, caller_of, transaction_of, view_at_commit, Stands, IsNumbered, made}
-
-no_more : (p : Caller) → p ≡ record p { seen = p.seen ++ []; trees = p.trees ++ []; own = p.own ++ [] }
-no_more p = λ i. record p { seen = sym (append-nil p.seen) i; trees = sym (append-nil p.trees) i; own = sym (append-nil p.own) i }
+use Rattle.client_session.proofs.OpenTurns.{no_more}
 
 -- a reply that tells no commit
 pub none_numbered : (p : Caller) (t : Transaction) (r : said.Reply) → number_printed r ≡ [] → made p.number t r ≡ [] → IsNumbered p t r
@@ -458,12 +456,12 @@ kept_turns c old new r caller same stands says makes prints = record {
   numbered = none_numbered (caller_of old) (transaction_of old) r prints (makes (caller_of old).number (transaction_of old));
 }
 
-answer_makes : (a : Answer) (n : ℕ) (t : Transaction) → made n t (said.answered a) ≡ []
+pub answer_makes : (a : Answer) (n : ℕ) (t : Transaction) → made n t (said.answered a) ≡ []
 answer_makes a n closed = refl
 answer_makes a n (reading m) = refl
 answer_makes a n (writing t) = refl
 
-refused_makes : (rule : Bytes) (n : ℕ) (t : Transaction) → made n t (said.refused rule) ≡ []
+pub refused_makes : (rule : Bytes) (n : ℕ) (t : Transaction) → made n t (said.refused rule) ≡ []
 refused_makes rule n closed = refl
 refused_makes rule n (reading m) = refl
 refused_makes rule n (writing t) = refl

@@ -43,10 +43,6 @@ pub among_none : (xs ms : List ℕ) → xs ≡ [] → AreAmong xs ms
 among_none [] ms none = tt
 among_none (x ∷ xs) ms none = cc
 
-pub among_self : (xs : List ℕ) → AreAmong xs xs
-among_self [] = tt
-among_self (x ∷ xs) = inl (refl, among_self xs)
-
 pub counts_more : (rs : List Reply) (r : Reply) → counts_told (rs ++ r ∷ []) ≡ counts_told rs ++ count_told r
 counts_more [] r = append-nil (count_told r)
 counts_more (x ∷ rs) r = ap (λ (ms : List ℕ). count_told x ++ ms) (counts_more rs r) ∙ sym (append_assoc (count_told x) (counts_told rs) (count_told r))

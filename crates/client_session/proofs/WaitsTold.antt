@@ -34,7 +34,8 @@ use Rattle.mem_txn.specs.CellHistory.{AreComplete, MovesAreTouches}
 use Rattle.mem_txn.proofs.HeldAlong.{length_longer}
 use Rattle.client_session.proofs.LooksTold.{called_no_set, called_none, called_set, called_watch, checked_begins, fired_touched, judged_so, named_watch, prints_count, unknown, until_free, wait_free}
 use Rattle.client_session.proofs.SetsJoined.{set_there}
-use Rattle.client_session.proofs.QuietMembers.{Follows, first_quiet, follows_itself, follows_on, follows_seen, look_quiet, look_quiet_until, looks_follow, members_quiet, quiet_follows}
+use Rattle.client_session.proofs.QuietMembers.{first_quiet, look_quiet, look_quiet_until, looks_follow, members_quiet}
+use Rattle.watch_set.proofs.GuardedChains.{Follows, chain-follows, follows-itself, follows-on, follows-seen}
 
 -- ---- what is waited for
 
@@ -129,7 +130,7 @@ module _ (old last new : Caller) (first : Follows old last) (law : MovesAreTouch
         member = member_of m;
         there = ap (λ (ws : List Watch). slice_get ws place) set_is.members ∙ slice_get-map member_of ms place ∙ ap (λ (o : Option Member). option_map member_of o) there;
         fired = fired_touched new m.held at law (member_held new ms m all (Contains-slice_get ms place m there)) looked.number fired.1.1;
-        quiet = subst (λ (ws : List Watch). told.AreQuiet new.schema new.seen new.number (take place ws) v.last) (sym set_is.members) (first_quiet last mid new (follows_seen mid new fired.0) v.last within_last place ms quiet);
+        quiet = subst (λ (ws : List Watch). told.AreQuiet new.schema new.seen new.number (take place ws) v.last) (sym set_is.members) (first_quiet last mid new (follows-seen mid new fired.0) v.last within_last place ms quiet);
         reply = ap (λ (n : ℕ). woken_by m.name n) looked.number;
       }
 
@@ -139,7 +140,7 @@ module _ (old last new : Caller) (first : Follows old last) (law : MovesAreTouch
       let looked = fired.1.0 in
       record {
         fired = fired_touched new h at law held looked.number fired.1.1;
-        quiet = subst (λ (ws : List Watch). told.AreQuiet new.schema new.seen new.number ws v.last) (sym set_is.members) (members_quiet last mid new (follows_seen mid new fired.0) v.last within_last ms quiet);
+        quiet = subst (λ (ws : List Watch). told.AreQuiet new.schema new.seen new.number ws v.last) (sym set_is.members) (members_quiet last mid new (follows-seen mid new fired.0) v.last within_last ms quiet);
         reply = ap stopped_at looked.number;
       }
 
@@ -151,7 +152,7 @@ module _ (g : Watching) (set : Bytes) (old last new : Caller) (holds : Holds old
   all there = let set_holds = still.sets set ms there in set_holds.held
 
   read_before : (mid : Caller) (hs : List HeldWatch) → checks.AreQuiet last hs mid → Follows old mid
-  read_before mid hs quiet = follows_on old last mid first (quiet_follows last mid hs quiet)
+  read_before mid hs quiet = follows-on old last mid first (chain-follows last mid hs quiet)
 
   -- the member that has fired has another cell
   member_moved : (v : Client) (place at : ℕ) (m : Member) (mid : Caller) → Knows old g v.watching → get_by_text g.sets.kept set ≡ Some ms → slice_get ms place ≡ Some m → checks.HasFired mid new m.held at → MemberHasMoved (cells_seen new) v set m.name at
@@ -247,7 +248,7 @@ wait_told g set old new ms until u w r there holds begins law complete (looks, l
 pub look_told : (g : Watching) (set : Bytes) (old new : Caller) (ms : List Member) (until : Option Bytes) (u : Option HeldWatch) (w : Woken) (r : own.Reply) → awaited_in g set until ≡ Some (ms, u) → Holds old g
     → HasChecked old new (with_until (watches_of ms) u) → MovesAreTouches (cells_seen new) → AreComplete (cells_seen new) → AnswersWoken old new ms u w → RepliesWoken ms w r → TellsLook g (wait_for set until) old new (reply_of old.schema r)
 look_told g set old new ms until u w r there holds checked law complete told is =
-    woken_told g set old old new holds (follows_itself old) (checked_begins old new (with_until (watches_of ms) u) checked) law complete ms until u w r there told is
+    woken_told g set old old new holds (follows-itself old) (checked_begins old new (with_until (watches_of ms) u) checked) law complete ms until u w r there told is
 
 -- the member that a wait tells is there
 pub woken_there : (old new : Caller) (ms : List Member) (until : Option HeldWatch) (w : Woken) → AnswersWait old new ms until w → IsThere ms w

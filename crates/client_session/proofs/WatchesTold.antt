@@ -5,7 +5,6 @@ use Rattle.std.specs.BTreeMap.{get_by_text}
 use Rattle.std.specs.Str.{bytes_eq}
 use Rattle.std.specs.declared.alloc.AllocError.{AllocError}
 use Rattle.mdb_datum.specs.Bytes.{Bytes}
-use Rattle.mdb_encode.specs.ArgRefusal.{arg_bad_uuid, arg_count, arg_kind, arg_out_of_range, arg_too_long, no_prefix_form}
 use Rattle.mdb_schema.specs.Answer as asked
 use Rattle.mdb_schema.specs.Answer.{Asked, ask}
 use Rattle.mdb_schema.specs.History.{after_writes, state_at}
@@ -23,11 +22,10 @@ use Rattle.mdb_schema.proofs.Membership.{same_key}
 use Rattle.mem_txn.specs.Checked.{IdsTellCells, IsHeldBy}
 use Rattle.mem_txn.specs.Database.{Caller, Reading, cells_seen, reading_of}
 use Rattle.mem_txn.specs.Held.{AnswersHeld, HeldWatch, IsHeldOf, tells_own}
-use Rattle.mem_txn.proofs.HeldAlong.{asked_is_held, held_longer}
+use Rattle.mem_txn.proofs.HeldAlong.{asked_is_held, held_longer, state_longer}
 use Rattle.watch_set.specs.Members as set_specs
 use Rattle.watch_set.specs.Members.{Member, chosen}
 use Rattle.client_script.specs.Client.{Client, Judged, Sight, Watch, set_named, state_seen, watch_named}
-use Rattle.client_script.specs.RefusedWord.{question_word}
 use Rattle.client_script.specs.Reply.{Reply, answered, refused}
 use Rattle.client_script.specs.Turn.{Turn, outcome}
 use Rattle.client_script.specs.Watching.{asked_watched, limit_judged, limited, watch_called, watch_turn, with_watch}
@@ -45,23 +43,11 @@ use Rattle.client_session.specs.inner.SetsKept.{PutsBack, Sets, members_in}
 use Rattle.client_session.specs.inner.WatchingView.{AsksWatch, Holds, IsReadBy, IsSeenIn, IsSetOf, Knows, WatchTold, watch_of}
 use Rattle.client_session.proofs.IndexPlaces.{ok_once, some_once}
 use Rattle.client_session.proofs.LooksTold.{called_none, called_watch, judged_not, judged_so, unknown}
-use Rattle.client_session.proofs.QuietBefore.{state_of_more}
 use Rattle.client_session.proofs.SetsJoined.{AddsTo, count_known, put_added, set_added}
 use Rattle.client_session.proofs.WatchesNamed.{watches_more}
+use Rattle.client_session.proofs.RequestTurns.{name_of_question}
 
 -- ---- the answer to a question with its watch
-
-word_of : (why : asked.AskRefusal) → question_name (ask_error why) ≡ question_word why
-word_of asked.unknown_table = refl
-word_of asked.no_prefix_name = refl
-word_of asked.unknown_index = refl
-word_of asked.not_unique = refl
-word_of (asked.bad_argument arg_count) = refl
-word_of (asked.bad_argument arg_kind) = refl
-word_of (asked.bad_argument arg_out_of_range) = refl
-word_of (asked.bad_argument arg_bad_uuid) = refl
-word_of (asked.bad_argument arg_too_long) = refl
-word_of (asked.bad_argument no_prefix_form) = refl
 
 -- it is answered only where it may be watched
 given : (w : Bool) (told : Asked Answer) (a : Answer) (h : HeldWatch) → AnswersHeld (tells_own told w) told (Ok (a, h)) → asked_watched w told ≡ Ok a
@@ -91,7 +77,7 @@ not_given true (Err asked.no_prefix_name) e is = inr (ap (λ (x : AskError). Err
 not_given true (Err asked.unknown_index) e is = inr (ap (λ (x : AskError). Err (question_name x)) (sym (err_same e ask_errors.UnknownIndex is)))
 not_given true (Err asked.not_unique) e is = inr (ap (λ (x : AskError). Err (question_name x)) (sym (err_same e ask_errors.NotUnique is)))
 not_given true (Err (asked.bad_argument why)) e is =
-    inr (ap (λ (word : Bytes). Err word) (sym (word_of (asked.bad_argument why)) ∙ ap question_name (sym (err_same e (ask_error (asked.bad_argument why)) is))))
+    inr (ap (λ (word : Bytes). Err word) (sym (name_of_question (asked.bad_argument why)) ∙ ap question_name (sym (err_same e (ask_error (asked.bad_argument why)) is))))
 not_given true (Ok a) e is = inl is
 not_given false (Err asked.no_prefix_name) e is = inr (ap (λ (x : AskError). Err (question_name x)) (sym (err_same e ask_errors.Unwatchable is)))
 not_given false (Err asked.unknown_index) e is = inr (ap (λ (x : AskError). Err (question_name x)) (sym (err_same e ask_errors.Unwatchable is)))
@@ -135,7 +121,7 @@ one_answer p r s q is =
     let number : s.number ≡ length at.seen = sym is.number ∙ ap (λ (x : Reading). x.view.number) same in
     let state : state_seen p.schema p.seen s ≡ state_at p.schema p.seen (length at.seen) =
     ap (λ (ws : List Write). after_writes p.schema (state_at p.schema p.seen s.number) ws) is.writes ∙ ap (λ (n : ℕ). state_at p.schema p.seen n) number in
-    let seen : state_at p.schema p.seen (length at.seen) ≡ state_at p.schema at.seen (length at.seen) = state_of_more p.schema at.seen p.seen (length at.seen) begins.seen (omega arith) in
+    let seen : state_at p.schema p.seen (length at.seen) ≡ state_at p.schema at.seen (length at.seen) = state_longer p.schema at.seen p.seen (length at.seen) begins.seen (omega arith) in
     ap (λ (x : State). ask p.schema x q) (state ∙ seen) ∙ ap (λ (x : DbSchema). ask x (state_at x at.seen (length at.seen)) q) begins.schema
     ∙ ap (λ (x : Reading). ask x.view.schema x.view.state q) (sym same)
 

@@ -1,4 +1,5 @@
 mod MemberSearch
+pub mod ByteOrder
 pub mod Levels
 pub mod Numbers
 pub mod OnLiterals

@@ -1,8 +1,7 @@
 -- What a text reads as, from what `serde_json` says of it, and the walks over its value.
-use Rattle.std.proofs.Common.{◌≡◌, ℕ, max, nat_lt, if◌then◌else◌, List, [], ◌∷◌, ◌++◌, map, Bool, true, false, Option, Some, None, option_map, IsUtf8, refl, ap, ◌∙◌, arith}
+use Rattle.std.proofs.Common.{◌≡◌, ℕ, max, nat_lt, if◌then◌else◌, List, [], ◌∷◌, ◌++◌, map, Bool, true, false, Option, Some, None, option_map, IsUtf8, refl, ap, ◌∙◌}
 use Rattle.std.specs.Str.{is_utf8}
 use Rattle.std.proofs.lemmas.Str.{IsUtf8-from_is_utf8, is_utf8-from_IsUtf8}
-use Rattle.std.proofs.lemmas.Bool.Decides.{nat_tests}
 use Rattle.serde_json.specs.Data as json
 use Rattle.serde_json.specs.Read.{read}
 use Rattle.serde_json.specs.View.{view, items_view, members_view}
@@ -32,12 +31,6 @@ reading-shallow bytes d h shallow = reading-value bytes d h ∙ rw shallow
 
 -- ---- how deep it nests
 
-pub deeper_here : (n a b : ℕ) → nat_lt n a ≡ true → nat_lt n (max a b) ≡ true
-deeper_here n a b h = grind (arith, nat_tests)
-
-pub deeper_later : (n a b : ℕ) → nat_lt n a ≡ false → nat_lt n (max a b) ≡ nat_lt n b
-deeper_later n a b h = grind (arith, nat_tests)
-
 pub values_depth : (es : List Entry) → json.items_depth (items_view (map (λ e. e.1) es)) ≡ json.members_depth (members_view es)
 values_depth [] = refl
 values_depth (e ∷ es) = ap (λ n. max (json.depth (view e.1)) n) (values_depth es)
@@ -64,9 +57,6 @@ pub whole_docs-more : (ds : List Doc) (d : Doc) (x : json.Data) (rest : json.Ite
     → option_map (docs_before ds) (whole_docs (json.item x rest)) ≡ option_map (docs_before (ds ++ d ∷ [])) (whole_docs rest)
 whole_docs-more ds d x rest e = rw e (one_more ds d (whole_docs rest))
 
-pub whole_docs-none : (ds : List Doc) (x : json.Data) (rest : json.Items) → whole_doc x ≡ None → option_map (docs_before ds) (whole_docs (json.item x rest)) ≡ None
-whole_docs-none ds x rest e = rw e
-
 abbrev pub fields_before : List Field → FieldList → FieldList
 fields_before [] rest = rest
 fields_before (f ∷ fs) rest = field f.0 f.1 (fields_before fs rest)
@@ -86,6 +76,3 @@ one_more_field fs f (Some rest) = ap Some (fields_before-append fs f rest)
 pub whole_fields-more : (fs : List Field) (name : List ℕ) (d : Doc) (x : json.Data) (rest : json.Members) → whole_doc x ≡ Some d
     → option_map (fields_before fs) (whole_fields (json.member name x rest)) ≡ option_map (fields_before (fs ++ (name, d) ∷ [])) (whole_fields rest)
 whole_fields-more fs name d x rest e = rw e (one_more_field fs (name, d) (whole_fields rest))
-
-pub whole_fields-none : (fs : List Field) (name : List ℕ) (x : json.Data) (rest : json.Members) → whole_doc x ≡ None → option_map (fields_before fs) (whole_fields (json.member name x rest)) ≡ None
-whole_fields-none fs name x rest e = rw e

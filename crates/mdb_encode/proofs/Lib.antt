@@ -1,4 +1,3 @@
-pub mod AnswerMeanings
 pub mod BigEndian
 pub mod Blank
 pub mod Exact

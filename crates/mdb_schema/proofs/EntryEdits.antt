@@ -1,11 +1,10 @@
 -- What stands under a key after edits of the entries of an index, and that they stay sorted.
-use Rattle.std.proofs.Common.{◌≡◌, ◌∙◌, ◌||◌, ◌&&◌, ◌++◌, List, [], ◌∷◌, Bool, true, false, T, not, cond, filter, Option, Some, None, refl, sym, ap}
+use Rattle.std.proofs.Common.{◌≡◌, ◌∙◌, ◌||◌, ◌&&◌, List, [], ◌∷◌, Bool, true, false, not, cond, filter, Option, Some, None, refl, sym, ap}
 use Rattle.std.specs.Prelude.{if◌then◌else◌, IsTrue}
 use Rattle.std.specs.FinMap as finite
 use Rattle.std.specs.FinMap.Entries as pairs
 use Rattle.std.specs.Ordering.{eq_by_cmp}
 use Rattle.std.specs.Str.{bytes_eq}
-use Rattle.std.proofs.lemmas.Bool.{false≢true}
 use Rattle.std.proofs.lemmas.Cmp.{nat_list_cmp_total}
 use Rattle.std.proofs.lemmas.Map.Text.{is_eq-slice_cmp}
 use Rattle.mdb_datum.specs.Row.{Fields, Pair}
@@ -14,7 +13,7 @@ use Rattle.mdb_schema.specs.Entries.{with_entries}
 use Rattle.mdb_schema.specs.Write.{is_among}
 use Rattle.mdb_schema.specs.inner.Edits.{without, without_all, put_all, stale_keys}
 use Rattle.mdb_schema.proofs.Membership.{bytes_eq-comm, same_key}
-use Rattle.mdb_schema.proofs.RowsById.{same_from_byte_order}
+use Rattle.mdb_datum.proofs.ByteOrder.{same_from_byte_order, T_from_true, true_from_T}
 
 -- the row under a key
 abbrev pub entry_at : Bytes → List Pair → Option Fields
@@ -25,14 +24,6 @@ abbrev pub AreSorted : List Pair → Type 0
 AreSorted es = IsTrue (finite.is_sorted byte_order es)
 
 -- ---- sorted
-
-pub T_from_true : (b : Bool) → b ≡ true → T b
-T_from_true true e = tt
-T_from_true false e = absurd (false≢true e)
-
-pub true_from_T : (b : Bool) → T b → b ≡ true
-true_from_T true h = refl
-true_from_T false h = absurd h
 
 pub sorted-put : (k : Bytes) (row : Fields) (es : List Pair) → AreSorted es → AreSorted (finite.put byte_order k row es)
 sorted-put k row es h = true_from_T _ (pairs.is_sorted-put byte_order nat_list_cmp_total k row es (T_from_true _ h))
@@ -55,16 +46,6 @@ sorted-without_all (k ∷ ks) es h = sorted-without_all ks (without k es) (sorte
 -- sorted entries are told by what stands under each key
 pub same_pairs : (es fs : List Pair) → AreSorted es → AreSorted fs → ((q : Bytes) → entry_at q es ≡ entry_at q fs) → es ≡ fs
 same_pairs es fs g h same = pairs.same_entries byte_order nat_list_cmp_total same_from_byte_order es fs (T_from_true _ g) (T_from_true _ h) same
-
--- ---- in parts
-
-pub put_all-append : (xs ys : List Bytes) (row : Fields) (es : List Pair) → put_all (xs ++ ys) row es ≡ put_all ys row (put_all xs row es)
-put_all-append [] ys row es = refl
-put_all-append (x ∷ xs) ys row es = put_all-append xs ys row (finite.put byte_order x row es)
-
-pub without_all-append : (xs ys : List Bytes) (es : List Pair) → without_all (xs ++ ys) es ≡ without_all ys (without_all xs es)
-without_all-append [] ys es = refl
-without_all-append (x ∷ xs) ys es = without_all-append xs ys (without x es)
 
 -- ---- under a key
 

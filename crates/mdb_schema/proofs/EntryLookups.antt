@@ -1,21 +1,13 @@
 -- Looking a key up in sorted entries finds the entry of that key, and there is one at most.
-use Rattle.std.proofs.Common.{◌≡◌, ◌∙◌, List, [], ◌∷◌, Bool, true, false, cond, Some, Contains, Ordering, Less, Equal, is_eq, is_lt, refl, sym, ap, subst, inl, inr}
+use Rattle.std.proofs.Common.{◌≡◌, ◌∙◌, List, [], ◌∷◌, Bool, true, false, cond, Some, Contains, Less, is_eq, refl, sym, ap, subst, inl, inr}
 use Rattle.std.specs.FinMap.Entries as pairs
-use Rattle.std.proofs.lemmas.Bool.{cond-true, cond-false, and_parts, false≢true}
+use Rattle.std.proofs.lemmas.Bool.{cond-true, cond-false, and_parts}
 use Rattle.std.proofs.lemmas.Cmp.{nat_list_cmp_total, tied_itself}
 use Rattle.mdb_datum.specs.Row.{Fields, Pair}
 use Rattle.mdb_encode.specs.Bytes.{Bytes, byte_order}
 use Rattle.mdb_schema.proofs.EntryEdits.{entry_at, AreSorted}
 use Rattle.mdb_schema.proofs.Membership.{Contains-nil, Contains-first, Contains-later, Contains-cons_cases}
-use Rattle.mdb_schema.proofs.RowsById.{same_from_byte_order, turned}
-
-equal_from_is_eq : (o : Ordering) → is_eq o ≡ true → o ≡ Equal
-equal_from_is_eq Equal e = refl
-equal_from_is_eq _ e = absurd (false≢true e)
-
-less_from_is_lt : (o : Ordering) → is_lt o ≡ true → o ≡ Less
-less_from_is_lt Less e = refl
-less_from_is_lt _ e = absurd (false≢true e)
+use Rattle.mdb_datum.proofs.ByteOrder.{less_from_is_lt, equal_from_is_eq, same_from_byte_order, turned}
 
 -- a key is below that of each entry
 below_each : (k : Bytes) (es : List Pair) (p : Pair) → pairs.below_all byte_order k es ≡ true → Contains es p → byte_order k p.0 ≡ Less

@@ -20,7 +20,7 @@ abbrev pub has_other_id : TableSchema → Bytes → Option Fields → Bool
 has_other_id t id None = false
 has_other_id t id (Some r) = not (bytes_eq (id_key t r) id)
 
-same_answer : (a b : Bool) → (a ≡ true → b ≡ true) → (b ≡ true → a ≡ true) → a ≡ b
+pub same_answer : (a b : Bool) → (a ≡ true → b ≡ true) → (b ≡ true → a ≡ true) → a ≡ b
 same_answer true b f g = sym (f refl)
 same_answer false true f g = g refl
 same_answer false false f g = refl

@@ -1,5 +1,5 @@
 -- Each step keeps a lawful state: every state of a history is lawful.
-use Rattle.std.proofs.Common.{◌≡◌, ◌∙◌, ℕ, List, [], ◌∷◌, ◌++◌, take, Option, Ok, Err, refl, subst}
+use Rattle.std.proofs.Common.{◌≡◌, ◌∙◌, ℕ, List, [], ◌∷◌, take, Option, Ok, Err, refl, subst}
 use Rattle.mdb_datum.specs.Row.{Fields}
 use Rattle.mdb_encode.specs.Bytes.{Bytes}
 use Rattle.mdb_schema.specs.History.{History, state_or, after_writes, after_commits, state_at}
@@ -75,10 +75,6 @@ state_or_keeps schema s w lawful = of (step schema s w) refl
     of (Err r) e = lawful
 
 -- ---- writes, one list after another
-
-pub after_writes-append : (schema : DbSchema) (s : State) (ws vs : List Write) → after_writes schema s (ws ++ vs) ≡ after_writes schema (after_writes schema s ws) vs
-after_writes-append schema s [] vs = refl
-after_writes-append schema s (w ∷ ws) vs = after_writes-append schema (state_or s (step schema s w)) ws vs
 
 pub writes_keep : (schema : DbSchema) (s : State) (ws : List Write) → IsLawfulState schema s → IsLawfulState schema (after_writes schema s ws)
 writes_keep schema s [] lawful = lawful

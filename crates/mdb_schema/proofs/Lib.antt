@@ -6,6 +6,7 @@ pub mod EntryEdits
 pub mod EntryLookups
 pub mod FirstFound
 pub mod FreeKeys
+pub mod HistorySteps
 pub mod IdEntries
 pub mod IdKeys
 pub mod LawfulIndexers

@@ -1,11 +1,8 @@
 -- The rows of a table by their `id` keys, which rise, and what is found under a key.
-use Rattle.std.proofs.Common.{◌≡◌, ◌∙◌, List, [], ◌∷◌, map, Bool, true, false, if◌then◌else◌, Some, None, Contains, Ordering, Less, Equal, Greater, is_eq, refl, sym, ap, subst, inl, inr}
-use Rattle.std.specs.FinMap.{nat_cmp-IsAntisymmetric, slice_cmp-IsAntisymmetric}
+use Rattle.std.proofs.Common.{◌≡◌, ◌∙◌, List, [], ◌∷◌, map, Bool, true, false, if◌then◌else◌, Some, None, Contains, Less, Greater, is_eq, refl, sym, ap, subst, inl, inr}
 use Rattle.std.specs.List.Sorted.{IsStrictlySortedBy}
-use Rattle.std.specs.Ordering.{ordering_reverse}
 use Rattle.std.specs.Str.{bytes_eq}
 use Rattle.std.proofs.lemmas.Bool.{cond-true, cond-false}
-use Rattle.std.proofs.lemmas.Cmp.{nat_list_cmp_total}
 use Rattle.std.proofs.lemmas.List.Elements.{All-from_recursion, recursion_from_All, All-contains}
 use Rattle.std.proofs.lemmas.Map.Keys.{sorted_head, sorted_tail}
 use Rattle.std.proofs.lemmas.Map.Text.{is_eq-slice_cmp}
@@ -16,13 +13,6 @@ use Rattle.mdb_schema.specs.State.{id_key, row_at}
 use Rattle.mdb_schema.proofs.Membership.{Contains-nil, Contains-first, Contains-later, Contains-cons_cases, Contains-map, Contains-from_map, All-from_contains, same_key, bytes_eq-itself}
 
 -- ---- keys
-
-pub same_from_byte_order : (a b : Bytes) → byte_order a b ≡ Equal → a ≡ b
-same_from_byte_order = slice_cmp-IsAntisymmetric nat_cmp-IsAntisymmetric
-
--- the comparison the other way round
-pub turned : (a b : Bytes) (o : Ordering) → byte_order a b ≡ o → byte_order b a ≡ ordering_reverse o
-turned a b o e = nat_list_cmp_total.antisymm b a ∙ ap ordering_reverse e
 
 pub apart_from_less : (a b : Bytes) → byte_order a b ≡ Less → bytes_eq a b ≡ false
 apart_from_less a b e = sym (is_eq-slice_cmp a b) ∙ ap is_eq e

@@ -1,13 +1,13 @@
 -- The rows of a table without some of them: one after the other, and which rows stand there.
 use Rattle.std.proofs.Common.{◌≡◌, ◌∙◌, ◌||◌, List, [], ◌∷◌, map, filter, Bool, true, false, not, cond, Contains, refl, sym, ap}
 use Rattle.std.specs.Str.{bytes_eq}
-use Rattle.std.proofs.lemmas.Bool.{not-true, not_from_false}
+use Rattle.std.proofs.lemmas.Bool.{not-true}
 use Rattle.mdb_datum.specs.Row.{Fields}
 use Rattle.mdb_schema.specs.Schema.{TableSchema}
 use Rattle.mdb_schema.specs.State.{id_key, without_row}
 use Rattle.mdb_schema.specs.Wipe.{without_rows}
 use Rattle.mdb_schema.specs.Write.{is_among}
-use Rattle.mdb_schema.proofs.Membership.{Contains-filter, Contains-from_filter, filter-all}
+use Rattle.mdb_schema.proofs.Membership.{Contains-from_filter, filter-all}
 use Rattle.mdb_schema.proofs.RowsById.{AreRising}
 use Rattle.mdb_schema.proofs.RowsWithout.{without_row-filter}
 
@@ -41,8 +41,3 @@ pub without_rows-cases : (t : TableSchema) (gone rows : List Fields) (x : Fields
 without_rows-cases t gone rows x h =
     let w = Contains-from_filter (λ (r : Fields). not (is_among (map (id_key t) gone) (id_key t r))) rows x h in
     (w.0, not-true (is_among (map (id_key t) gone) (id_key t x)) w.1)
-
-pub Contains-without_rows : (t : TableSchema) (gone rows : List Fields) (x : Fields) → Contains rows x
-    → is_among (map (id_key t) gone) (id_key t x) ≡ false → Contains (without_rows t gone rows) x
-Contains-without_rows t gone rows x h left =
-    Contains-filter (λ (r : Fields). not (is_among (map (id_key t) gone) (id_key t r))) rows x h (not_from_false (is_among (map (id_key t) gone) (id_key t x)) left)

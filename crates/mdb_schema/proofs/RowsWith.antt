@@ -9,7 +9,8 @@ use Rattle.mdb_encode.specs.Bytes.{Bytes, byte_order}
 use Rattle.mdb_schema.specs.Schema.{TableSchema}
 use Rattle.mdb_schema.specs.State.{id_key, row_at, with_row}
 use Rattle.mdb_schema.proofs.Membership.{Contains-nil, Contains-first, Contains-later, Contains-cons_cases, same_key, bytes_eq-itself, bytes_eq-comm, no_tie}
-use Rattle.mdb_schema.proofs.RowsById.{AreRising, rising-cons, rising-first, rising-rest, row_at-some, row_at-row, one_row, same_from_byte_order, turned, apart_from_greater}
+use Rattle.mdb_schema.proofs.RowsById.{AreRising, rising-cons, rising-first, rising-rest, row_at-some, row_at-row, one_row, apart_from_greater}
+use Rattle.mdb_datum.proofs.ByteOrder.{same_from_byte_order, turned}
 
 -- a test made again under itself
 pub asked_twice : {A : Type 0} (b : Bool) (x y z : A) → cond b x z ≡ cond b x (cond b y z)

@@ -2,12 +2,12 @@
 -- the keys rise.
 use Rattle.std.proofs.Common.{◌≡◌, ◌∙◌, List, [], ◌∷◌, filter, Bool, true, false, not, cond, if◌then◌else◌, Option, Some, None, Contains, refl, sym, ap, subst, inl, inr}
 use Rattle.std.specs.Str.{bytes_eq}
-use Rattle.std.proofs.lemmas.Bool.{cond-true, cond-false, not-true}
+use Rattle.std.proofs.lemmas.Bool.{not-true}
 use Rattle.mdb_datum.specs.Row.{Fields}
 use Rattle.mdb_encode.specs.Bytes.{Bytes}
 use Rattle.mdb_schema.specs.Schema.{TableSchema}
 use Rattle.mdb_schema.specs.State.{id_key, row_at, without_row}
-use Rattle.mdb_schema.proofs.Membership.{Contains-first, Contains-later, Contains-cons_cases, Contains-filter, Contains-from_filter, filter-all, same_key, bytes_eq-itself, bytes_eq-comm}
+use Rattle.mdb_schema.proofs.Membership.{Contains-first, Contains-later, Contains-cons_cases, Contains-filter, Contains-from_filter, filter-all, same_key, bytes_eq-comm}
 use Rattle.mdb_schema.proofs.RowsById.{AreRising, rising-cons, rising-first, rising-rest, first_apart, row_at-nothing}
 use Rattle.mdb_schema.proofs.RowsWith.{in_turn, not_both}
 
@@ -83,11 +83,3 @@ row_at-without_row t q id (r ∷ rows) rising = of (bytes_eq (id_key t r) id) re
     of false e later =
         ap (λ (o : Option Fields). cond (bytes_eq (id_key t r) q) (Some r) o) later
         ∙ in_turn (bytes_eq (id_key t r) q) (bytes_eq id q) (Some r) None (row_at t q rows) (not_both (id_key t r) id q e)
-
-pub row_at-without_row_same : (t : TableSchema) (id : Bytes) (rows : List Fields) → AreRising t rows → row_at t id (without_row t id rows) ≡ None
-row_at-without_row_same t id rows rising =
-    row_at-without_row t id id rows rising ∙ cond-true (bytes_eq id id) None (row_at t id rows) (bytes_eq-itself id)
-
-pub row_at-without_row_other : (t : TableSchema) (q id : Bytes) (rows : List Fields) → AreRising t rows → bytes_eq id q ≡ false → row_at t q (without_row t id rows) ≡ row_at t q rows
-row_at-without_row_other t q id rows rising apart =
-    row_at-without_row t q id rows rising ∙ cond-false (bytes_eq id q) None (row_at t q rows) apart

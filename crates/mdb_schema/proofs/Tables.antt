@@ -126,7 +126,7 @@ put_rows_lawful schema s name table rows lawful is h = set_lawful schema s table
 
 -- ---- the other tables
 
-table_place-name : (name : Bytes) (ts : DbSchema) (place : ℕ) (t : TableSchema) → table_place name ts ≡ Some place → slice_get ts place ≡ Some t → t.name ≡ name
+pub table_place-name : (name : Bytes) (ts : DbSchema) (place : ℕ) (t : TableSchema) → table_place name ts ≡ Some place → slice_get ts place ≡ Some t → t.name ≡ name
 table_place-name name [] place t e f = cc
 table_place-name name (u ∷ us) place t e f = of (bytes_eq u.name name) (table_place name us) refl refl e (λ at found there. table_place-name name us at t found there)
   where

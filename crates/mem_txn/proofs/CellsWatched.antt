@@ -2,10 +2,8 @@
 use Rattle.std.proofs.Common.{◌≡◌, ◌∙◌, ◌++◌, ℕ, Ok, Err, refl, sym, ap, subst, ◌⊎◌, inl, inr, Bool, true, false, Option, Some, None, List, [], ◌∷◌, length, drop, if◌then◌else◌}
 use Rattle.std.specs.Prelude.{All, nat_lt, option_map, slice_get}
 use Rattle.std.proofs.lemmas.List.Elements.{All-contains}
-use Rattle.std.proofs.lemmas.Map.Text.{is_eq-slice_cmp}
-use Rattle.std.specs.Ordering.{eq_by_cmp}
-use Rattle.mdb_datum.specs.Bytes.{Bytes, byte_order, is_prefix}
-use Rattle.mdb_schema.proofs.Membership.{Contains-slice_get, same_key}
+use Rattle.mdb_datum.specs.Bytes.{Bytes, is_prefix}
+use Rattle.mdb_schema.proofs.Membership.{Contains-slice_get}
 use Rattle.mdb_schema.specs.Answer.{Asked, Lookup, lookup_of}
 use Rattle.mdb_schema.specs.Query.{Query}
 use Rattle.mdb_schema.specs.Schema.{DbSchema}
@@ -21,6 +19,7 @@ use Rattle.table_index.specs.Watched.{cell_of, is_watchable, looks_up, watch_in}
 use Rattle.watch_word.specs.Logs.{Cell}
 use Rattle.mem_txn.specs.CellHistory.{Forest, asked_in, looked_up, planted, question_cell, table_in, with_trees}
 use Rattle.mem_txn.specs.inner.VersionTables.{AreWithin}
+use Rattle.radix_node.proofs.LeafWatch.{with_key}
 
 -- ---- the near place is the root's or another node's
 
@@ -99,17 +98,6 @@ module _ (c : Cell) where
         ]
       ]
 
--- a leaf that is found is one of them, and has the key
-pub leaf_with_is : (key : Bytes) (ls : List CellLeaf) (l : CellLeaf) → leaf_with key ls ≡ Some l → Has l ls × (key ≡ l.pair.0)
-leaf_with_is key [] l e = cc
-leaf_with_is key (k ∷ ls) l e = first_leaf key k l (leaf_with key ls) ls (eq_by_cmp byte_order key k.pair.0) refl (λ is. leaf_with_is key ls l is) e
-  where
-    first_leaf : (key : Bytes) (k l : CellLeaf) (o : Option CellLeaf) (ls : List CellLeaf) (b : Bool) → eq_by_cmp byte_order key k.pair.0 ≡ b → (o ≡ Some l → Has l ls × (key ≡ l.pair.0)) → (if b then Some k else o) ≡ Some l → Has l (k ∷ ls) × (key ≡ l.pair.0)
-    first_leaf key k l o ls true is rest e =
-        let same : k ≡ l = cc in
-        (inl (sym same), same_key key k.pair.0 (sym (is_eq-slice_cmp key k.pair.0) ∙ is) ∙ ap (λ (m : CellLeaf). m.pair.0) same)
-    first_leaf key k l o ls false is rest e = let later = rest e in (inr later.0, later.1)
-
 module _ (t : CellTree) where
   of_piece : (c : Cell) → ((x : Piece) × Has x (pieces_of t) × (piece_cell x ≡ c)) → Has c (cells_of t)
   of_piece c x = subst (λ (d : Cell). Has d (cells_of t)) x.2 (has_cell x.0 (pieces_of t) x.1)
@@ -143,7 +131,7 @@ module _ (t : CellTree) where
   leaf_or_in c (Some l) there has = leaf_in l (has l refl)
 
   get_in : (key : Bytes) → Has (get_watch key t) (cells_of t)
-  get_in key = leaf_or_in (near key t).cell (leaf_with key (leaves_of t)) (seek_in key) (λ l is. (leaf_with_is key (leaves_of t) l is).0)
+  get_in key = leaf_or_in (near key t).cell (leaf_with key (leaves_of t)) (seek_in key) (λ l is. (with_key key (leaves_of t) l is).0)
 
   pub watch_is_in : (exact : Bool) (key : Bytes) → Has (watch_in exact key t) (cells_of t)
   watch_is_in true key = get_in key

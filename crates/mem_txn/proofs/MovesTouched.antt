@@ -22,7 +22,7 @@ use Rattle.radix_node.specs.Nodes.{pairs_of}
 use Rattle.radix_node.specs.Pairs.{IsRising, find}
 use Rattle.radix_node.specs.Paths.{Has}
 use Rattle.radix_node.specs.Watches.{Fires, leaf_cell_or, leaf_with, near}
-use Rattle.radix_node.proofs.LeafWatch.{tree_leaf_piece, tree_pairs}
+use Rattle.radix_node.proofs.LeafWatch.{tree_leaf_piece, tree_pairs, with_key}
 use Rattle.radix_node.proofs.Members.{has_cell}
 use Rattle.table_index.specs.Table.{TableRows}
 use Rattle.table_index.specs.Watched.{HoldsEntries, HoldsRows, is_for_one, looks_up, watch_in}
@@ -35,7 +35,6 @@ use Rattle.mem_txn.specs.Database.{cells_seen}
 use Rattle.mem_txn.specs.inner.Steps.{AreSteps, tables_with}
 use Rattle.mem_txn.specs.inner.Versions.{IsBegun, Version, Versions, caller_of, entry_of}
 use Rattle.mem_txn.proofs.AlongHistory.{IsFiredFirst, asked_of, fired_first}
-use Rattle.mem_txn.proofs.CellsWatched.{leaf_with_is}
 use Rattle.mem_txn.proofs.EndedTables.{asked_there, entries_at}
 use Rattle.mem_txn.proofs.KeptAlong.{all_at, kept_at}
 use Rattle.mem_txn.proofs.StepAtPlace.{named_there, planted_at}
@@ -77,7 +76,7 @@ module _ (kind : Bytes → Type 0) (old new : CellTree) (but : KeptBut kind old 
     where
       of : (o : Option CellLeaf) → leaf_with key (leaves_of old) ≡ o → leaf_cell_or (near key old).cell o ≡ c → (k : Bytes) × kind k × (found → k ≡ key)
       of None e same = let k = some_key in (k.0, k.1, λ f. absurd (has f e))
-      of (Some l) e same = let at = leaf_with_is key (leaves_of old) l e in (l.pair.0, leaf_key l at.0 same, λ f. sym at.1)
+      of (Some l) e same = let at = with_key key (leaves_of old) l e in (l.pair.0, leaf_key l at.0 same, λ f. sym at.1)
 
 -- ---- an entry that a question has found
 

@@ -26,6 +26,7 @@ use Rattle.mem_txn.specs.inner.Steps.{AreTableSteps, tables_of, tables_with}
 use Rattle.mem_txn.specs.inner.VersionTables.{AreWithin, HasChanged, StandFor, schemas_of, standing, state_of, trees_of}
 use Rattle.mem_txn.specs.inner.Versions.{AreFew, Turned, Version}
 use Rattle.mem_txn.proofs.StepAtPlace.{planted_starts}
+use Rattle.mem_txn.proofs.EmptyTables.{tables_with-parts}
 
 -- ---- writes leave as many tables as there were
 
@@ -48,10 +49,6 @@ writes_count schema s (remove name row ∷ ws) =
     writes_count schema (state_or s (step schema s (remove name row))) ws ∙ step_count schema s name (λ (t : Table). remove_row t.schema row t.rows)
 
 -- ---- tables by their parts
-
-own_parts : (ts : List TableRows) → tables_with (schemas_of ts) (state_of ts) (trees_of ts) ≡ ts
-own_parts [] = refl
-own_parts (t ∷ ts) = ap (λ (xs : List TableRows). t ∷ xs) (own_parts ts)
 
 made_held : (ts : List TableChange) (mades : List TableRows) → AreMade ts mades → All HoldsRows mades
 made_held [] [] made = All-nil HoldsRows
@@ -124,7 +121,7 @@ module _ (writes : List Write) (spoiled : Bool) (turn : Turned) (ids : Counter) 
       let trees : v.trees ≡ trees_of news = ap (λ (x : Version). x.trees) is in
       let state : state_of news ≡ after_writes p.schema (state_seen p) v.writes = stand.rows ∙ ap (after_writes p.schema (state_seen p)) (sym mine) in
       let same : tables_of v ≡ news =
-      ap tables_of is ∙ ap (λ (schema : DbSchema). tables_with schema (state_of news) (trees_of news)) (sym stand.schemas) ∙ own_parts news in
+      ap tables_of is ∙ ap (λ (schema : DbSchema). tables_with schema (state_of news) (trees_of news)) (sym stand.schemas) ∙ tables_with-parts news in
       let step : AreTableSteps turn.base.ids.next (rows_written turn.base.view.schema turn.base.view.state v.writes) (tables_of turn.base) (tables_of v) =
       subst (λ (ts : List TableRows). AreTableSteps turn.base.ids.next (rows_written turn.base.view.schema turn.base.view.state v.writes) (tables_of turn.base) ts) (sym same)
       (subst (λ (ws : List Write). AreTableSteps turn.base.ids.next (rows_written turn.base.view.schema turn.base.view.state ws) (tables_of turn.base) news) (sym mine) (steps stand since ends.made)) in

@@ -7,7 +7,7 @@ use Rattle.std.proofs.lemmas.List.{map-append, length-append, length-map, append
 use Rattle.db_front.specs.Commits as front
 use Rattle.db_front.specs.Passes.{FrontId, Known, AreIdle, IsNumber, fresh, all_fresh}
 use Rattle.db_front.specs.Passes as front_passes
-use Rattle.mdb_schema.specs.History.{Commit, History, writes_in}
+use Rattle.mdb_schema.specs.History.{Commit, History}
 use Rattle.mdb_schema.specs.Schema.{DbSchema}
 use Rattle.mem_txn.specs.Database.{AreAll, AreIn, AreMade, AreNamed, AreOf, Caller, Database, HasMade, HasPass, HasRead, HasSeen, IsWhole, commits_by, new_pass, new_passes, view_after}
 use Rattle.mem_txn.specs.inner.Steps.{AreSteps}
@@ -64,10 +64,6 @@ number_shown h more e n begun made is =
 pub next_in : (h : Versions) (n : ℕ) (v : Version) → IsBegun h → history_in (h ++ (n, v) ∷ []) ≡ history_in h ++ record { caller = n; writes = v.writes } ∷ []
 next_in [] n v begun = absurd begun
 next_in (e ∷ es) n v begun = map-append entry_of es ((n, v) ∷ [])
-
-pub writes_in-more : (H : History) (c : Commit) → writes_in (H ++ c ∷ []) ≡ writes_in H + length c.writes
-writes_in-more [] c = omega arith
-writes_in-more (d ∷ H) c = let rest = writes_in-more H c in omega (arith, rest)
 
 -- the caller after its commit, and the end of its turn
 pub committed : (k k' k'' : Known Version) (v : Version) → IsBegun k.seen → k' ≡ record k { seen = k.seen ++ (k.number, v) ∷ []; mine = k.mine ++ (k.number, v) ∷ []; stage = 2 } → k'' ≡ record k' { stage = 0 }

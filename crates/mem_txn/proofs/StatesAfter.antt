@@ -1,13 +1,10 @@
 -- The state after the commits of a list with one more.
-use Rattle.std.proofs.Common.{◌≡◌, ◌∙◌, ◌++◌, [], ◌∷◌, length, sym, ap, refl, arith}
+use Rattle.std.proofs.Common.{◌≡◌, ◌∙◌, ◌++◌, [], ◌∷◌, length, sym, ap, arith}
 use Rattle.std.proofs.lemmas.List.{take_all}
 use Rattle.mdb_schema.specs.History.{Commit, History, after_commits, after_writes, state_at}
 use Rattle.mdb_schema.specs.Schema.{DbSchema}
 use Rattle.mdb_schema.specs.State.{State, empty_state}
-
-pub after_commits-more : (schema : DbSchema) (s : State) (H : History) (c : Commit) → after_commits schema s (H ++ c ∷ []) ≡ after_writes schema (after_commits schema s H) c.writes
-after_commits-more schema s [] c = refl
-after_commits-more schema s (d ∷ H) c = after_commits-more schema (after_writes schema s d.writes) H c
+use Rattle.mdb_schema.proofs.HistorySteps.{after_commits-more}
 
 pub state_at-all : (schema : DbSchema) (H : History) → state_at schema H (length H) ≡ after_commits schema (empty_state schema) H
 state_at-all schema H = ap (after_commits schema (empty_state schema)) (take_all (length H) H (omega arith))

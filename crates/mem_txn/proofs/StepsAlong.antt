@@ -28,8 +28,9 @@ use Rattle.mem_txn.specs.inner.Firing.{AreGone}
 use Rattle.mem_txn.specs.inner.Steps.{AreSteps, HasFired, IsStep, tables_of}
 use Rattle.mem_txn.specs.inner.VersionTables.{AreWithin}
 use Rattle.mem_txn.specs.inner.Versions.{AreFew, Forest, IsBegun, IsBookOf, StandsFor, Version, Versions, book_in, caller_of, history_in, opening, schema_in}
-use Rattle.mem_txn.proofs.OneHistory.{begun_longer, book_longer, history_length, next_in, schema_longer, trees_in, writes_in-more}
+use Rattle.mem_txn.proofs.OneHistory.{begun_longer, book_longer, history_length, next_in, schema_longer, trees_in}
 use Rattle.mem_txn.proofs.StatesAfter.{state_seen-more}
+use Rattle.mdb_schema.proofs.HistorySteps.{writes_in-more}
 
 -- ---- places in a list with one item more
 

@@ -1,5 +1,5 @@
 -- The table of a name among tables that stand for a state, and what a question of it is answered.
-use Rattle.std.proofs.Common.{◌≡◌, ◌∙◌, ◌<◌, ◌+◌, ◌++◌, ℕ, zero, List, [], ◌∷◌, map, length, take, drop, get_or, slice_get, append-nil, Bool, true, false, Option, Some, None, option_map, option_and_then, Result, refl, sym, ap, subst, add-one, arith}
+use Rattle.std.proofs.Common.{◌≡◌, ◌∙◌, ◌<◌, ◌+◌, ◌++◌, ℕ, zero, List, [], ◌∷◌, map, length, take, drop, get_or, slice_get, append-nil, Bool, true, false, Option, Some, None, option_map, option_and_then, Result, refl, sym, ap, subst, arith}
 use Rattle.std.specs.Prelude.{if◌then◌else◌}
 use Rattle.std.specs.Str.{bytes_eq}
 use Rattle.std.proofs.Math.Seq.{drop-length}
@@ -15,7 +15,6 @@ use Rattle.mdb_schema.specs.State.{State, Table, table_at}
 use Rattle.mdb_schema.specs.Tests.{◌>>=◌, needed}
 use Rattle.mdb_schema.specs.declared.answer.Answer.{Answer}
 use Rattle.mdb_schema.specs.declared.ask_error.AskError.{AskError}
-use Rattle.mdb_schema.proofs.Membership.{same_key}
 use Rattle.mdb_schema.proofs.Tables.{IsTableAt, table_at-some}
 use Rattle.table_index.specs.Table.{TableRows, TableChange}
 use Rattle.mem_txn.specs.inner.VersionTables.{AnswersAskAt, StandFor, Tables, schemas_of, standing, state_of}
@@ -31,22 +30,6 @@ table_place_within name (u ∷ us) place e = of (bytes_eq u.name name) (table_pl
     of true o g e later = let first : zero ≡ place = cc in omega arith
     of false None g e later = cc
     of false (Some at) g e later = let next : at + 1 ≡ place = cc in let within = later at g in omega arith
-
--- the table there has that name
-pub table_place_named : (name : Bytes) (ts : DbSchema) (place : ℕ) (t : TableSchema) → table_place name ts ≡ Some place → slice_get ts place ≡ Some t → t.name ≡ name
-table_place_named name [] place t e f = cc
-table_place_named name (u ∷ us) place t e f = of (bytes_eq u.name name) (table_place name us) refl refl e (λ at found there. table_place_named name us at t found there)
-  where
-    of : (b : Bool) (o : Option ℕ) → bytes_eq u.name name ≡ b → table_place name us ≡ o → (if b then Some 0 else option_map (λ n. n + 1) o) ≡ Some place
-        → ((at : ℕ) → table_place name us ≡ Some at → slice_get us at ≡ Some t → t.name ≡ name) → t.name ≡ name
-    of true o here g e later =
-        let first : zero ≡ place = cc in
-        let same : Some u ≡ Some t = ap (slice_get (u ∷ us)) first ∙ f in
-        let is : u ≡ t = cc in
-        ap (λ (x : TableSchema). x.name) (sym is) ∙ same_key u.name name here
-    of false None other g e later = cc
-    of false (Some at) other g e later =
-        let next : at + 1 ≡ place = cc in later at g (ap (slice_get (u ∷ us)) (sym (add-one at) ∙ next) ∙ f)
 
 -- ---- no table of a name
 

@@ -1,5 +1,5 @@
 -- What a write transaction answers a wipe, of what its tables and its list of writes tell.
-use Rattle.std.proofs.Common.{◌≡◌, ◌∙◌, ◌≤◌, ◌+◌, ◌*◌, ◌^◌, ◌++◌, ℕ, List, [], ◌∷◌, length, slice_set, Bool, true, false, Option, Some, None, Result, Ok, Err, inl, inr, refl, sym, ap, subst}
+use Rattle.std.proofs.Common.{◌≡◌, ◌∙◌, ◌≤◌, ◌+◌, ◌*◌, ◌^◌, ◌++◌, ℕ, List, length, slice_set, Bool, true, false, Option, Some, None, Result, Ok, Err, inl, inr, refl, sym, ap, subst}
 use Rattle.std.specs.Prelude.{Contains, MatchOption}
 use Rattle.std.proofs.lemmas.List.{length-map}
 use Rattle.mdb_datum.specs.Row.{Fields}
@@ -16,10 +16,10 @@ use Rattle.mdb_schema.specs.Touched.{rows_written}
 use Rattle.mdb_schema.specs.Wipe.{removals, wiped_rows, without_rows}
 use Rattle.mdb_schema.specs.Write.{Write, remove}
 use Rattle.mdb_schema.proofs.Chains.{passed_on}
-use Rattle.mdb_schema.proofs.LawfulStates.{after_writes-append, state_at_lawful, writes_keep}
+use Rattle.mdb_schema.proofs.LawfulStates.{state_at_lawful, writes_keep}
 use Rattle.mdb_schema.proofs.PassedTests.{needed_on}
 use Rattle.mdb_schema.proofs.Removals.{AreRowsOnce, Removes, removals_accepted}
-use Rattle.mdb_schema.proofs.Tables.{IsTableAt, slice_set-same, table_at-some}
+use Rattle.mdb_schema.proofs.Tables.{IsTableAt, slice_set-same, table_at-some, table_place-name}
 use Rattle.mdb_schema.proofs.WipeLaws.{wiped_once}
 use Rattle.table_index.specs.Table.{AreSpent, TableChange}
 use Rattle.table_index.specs.declared.wipe_error.WipeError.{WipeError}
@@ -39,7 +39,8 @@ use Rattle.mem_txn.specs.inner.Wipes.{GivesUp, JoinsGone, JoinsGoneAt, is_memory
 use Rattle.mem_txn.proofs.IdsCounted.{counted_more, counted_same, ids_full}
 use Rattle.mem_txn.proofs.SinceBegun.{AddsAt, removed_rows, since_more}
 use Rattle.mem_txn.proofs.StepsMade.{is_sound, stand-set}
-use Rattle.mem_txn.proofs.TablesFound.{schema_there, stand_table, table_at-none, table_place_named}
+use Rattle.mem_txn.proofs.TablesFound.{schema_there, stand_table, table_at-none}
+use Rattle.mdb_schema.proofs.HistorySteps.{after_writes-append}
 
 -- ---- the writes of a wipe
 
@@ -185,7 +186,7 @@ module _ (how : Wipe) (q : Query) (old : Changes) (sound : old.spoiled ≡ false
     since_wiped first start later since lawful (Err why) listed n joins = let no_way : Ok n ≡ Err (Refused (ask_error why)) = joins.0.0 in absurd (cc)
     since_wiped first start later since lawful (Ok gone) listed n joins =
         let schema = old.caller.schema in
-        let named : at.before.schema.name ≡ q.table = table_place_named q.table schema place at.before.schema found (schema_there tables.tables schema (present old) stand place at.before at.there) in
+        let named : at.before.schema.name ≡ q.table = table_place-name q.table schema place at.before.schema found (schema_there tables.tables schema (present old) stand place at.before at.there) in
         let a : AddsAt gone place tables tables' = record {
           before = at.before;
           after = at.after;

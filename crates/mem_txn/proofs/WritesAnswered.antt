@@ -2,17 +2,14 @@
 use Rattle.std.proofs.Common.{◌≡◌, ◌∙◌, ◌<◌, ◌≤◌, ◌+◌, ◌^◌, ◌++◌, ℕ, zero, suc, List, [], ◌∷◌, length, slice_get, append-nil, Bool, true, false, Option, Some, None, Result, Ok, Err, inl, inr, refl, sym, ap, subst, arith}
 use Rattle.std.specs.Prelude.{◌⊎◌, Contains, MatchOption, option_to_list}
 use Rattle.mdb_datum.specs.Row.{Fields}
-use Rattle.mdb_encode.specs.KeyRefusal.{wrong_kind, out_of_range, bad_uuid, too_many, too_long}
 use Rattle.mdb_schema.specs.History.{after_writes, state_or, writes_in}
-use Rattle.mdb_schema.specs.Refusals.{write_error}
 use Rattle.mdb_schema.specs.Schema.{TableSchema, DbSchema, table_place}
 use Rattle.mdb_schema.specs.State.{State, Table}
 use Rattle.mdb_schema.specs.Touched.{row_put, rows_of_step, rows_written}
-use Rattle.mdb_schema.specs.Write as written
-use Rattle.mdb_schema.specs.Write.{Write, WriteRefusal, Tested, Changed, Stepped, step, step_in, table_of}
+use Rattle.mdb_schema.specs.Write.{Write, Tested, Changed, Stepped, step, step_in, table_of}
 use Rattle.mdb_schema.specs.declared.write_error.WriteError.{WriteError}
 use Rattle.mdb_schema.specs.declared.write_error.WriteError.TheVariants.{Memory}
-use Rattle.mdb_schema.proofs.Tables.{table_at-some}
+use Rattle.mdb_schema.proofs.Tables.{table_at-some, table_place-name}
 use Rattle.table_index.specs.Table.{AreSpent, TableChange}
 use Rattle.mem_txn.specs.Changes.{AnswersStep, AnswersTxnWrite, Changes, IsFull, IsSpoiledBy, present, table_seen, with_writes}
 use Rattle.mem_txn.specs.Database.{Caller, state_seen}
@@ -25,25 +22,13 @@ use Rattle.mem_txn.specs.inner.Versions.{Turned}
 use Rattle.mem_txn.proofs.IdsCounted.{ids_full}
 use Rattle.mem_txn.proofs.StepsMade.{Failed, Spends, accepted, after_writes-more, refused, table_there}
 use Rattle.mem_txn.proofs.SinceBegun.{rows_of_one, since_more}
-use Rattle.mem_txn.proofs.TablesFound.{schema_there, table_at-none, table_place_named}
+use Rattle.mem_txn.proofs.TablesFound.{schema_there, table_at-none}
+use Rattle.table_index.proofs.WriteAnswers.{told_memory}
 
 pub there_is : {X : Type 0} (xs : List X) (at : ℕ) → at < length xs → (x : X) × (slice_get xs at ≡ Some x)
 there_is [] at within = absurd (omega arith)
 there_is (x ∷ xs) zero within = (x, refl)
 there_is (x ∷ xs) (suc at) within = there_is xs at (omega arith)
-
--- no refusal is told as want of memory
-pub refusal_told : (why : WriteRefusal) → is_memory (write_error why) ≡ false
-refusal_told written.unknown_table = refl
-refusal_told written.no_id = refl
-refusal_told (written.bad_key place wrong_kind) = refl
-refusal_told (written.bad_key place out_of_range) = refl
-refusal_told (written.bad_key place bad_uuid) = refl
-refusal_told (written.bad_key place too_many) = refl
-refusal_told (written.bad_key place too_long) = refl
-refusal_told (written.missing place) = refl
-refusal_told (written.key_taken place) = refl
-refusal_told written.not_found = refl
 
 module _ {A : Type 0} (gives : Option Fields → A → Type 0) (w : Write) (change : TableSchema → List Fields → Tested Changed)
     (is_step : (schema : DbSchema) (s : State) → step schema s w ≡ step_in schema s (table_of w) (λ (t : Table). change t.schema t.rows))
@@ -110,7 +95,7 @@ module _ {A : Type 0} (gives : Option Fields → A → Type 0) (w : Write) (chan
         let a = accepted gives (row_put w) change schema (present old) (table_of w) place found tables tables' stand x at in
         let rows = row_put w ++ option_to_list a.after.1 in
         let name = a.adds.before.schema.name in
-        let named : name ≡ table_of w = table_place_named (table_of w) schema place a.adds.before.schema found (schema_there tables.tables schema (present old) stand place a.adds.before a.adds.there) in
+        let named : name ≡ table_of w = table_place-name (table_of w) schema place a.adds.before.schema found (schema_there tables.tables schema (present old) stand place a.adds.before a.adds.there) in
         let told : rows_written schema (present old) (w ∷ []) name ≡ rows =
         append-nil (rows_of_step name w (step schema (present old) w)) ∙ rows_of_one w name (step schema (present old) w) a.after (is_step schema (present old) ∙ a.step) (sym named) in
         since_more first start schema (state_seen old.caller) old.writes (w ∷ []) writes joined place tables tables' since later rows a.adds (λ r h. subst (λ (l : List Fields). Contains l r) (sym told) h)
@@ -171,7 +156,7 @@ module _ {A : Type 0} (gives : Option Fields → A → Type 0) (w : Write) (chan
 
         answer_of : place < length tables.tables → (t : TableChange) → slice_get tables.tables place ≡ Some t → Failure → AnswersTxnWrite gives w old.spoiled (Err (write_refused.Refused e)) old new
         answer_of within t there (inl r) =
-            let quiet : is_memory e ≡ old.spoiled = ap is_memory r.1.error ∙ refusal_told r.0 ∙ sym sound in
+            let quiet : is_memory e ≡ old.spoiled = ap is_memory r.1.error ∙ told_memory r.0 ∙ sym sound in
             let same : new ≡ old = is ∙ ap (λ (b : Bool). let c : Changes = record old { spoiled = b } in c) quiet in
             of_table (Err (write_refused.Refused e)) new t there
             (subst (λ (s : Stepped). AnswersStep gives w s (Err (write_refused.Refused e)) old new) (sym (is_step old.caller.schema (present old) ∙ r.1.stepped))

@@ -218,7 +218,7 @@ module _ (f : List Item → ℕ) (adds : AddsUp f) (n : Numbers) where
 
 -- ---- how many they are
 
-length-behind : (number client place rounds : ℕ) → length (items_behind number client place rounds) ≡ rounds
+pub length-behind : (number client place rounds : ℕ) → length (items_behind number client place rounds) ≡ rounds
 length-behind number client place zero = refl
 length-behind number client place (suc rounds) = ap suc (length-behind number client (suc place) rounds)
 

@@ -20,6 +20,7 @@ use Rattle.memdb.specs.inner.CommandLine.{Asked, asked_at, asked_by, asked_of_ma
 use Rattle.memdb.proofs.PlainWords.{left, no_dashes, plain_long, plain_short, right}
 use Rattle.memdb.proofs.MakeWords as make
 use Rattle.memdb.proofs.RunWords as run
+use Rattle.memdb.proofs.RunWords.{nothing_else}
 
 no_words : fault_of program [] ≡ kind.MissingSubcommand ∷ []
 unfolding clap_on_literals
@@ -70,11 +71,6 @@ run_passes ws = ap (λ w. walk_fault above names w ws) step_run ∙ stopped_faul
 make_passes : (ws : List Text) → walk_fault above names (walk_from nothing_held) (codes "make" ∷ ws) ≡ []
 unfolding clap_on_literals
 make_passes ws = ap (λ w. walk_fault above names w ws) step_make ∙ stopped_fault above names (walk_from nothing_held) (codes "make", []) ws
-
--- what is refused behind it is what the command's own level refuses
-nothing_else : (ks : Kinds) → or_else ks [] ≡ ks
-nothing_else [] = refl
-nothing_else (k ∷ ks) = refl
 
 abbrev fault_at : Walk → Kinds
 fault_at w = or_else (entered_fault (built program) w.stopped) (or_else (settle_fault [] false w.held)

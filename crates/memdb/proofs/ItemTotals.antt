@@ -13,12 +13,14 @@ use Rattle.mdb_encode.specs.Keys.{ended}
 use Rattle.mdb_schema.specs.Schema.{TableSchema}
 use Rattle.mdb_schema.specs.State.{id_key, with_row}
 use Rattle.mdb_schema.proofs.Membership.{Contains-first, Contains-later, Contains-cons_cases, same_key, bytes_eq-itself}
-use Rattle.mdb_schema.proofs.RowsById.{AreRising, rising-first, rising-rest, first_apart, same_from_byte_order, apart_from_less, apart_from_greater}
+use Rattle.mdb_schema.proofs.RowsById.{AreRising, rising-first, rising-rest, first_apart, apart_from_less, apart_from_greater}
 use Rattle.mdb_schema.proofs.RowsWith.{rising-with_row}
 use Rattle.memdb.specs.Made.{Item, is_named, last_items}
 use Rattle.memdb.specs.inner.MadeInputs.{row_of, age_in, ages_in}
 use Rattle.memdb.specs.inner.MadeItem.{IsItem, item_table}
 use Rattle.memdb.proofs.MadeStep.{id_key-item}
+use Rattle.mdb_datum.proofs.ByteOrder.{same_from_byte_order}
+use Rattle.mdb_schema.proofs.FreeKeys.{same_answer}
 
 -- ---- sums
 
@@ -106,12 +108,6 @@ AreMade (x ∷ xs) = IsItem x × AreMade xs
 abbrev pub is_keyed : Bytes → List Item → Bool
 is_keyed k [] = false
 is_keyed k (x ∷ xs) = bytes_eq (id_key item_table (row_of x)) k || is_keyed k xs
-
--- tests that both pass or both fail
-same_answer : (a b : Bool) → (a ≡ true → b ≡ true) → (b ≡ true → a ≡ true) → a ≡ b
-same_answer true b f g = sym (f refl)
-same_answer false true f g = g refl
-same_answer false false f g = refl
 
 -- keys tell names
 same_names : (x y : Item) → IsItem x → IsItem y

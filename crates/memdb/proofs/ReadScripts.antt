@@ -1,5 +1,5 @@
 -- What the text of a client is read as.
-use Rattle.std.proofs.Common.{arith, ◌≡◌, refl, ap, ◌∙◌, ℕ, zero, suc, ◌+◌, ◌-◌, ◌*◌, ◌<◌, ◌≤◌, ◌^◌, List, [], ◌∷◌, ◌++◌, length, true, decimal, length-append}
+use Rattle.std.proofs.Common.{arith, ◌≡◌, refl, ap, ◌∙◌, ℕ, ◌+◌, ◌-◌, ◌*◌, ◌≤◌, List, [], ◌∷◌, ◌++◌, length, true, decimal, length-append}
 use Rattle.std.specs.Prelude.{codes, nat_le, Ok}
 use Rattle.std.specs.List.{list_all}
 use Rattle.std.proofs.lemmas.Bool.Decides.{nat_tests}
@@ -12,11 +12,11 @@ use Rattle.client_script.specs.inner.FirstLine.{put_before}
 use Rattle.client_script.specs.declared.command.Command.{Command}
 use Rattle.client_script.specs.declared.command.Command.TheVariants as command
 use Rattle.client_script.specs.declared.line.Line.{Line}
-use Rattle.memdb.specs.Made.{AreInRange, Item, Numbers, items_behind}
-use Rattle.memdb.specs.inner.MadeInputs.{row_of, first_of, round_lines, rounds_behind, made_script}
-use Rattle.memdb.specs.inner.MadeText.{insert_text, first_text, lines_text, round_text, rounds_text, script_text}
+use Rattle.memdb.specs.Made.{Item}
+use Rattle.memdb.specs.inner.MadeInputs.{row_of, first_of, round_lines, rounds_behind}
+use Rattle.memdb.specs.inner.MadeText.{insert_text, first_text, lines_text, round_text, rounds_text}
 use Rattle.memdb.proofs.MadeLines.{one, word_write, word_commit, word_read, word_end, insert_read, first_read}
-use Rattle.memdb.proofs.MadeRows.{IsMade, AreMade, items_made}
+use Rattle.memdb.proofs.MadeRows.{IsMade, AreMade}
 use Rattle.memdb.proofs.NameBytes.{all_append, decimal_is_name}
 use Rattle.memdb.proofs.PlainTexts.{insert_plain, first_plain}
 use Rattle.memdb.proofs.ShownLines.{AreShown, is_shown, name_shown, shown_append, lines_back, lines_utf8}
@@ -52,11 +52,6 @@ rounds_shown (x ∷ xs) h =
 lines_counted : (xs : List Item) → length (rounds_text xs) ≡ 6 * length xs
 lines_counted [] = refl
 lines_counted (x ∷ xs) = length-append (round_text x) (rounds_text xs) ∙ omega (arith, lines_counted xs)
-
--- and as many rounds as are asked for
-pub items_counted : (number client place rounds : ℕ) → length (items_behind number client place rounds) ≡ rounds
-items_counted number client place zero = refl
-items_counted number client place (suc rounds) = omega (arith, items_counted number client (suc place) rounds)
 
 -- which a script may have
 few_enough : (n : ℕ) → n ≤ 6000 → nat_le n line_limit ≡ true
@@ -105,10 +100,3 @@ script_read xs h short =
     script_lines (lines_text (rounds_text xs)) (is_utf8-from_IsUtf8 _ (lines_utf8 (rounds_text xs) shown)) (ap (λ ls. nat_le (length ls) line_limit) back ∙ few_enough _ few)
     ∙ ap (lines_in 1) back
     ∙ rounds_read 0 xs h
-
--- the text of a client is read as the script of that client
-pub made_script_read : (n : Numbers) (client : ℕ) → AreInRange n → client < 2 ^ 64 → script_in (script_text n client) ≡ Ok (made_script n client)
-made_script_read n client h small =
-    let place = (client - 1) * n.count in
-    let size = items_counted n.number client place n.count in
-    script_read (items_behind n.number client place n.count) (items_made n.number client place n.count small) (omega (arith, size, h.few_rounds))

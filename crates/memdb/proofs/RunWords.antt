@@ -102,7 +102,7 @@ any_text a i (v ∷ vs) = any_text a i vs
 abbrev pub too_many : ℕ → Kinds
 too_many n = if nat_lt 64 n then kind.TooManyValues ∷ [] else []
 
-nothing_else : (ks : Kinds) → or_else ks [] ≡ ks
+pub nothing_else : (ks : Kinds) → or_else ks [] ≡ ks
 nothing_else [] = refl
 nothing_else (k ∷ ks) = refl
 

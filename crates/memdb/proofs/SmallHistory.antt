@@ -27,6 +27,7 @@ use Rattle.mem_txn.specs.Database.{AreNamed, commits_by}
 use Rattle.client_session.specs.Answered.{commit_at}
 use Rattle.memdb.specs.Made.{Item, items_behind}
 use Rattle.memdb.specs.inner.MadeInputs.{rounds_behind}
+use Rattle.memdb.proofs.ClientItems.{length-behind}
 
 -- ---- what commits weigh
 
@@ -212,13 +213,6 @@ rounds_count : (at : ℕ) (xs : List Item) → length (rounds_behind at xs) ≡ 
 rounds_count at [] = refl
 rounds_count at (x ∷ xs) = let rest = rounds_count (at + 6) xs in omega (arith, rest)
 
--- and a client one row in each round
-items_count : (number client place rounds : ℕ) → length (items_behind number client place rounds) ≡ rounds
-items_count number client place zero = refl
-items_count number client place (suc rounds) =
-    let rest = items_count number client (suc place) rounds in
-    omega (arith, rest)
-
 -- so the commits that a made client tells weigh at most six for each of its rounds
 pub session_light : (schema : DbSchema) (H : History) (client at number place rounds : ℕ) (rs : List Reply)
     → Session schema H client (rounds_behind at (items_behind number client place rounds)) rs
@@ -227,7 +221,7 @@ session_light schema H client at number place rounds rs (end, runs) =
     let xs = items_behind number client place rounds in
     let le = runs_grow schema H client at_start (rounds_behind at xs) rs end (rounds_made at xs) runs in
     let lines = rounds_count at xs in
-    let items = items_count number client place rounds in
+    let items = length-behind number client place rounds in
     omega (arith, le, lines, items)
 
 -- ---- all clients

@@ -12,6 +12,7 @@ use Rattle.radix_node.specs.Shape.{IsBranching, IsShaped, width}
 use Rattle.radix_node.specs.declared.edge.Edge.{Edge}
 use Rattle.radix_iter.proofs.NodeCount.{size, size_at, size_within}
 use Rattle.radix_iter.proofs.RowsGathered.{pairs_at_edge, pairs_at_edges, pairs_one, pairs_last}
+use Rattle.radix_node.proofs.Lookup.{row_of_pair}
 
 -- ---- the ends of lists
 
@@ -24,9 +25,6 @@ reverse_some xs some none = some (sym (reverse-reverse xs) ∙ ap reverse none)
 
 last_back : {A : Type 0} → (xs ys : List A) → ys ≢ [] → last_item (xs ++ ys) ≡ last_item ys
 last_back xs ys some = ap first_item (reverse-append xs ys) ∙ first_front (reverse ys) (reverse xs) (reverse_some ys some)
-
-abbrev pub row_of_pair : Option Pair → Option Fields
-row_of_pair o = option_map (λ (p : Pair). p.1) o
 
 first_row : (ps : List Pair) → first_item (rows_of ps) ≡ row_of_pair (first_item ps)
 first_row [] = refl

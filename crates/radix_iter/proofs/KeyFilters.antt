@@ -7,8 +7,8 @@ use Rattle.radix_node.specs.Nodes.{Plain, pairs_of}
 use Rattle.radix_node.specs.Shape.{HasShape}
 use Rattle.radix_node.proofs.KeyOrder.{goes_on}
 use Rattle.radix_node.proofs.KeysUnder.{Any, Past-less, Past-greater, Past-end}
-use Rattle.radix_node.proofs.PairLaws.{byte_order_itself, turned}
 use Rattle.radix_node.proofs.PathFilter.{Sides, IsTest, walked_plain, kept_plain}
+use Rattle.mdb_datum.proofs.ByteOrder.{turned, byte_order_itself}
 
 -- what each bound keeps
 abbrev pub upward : Sides

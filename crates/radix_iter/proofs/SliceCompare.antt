@@ -3,7 +3,7 @@ use Rattle.std.proofs.Common.{◌≡◌, ◌∷◌, ◌∙◌, ℕ, Bool, List, 
 use Rattle.std.specs.Cmp.Lexicographic.{slice_partial_cmp}
 use Rattle.std.specs.Ordering.{nat_cmp, ordering_then, ordering_reverse, partial_ordering_then, partial_lt, is_some_and}
 use Rattle.mdb_datum.specs.Bytes.{byte_order}
-use Rattle.radix_node.proofs.PairLaws.{turned}
+use Rattle.mdb_datum.proofs.ByteOrder.{turned}
 
 partial_order : (xs ys : List ℕ) → slice_partial_cmp (λ x y. Some (nat_cmp x y)) xs ys ≡ Some (byte_order xs ys)
 partial_order [] [] = refl

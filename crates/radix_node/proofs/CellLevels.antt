@@ -9,7 +9,7 @@ use Rattle.radix_node.specs.Node.{PlainEdge, PlainNode, labelled, leaf_pair, bel
 use Rattle.radix_node.specs.Nodes.{node}
 use Rattle.radix_node.specs.inner.Siblings.{bare}
 use Rattle.radix_node.specs.declared.leaf.Leaf.{Leaf}
-use Rattle.radix_node.specs.declared.edge.Edge.{Edge, Edge-F, out-Edge, roll-Edge, fold_out-Edge, fold-roll-Edge, ind-Edge}
+use Rattle.radix_node.specs.declared.edge.Edge.{Edge, Edge-F, out-Edge, roll-Edge, fold_out-Edge, fold-roll-Edge}
 use Rattle.radix_node.specs.declared.edges.Edges.{Edges, Edges-F, out-Edges, roll-Edges, fold_out-Edges, fold-roll-Edges, ind-Edges}
 use Rattle.radix_node.specs.declared.node.Node.{Node, Node-F, out-Node, roll-Node, fold_out-Node, fold-roll-Node, ind-Node}
 use Rattle.radix_node.specs.declared.node_ref.NodeRef.{NodeRef, NodeRef-F, out-NodeRef, roll-NodeRef, fold_out-NodeRef, fold-roll-NodeRef, ind-NodeRef}
@@ -41,9 +41,6 @@ cell_ref_out r = sym (fold_out-NodeRef CellEdge (List CellNode) CellNode CellNod
 
 pub out_cell : (n : Node) → arc_value (out-Node n).cell ≡ (cell_node n).cell
 out_cell n = sym (ap (λ (p : CellNode). p.cell) (cell_node_out n))
-
-pub out_cell_prefix : (n : Node) → (out-Node n).prefix.items ≡ (cell_node n).prefix
-out_cell_prefix n = sym (ap (λ (p : CellNode). p.prefix) (cell_node_out n))
 
 pub out_cell_leaf : (n : Node) → option_map arc_value (out-Node n).leaf ≡ (cell_node n).leaf
 out_cell_leaf n = sym (ap (λ (p : CellNode). p.leaf) (cell_node_out n))
@@ -143,14 +140,3 @@ plain_under n = sym (ap below (bare_node n))
 
 pub same_prefix : (n : Node) → (plain_node n).prefix ≡ (cell_node n).prefix
 same_prefix n = ap (λ (p : PlainNode). p.prefix) (sym (bare_node n))
-
-pub bare_led : (e : Edge) → bare (led_node e) ≡ edge_node e
-bare_led e = ap labelled (bare_each e)
-  where
-    bare_each : (e : Edge) → BareEdge e
-    bare_each =
-        ind-Edge BareEdge BareEdges BareNode BareRef
-        (λ x y is. edge_level x (subst (λ z. BareRef z.node) is y.node.1))
-        (λ x y is. edges_level x (subst (λ z. map bare (map led_node z.edges.items) ≡ map edge_node z.edges.items) is (bare_list y.edges.items)))
-        (λ x y is. node_level x (subst (λ z. BareEdges z.edges) is y.edges.1))
-        (λ x y is. ref_level x (subst (λ z. BareNode (arc_value z.node)) is (arc_value y.node).1))

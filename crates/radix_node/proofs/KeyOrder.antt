@@ -1,25 +1,22 @@
 -- Byte order of keys that begin alike, and `put` in lists of pairs that are joined.
-use Rattle.std.proofs.Common.{◌≡◌, ◌<◌, ◌++◌, ◌∷◌, ◌∙◌, ℕ, List, [], refl, sym, ap, Less, Equal, Greater}
-use Rattle.std.specs.Ordering.{nat_cmp, ordering_then}
-use Rattle.std.specs.Cmp.{nat_cmp_is}
+use Rattle.std.proofs.Common.{◌≡◌, ◌<◌, ◌++◌, ◌∷◌, ◌∙◌, ℕ, List, [], refl, ap, Less, Equal, Greater}
+use Rattle.std.specs.Ordering.{ordering_then}
 use Rattle.std.proofs.lemmas.Cmp.{nat_cmp_total, tied_itself}
 use Rattle.std.specs.FinMap.Entries as entries
 use Rattle.mdb_datum.specs.Bytes.{byte_order}
 use Rattle.mdb_datum.specs.Row.{Fields, Pair}
 use Rattle.radix_node.specs.Pairs.{put}
-use Rattle.radix_node.proofs.PairLaws.{byte_order_itself, turned}
+use Rattle.mdb_datum.proofs.ByteOrder.{turned, byte_order_itself}
+use Rattle.radix_node.proofs.ByteCompare.{less_from}
 
 -- what both begin with does not count
 pub same_start : (a x y : List ℕ) → byte_order (a ++ x) (a ++ y) ≡ byte_order x y
 same_start [] x y = refl
 same_start (b ∷ a) x y = ap (λ o. ordering_then o (byte_order (a ++ x) (a ++ y))) (tied_itself nat_cmp_total b) ∙ same_start a x y
 
-pub below_first : (b c : ℕ) → b < c → nat_cmp b c ≡ Less
-below_first b c h = sym (nat_cmp_is b c Less h)
-
 -- a lower first byte decides
 pub lower_byte : (a : List ℕ) (b c : ℕ) (x y : List ℕ) → b < c → byte_order (a ++ b ∷ x) (a ++ c ∷ y) ≡ Less
-lower_byte a b c x y h = same_start a (b ∷ x) (c ∷ y) ∙ ap (λ o. ordering_then o (byte_order x y)) (below_first b c h)
+lower_byte a b c x y h = same_start a (b ∷ x) (c ∷ y) ∙ ap (λ o. ordering_then o (byte_order x y)) (less_from b c h)
 
 pub higher_byte : (a : List ℕ) (b c : ℕ) (x y : List ℕ) → b < c → byte_order (a ++ c ∷ y) (a ++ b ∷ x) ≡ Greater
 higher_byte a b c x y h = turned (a ++ b ∷ x) (a ++ c ∷ y) Less (lower_byte a b c x y h)

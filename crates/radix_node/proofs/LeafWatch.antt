@@ -1,6 +1,5 @@
 -- The leaf at the end of a key's walk is the one with the key.
-use Rattle.std.proofs.Common.{◌≡◌, inl, inr, ◌++◌, ◌∷◌, ◌∙◌, true, false, cond, List, [], map, Option, Some, None, option_map, refl, sym, ap, is_eq, Ordering, Equal}
-use Rattle.std.proofs.lemmas.Bool.{false≢true}
+use Rattle.std.proofs.Common.{◌≡◌, inl, inr, ◌++◌, ◌∷◌, ◌∙◌, true, false, cond, List, [], map, Option, Some, None, option_map, refl, sym, ap, is_eq}
 use Rattle.mdb_datum.specs.Bytes.{Bytes, byte_order}
 use Rattle.mdb_datum.specs.Row.{Fields, Pair}
 use Rattle.radix_node.specs.Cells.{CellLeaf, CellNodes, no_cells, celled, CellTree, a_leaf, leaf_pieces, node_pieces, pieces_of, plain_leaf, plain_nodes, plain_of, leaf_list, node_leaves, leaves_of}
@@ -12,10 +11,10 @@ use Rattle.radix_node.specs.Watches.{leaf_with}
 use Rattle.radix_node.specs.inner.Walk.{walk_tree, end_leaf}
 use Rattle.radix_node.proofs.Lookup.{row_of_pair}
 use Rattle.radix_node.proofs.Paths.{Has-left, Has-right, Has-split}
-use Rattle.radix_node.proofs.PairLaws.{same_from_byte_order}
 use Rattle.radix_node.proofs.WalkedTree.{leaf_reached}
 use Rattle.radix_node.proofs.Walks.{get_end}
 use Rattle.radix_node.proofs.WholeTree.{find_plain}
+use Rattle.mdb_datum.proofs.ByteOrder.{same_from_byte_order, equal_from_is_eq}
 
 -- ---- the leaves and the pairs
 
@@ -66,15 +65,11 @@ tree_leaf_piece l t h =
 
 -- ---- the leaf with a key
 
-tied : (o : Ordering) → is_eq o ≡ true → o ≡ Equal
-tied Equal e = refl
-tied _ e = absurd (false≢true e)
-
-with_key : (key : Bytes) (ls : List CellLeaf) (l : CellLeaf) → leaf_with key ls ≡ Some l → Has l ls × (key ≡ l.pair.0)
+pub with_key : (key : Bytes) (ls : List CellLeaf) (l : CellLeaf) → leaf_with key ls ≡ Some l → Has l ls × (key ≡ l.pair.0)
 with_key key [] l e = absurd cc
 with_key key (m ∷ ls) l e =
     elim (is_eq (byte_order key m.pair.0)) as (λ b. is_eq (byte_order key m.pair.0) ≡ b → cond b (Some m) (leaf_with key ls) ≡ Some l → Has l (m ∷ ls) × (key ≡ l.pair.0)) [
-      | true ↦ λ b f. let same : m ≡ l = cc in (inl (sym same), same_from_byte_order key m.pair.0 (tied (byte_order key m.pair.0) b) ∙ ap (λ (z : CellLeaf). z.pair.0) same)
+      | true ↦ λ b f. let same : m ≡ l = cc in (inl (sym same), same_from_byte_order key m.pair.0 (equal_from_is_eq (byte_order key m.pair.0) b) ∙ ap (λ (z : CellLeaf). z.pair.0) same)
       | false ↦ λ b f. let w = with_key key ls l f in (inr w.0, w.1)
     ] refl e
 

@@ -1,8 +1,8 @@
 -- The last leaf on the path of a key has the longest key that is a prefix of it.
-use Rattle.std.proofs.Common.{◌≡◌, ◌≢◌, ◌<◌, ◌++◌, ◌∷◌, ◌∙◌, ℕ, Bool, true, false, cond, List, [], length, Option, Some, None, refl, sym, ap, subst, arith, is_lt, Ordering, Less, Equal, Greater}
+use Rattle.std.proofs.Common.{◌≡◌, ◌≢◌, ◌<◌, ◌++◌, ◌∷◌, ◌∙◌, ℕ, Bool, true, false, cond, List, [], length, Option, Some, None, refl, sym, ap, subst, arith, Less, Equal, Greater}
 use Rattle.std.specs.Prelude.{nat_lt}
 use Rattle.std.specs.Ordering.{nat_cmp}
-use Rattle.std.proofs.lemmas.Bool.{and_parts, false≢true, eqb-true}
+use Rattle.std.proofs.lemmas.Bool.{and_parts, eqb-true}
 use Rattle.std.proofs.lemmas.Bool.Decides.{nat_tests}
 use Rattle.std.proofs.lemmas.List.{append-nil}
 use Rattle.std.specs.FinMap.Entries as entries
@@ -21,6 +21,7 @@ use Rattle.radix_node.proofs.LookupSteps.{ended, led, child_shaped, rest_past_la
 use Rattle.radix_node.proofs.WholeTree.{rising_plain}
 use Rattle.radix_node.proofs.KeysUnder.{Past}
 use Rattle.radix_node.proofs.PathFilter.{IsTest, Sides, narrow, when, kept_plain, walked, walked_at, walked_edge, walked_narrow}
+use Rattle.mdb_datum.proofs.ByteOrder.{less_from_is_lt}
 
 -- the first of two pairs that is there
 abbrev pub or_else : Option Pair → Option Pair → Option Pair
@@ -71,10 +72,6 @@ shorter (x ∷ a) (y ∷ b) (z ∷ key) f g h =
     let less : byte_order a b ≡ Less = sym (same_start (z ∷ []) a b) ∙ (λ i. byte_order (sym (eqb-true x z is_x.0) i ∷ a) (sym (eqb-true y z is_y.0) i ∷ b)) ∙ h in
     let rest = shorter a b key is_x.1 is_y.1 less in
     omega arith
-
-less_from_is_lt : (o : Ordering) → is_lt o ≡ true → o ≡ Less
-less_from_is_lt Less e = refl
-less_from_is_lt _ e = absurd (false≢true e)
 
 module _ (key : List ℕ) where
   abbrev pub starts : List ℕ → Bool

@@ -9,11 +9,11 @@ use Rattle.radix_node.specs.Pairs.{find}
 use Rattle.radix_node.specs.Nodes.{Nodes, no_nodes, node, pairs_of_leaf, pairs_of_nodes, part}
 use Rattle.radix_node.specs.Shape.{FirstBytes, IsKeyed, IsShaped}
 use Rattle.radix_node.specs.inner.Seek.{seek, found}
-use Rattle.radix_node.proofs.PairLaws.{byte_order_itself}
 use Rattle.radix_node.proofs.KeyOrder.{Each, Each-append, Each-weaken, same_start}
 use Rattle.radix_node.proofs.Parts.{HeadsDiffer, part_parts}
 use Rattle.radix_node.proofs.KeysUnder.{Any, Past, weaken_first, leaf_past, keys_past, below_past, under_past, Past-less, Past-greater, Past-end, leaf_greater}
 use Rattle.radix_node.proofs.ByteCompare.{what_less, what_equal, what_greater}
+use Rattle.mdb_datum.proofs.ByteOrder.{byte_order_itself}
 
 -- another key
 abbrev pub Apart : List ℕ → List ℕ → Type 0

@@ -12,8 +12,9 @@ use Rattle.radix_node.specs.Pairs.{IsRising}
 use Rattle.radix_node.specs.Nodes.{Nodes, no_nodes, node, Plain, pairs_of_nodes, pairs_of}
 use Rattle.radix_node.specs.Shape.{FirstBytes, IsShaped, HasShape}
 use Rattle.radix_node.specs.Paths.{paths_of_nodes, paths_of_plain}
-use Rattle.radix_node.proofs.PairLaws.{below_rest, rising_rest, less_from_is_lt}
+use Rattle.radix_node.proofs.PairLaws.{below_rest, rising_rest}
 use Rattle.radix_node.proofs.WholeTree.{rising_plain}
+use Rattle.mdb_datum.proofs.ByteOrder.{less_from_is_lt}
 
 -- a leaf without members at each node
 marked : List ℕ → Nodes → Nodes

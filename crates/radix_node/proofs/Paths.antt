@@ -6,10 +6,10 @@ use Rattle.radix_node.specs.Nodes.{Nodes, no_nodes, node, pairs_of_leaf, pairs_o
 use Rattle.radix_node.specs.Shape.{width, IsKeyed, IsShaped}
 use Rattle.radix_node.specs.Paths.{Has, HasKey, paths_of_nodes}
 use Rattle.mdb_datum.specs.Bytes.{byte_order}
-use Rattle.radix_node.proofs.PairLaws.{byte_order_itself}
 use Rattle.radix_node.proofs.KeyOrder.{Each, lower_byte}
 use Rattle.radix_node.proofs.KeysUnder.{Any, Past, leaf_past, keys_past, below_past, under_past}
 use Rattle.radix_node.proofs.CommonPrefix.{common_two, common_first, common_second}
+use Rattle.mdb_datum.proofs.ByteOrder.{byte_order_itself}
 
 -- ---- membership
 

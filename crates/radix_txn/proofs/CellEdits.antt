@@ -1,13 +1,13 @@
 -- What each kind of edit does to the pieces of a node.
-use Rattle.std.proofs.Common.{◌≡◌, ◌+◌, ◌≤◌, ◌++◌, ◌∷◌, ◌∙◌, ℕ, List, [], map, Option, Some, None, refl, sym, ap, subst, arith, append_assoc}
+use Rattle.std.proofs.Common.{◌≡◌, ◌+◌, ◌≤◌, ◌++◌, ◌∷◌, ◌∙◌, ℕ, List, [], Option, Some, None, refl, sym, ap, subst, arith, append_assoc}
 use Rattle.std.proofs.lemmas.List.{append-nil}
 use Rattle.mdb_datum.specs.Bytes.{Bytes}
 use Rattle.watch_word.specs.Logs.{Cell}
-use Rattle.radix_node.specs.Cells.{CellLeaf, CellNode, CellNodes, no_cells, Piece, a_node, a_leaf, piece_cell, leaf_pieces, node_pieces, cells_in}
-use Rattle.radix_node.specs.Left.{leave, leave_all, leave_leaf}
+use Rattle.radix_node.specs.Cells.{CellLeaf, CellNode, CellNodes, no_cells, Piece, a_node, a_leaf, leaf_pieces, node_pieces, cells_in}
+use Rattle.radix_node.specs.Left.{leave, leave_leaf}
 use Rattle.radix_txn.specs.inner.Pieces.{led, inside_of, inside, whole}
 use Rattle.radix_txn.specs.inner.Steps.{IsStep, IsNext}
-use Rattle.radix_txn.proofs.Steps.{at, SameBag, bag_is, bag_swap, bag_under, bag_then, bag_front, step_same, step_then, step_bag, step_from, step_beside, step_made, step_gone, step_all_gone}
+use Rattle.radix_txn.proofs.Steps.{at, SameBag, bag_is, bag_swap, bag_under, bag_then, bag_front, step_same, step_then, step_bag, step_from, step_beside, step_made, step_gone}
 
 -- ---- nodes side by side
 
@@ -149,27 +149,12 @@ step_without_leaf P first l leaf under n0 l0 begun is =
     subst (λ o. IsStep P first (at (inside_of o under) n0 l0) (at (node_pieces under) n0 (leave first l.cell l0))) (sym is)
     (step_gone P first (a_leaf l) (node_pieces under) n0 l0 begun)
 
--- a node goes with all under it
-pub step_without_node : (P : Cell → Type 0) (first : ℕ) (k : CellNode) (n0 : ℕ) (l0 : List Cell) → first ≤ n0 → IsStep P first (at (node_pieces (cells_in (k ∷ []))) n0 l0) (at (node_pieces (cells_in [])) n0 (leave_all first (map piece_cell (whole k)) l0))
-step_without_node P first k n0 l0 begun =
-    subst (λ (zs : List Piece). IsStep P first (at zs n0 l0) (at [] n0 (leave_all first (map piece_cell (whole k)) l0))) (sym (pieces_one k))
-    (step_all_gone P first (whole k) n0 l0 begun)
-
 -- what is left of a node stands as a node again
 pub step_settled : (P : Cell → Type 0) (first : ℕ) (m : CellNode) (leaf : Option CellLeaf) (under : CellNodes) (n0 : ℕ) (l0 : List Cell) → first ≤ n0 → IsNext P n0 m.cell → m.leaf ≡ leaf → m.under ≡ under → IsStep P first (at (inside_of leaf under) n0 l0) (at (node_pieces (cells_in (m ∷ []))) (n0 + 1) l0)
 step_settled P first m leaf under n0 l0 begun id f g =
     let is : inside_of leaf under ≡ inside m = λ i. inside_of (sym f i) (sym g i) in
     subst (λ (zs : List Piece). IsStep P first (at (inside_of leaf under) n0 l0) (at zs (n0 + 1) l0)) (ap (λ (zs : List Piece). a_node m ∷ zs) is ∙ sym (pieces_one m))
     (step_made P first (a_node m) (inside_of leaf under) n0 l0 begun id)
-
--- or it is merged with the one node that is left under it
-pub step_merged : (P : Cell → Type 0) (first : ℕ) (m k : CellNode) (leaf : Option CellLeaf) (under : CellNodes) (n0 : ℕ) (l0 : List Cell) → first ≤ n0 → leaf ≡ None → under ≡ cells_in (k ∷ []) → IsNext P n0 m.cell → inside m ≡ inside k → IsStep P first (at (inside_of leaf under) n0 l0) (at (node_pieces (cells_in (m ∷ []))) (n0 + 1) (leave first k.cell l0))
-step_merged P first m k leaf under n0 l0 begun f g id same =
-    let is : inside_of leaf under ≡ whole k = (λ i. inside_of (f i) (g i)) ∙ pieces_one k in
-    subst (λ (zs : List Piece). IsStep P first (at zs n0 l0) (at (node_pieces (cells_in (m ∷ []))) (n0 + 1) (leave first k.cell l0))) (sym is)
-    (step_then P first (step_gone P first (a_node k) (inside k) n0 l0 begun)
-    (subst (λ (zs : List Piece). IsStep P first (at (inside k) n0 (leave first k.cell l0)) (at zs (n0 + 1) (leave first k.cell l0))) (ap (λ (zs : List Piece). a_node m ∷ zs) (sym same) ∙ sym (pieces_one m))
-    (step_made P first (a_node m) (inside k) n0 (leave first k.cell l0) begun id)))
 
 -- or nothing is left of it
 pub step_nothing : (P : Cell → Type 0) (first : ℕ) (leaf : Option CellLeaf) (under : CellNodes) (n0 : ℕ) (l0 : List Cell) → first ≤ n0 → leaf ≡ None → under ≡ no_cells → IsStep P first (at (inside_of leaf under) n0 l0) (at (node_pieces (cells_in [])) n0 l0)

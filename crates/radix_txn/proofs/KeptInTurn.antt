@@ -18,9 +18,6 @@ use Rattle.radix_txn.specs.Kept.{AreWritten, IsParent, Kept, NoneBegins}
 
 -- ---- prefixes
 
-pub prefix_of : (a r : Bytes) → is_prefix a (a ++ r) ≡ true
-prefix_of a r = is_prefix_all a a r (a ++ r) refl refl
-
 pub prefix_then : (a b c : Bytes) → is_prefix a b ≡ true → is_prefix b c ≡ true → is_prefix a c ≡ true
 prefix_then a b c e f =
     let r = prefix_rest a b e in

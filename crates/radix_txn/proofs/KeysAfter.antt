@@ -1,5 +1,5 @@
 -- Which keys there are after a write.
-use Rattle.std.proofs.Common.{◌≡◌, ◌≢◌, ◌↔◌, inl, inr, ◌∷◌, ◌∙◌, Bool, not, true, false, cond, List, [], map, refl, sym, ap, is_eq, Ordering, Less, Equal, Greater, length, ◌≤◌, arith}
+use Rattle.std.proofs.Common.{◌≡◌, ◌≢◌, ◌↔◌, inl, inr, ◌∷◌, ◌∙◌, Bool, not, true, false, cond, List, [], map, refl, sym, ap, Less, Equal, Greater, length, ◌≤◌, arith}
 use Rattle.std.specs.FinMap.Entries as entries
 use Rattle.std.specs.Ordering.{eq_by_cmp}
 use Rattle.std.proofs.lemmas.Bool.{false≢true, false_from_ne_true}
@@ -7,7 +7,7 @@ use Rattle.mdb_datum.specs.Bytes.{Bytes, byte_order, is_prefix}
 use Rattle.mdb_datum.specs.Row.{Fields, Pair}
 use Rattle.radix_node.specs.Pairs.{put, with_prefix, without, without_prefix}
 use Rattle.radix_node.specs.Paths.{Has, HasKey}
-use Rattle.radix_node.proofs.PairLaws.{same_from_byte_order}
+use Rattle.mdb_datum.proofs.ByteOrder.{same_from_byte_order, equal_from_is_eq}
 
 -- ---- a put
 
@@ -56,13 +56,9 @@ module _ (f : Bytes → Bool) (k : Bytes) where
         | false ↦ λ e. elim h [ inl same ↦ absurd (false≢true (sym e ∙ ap f (sym same) ∙ t)) | inr i ↦ filtered_on ps t i ]
       ] refl
 
-tied : (o : Ordering) → is_eq o ≡ true → o ≡ Equal
-tied Equal e = refl
-tied _ e = absurd (false≢true e)
-
 pub keys_without : (key k : Bytes) → k ≢ key → (ps : List Pair) → HasKey k ps ↔ HasKey k (without key ps)
 keys_without key k other ps =
-    let off : eq_by_cmp byte_order key k ≡ false = false_from_ne_true _ (λ e. other (sym (same_from_byte_order key k (tied (byte_order key k) e)))) in
+    let off : eq_by_cmp byte_order key k ≡ false = false_from_ne_true _ (λ e. other (sym (same_from_byte_order key k (equal_from_is_eq (byte_order key k) e)))) in
     let test : Bytes → Bool = λ z. not (eq_by_cmp byte_order key z) in
     (filtered_on test k ps (ap not off), λ h. (filtered_back test k ps h).0)
 

@@ -11,7 +11,7 @@ use Rattle.radix_node.proofs.Paths.{Has-left, Has-right, Has-split}
 use Rattle.radix_txn.specs.declared.target.Target.{Target}
 use Rattle.radix_txn.specs.declared.target.Target.TheVariants.{Key, Prefix}
 use Rattle.radix_txn.specs.inner.Outside.{AllIn, below_pieces, inner_pieces, outside, outside_node, staying}
-use Rattle.radix_txn.specs.inner.Pieces.{led, inside, inside_of}
+use Rattle.radix_txn.specs.inner.Pieces.{led, inside_of}
 use Rattle.radix_txn.proofs.CellInserts.{cells_in_list}
 
 -- ---- lists in lists
@@ -87,12 +87,6 @@ module _ (target : Target) (x : ℕ) (k : Bytes) (n : CellNode) (start end : ℕ
 pub outside_edge : (target : Target) (x : ℕ) (k : Bytes) (n : CellNode) → let s = part n.prefix k in outside target (x ∷ k) (cells_in (led (x ∷ []) n ∷ [])) ≡ staying target s.1 s.2 n.leaf n.under (outside target s.2 n.under)
 outside_edge target x k n =
     append-nil _ ∙ ap (λ (s : Bytes × Bytes × Bytes). staying target s.1 s.2 n.leaf n.under (outside target s.2 n.under)) (part_first x n.prefix k)
-
--- all of it that stays is within it
-pub edge_inside : (target : Target) (x : ℕ) (k : Bytes) (n : CellNode) → AllIn (outside target (x ∷ k) (cells_in (led (x ∷ []) n ∷ []))) (inside n)
-edge_inside target x k n =
-    let s = part n.prefix k in
-    subst (λ (zs : List Piece). AllIn zs (inside n)) (sym (outside_edge target x k n)) (staying_in target s.1 s.2 n.leaf n.under (outside target s.2 n.under) (outside_inner target s.2 n.under))
 
 -- where the rest goes past its prefix
 pub edge_past : (target : Target) (x : ℕ) (k rest : Bytes) (n : CellNode) → (part n.prefix k).1 ≡ [] → (part n.prefix k).2 ≡ rest → outside target (x ∷ k) (cells_in (led (x ∷ []) n ∷ [])) ≡ outside_node target rest n

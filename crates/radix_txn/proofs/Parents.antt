@@ -1,16 +1,13 @@
 -- Between a node of a shaped tree and the node above it lies no path.
-use Rattle.std.proofs.Common.{◌≡◌, ◌≢◌, ◌<◌, ◌⊎◌, inl, inr, ◌++◌, ◌∷◌, ◌∙◌, ℕ, true, [], length, sym, ap, subst, arith, append_assoc, length-append, refl}
-use Rattle.std.proofs.lemmas.List.{append-nil}
+use Rattle.std.proofs.Common.{◌≡◌, ◌≢◌, ◌<◌, inl, inr, ◌++◌, ◌∷◌, ◌∙◌, ℕ, true, [], length, sym, ap, arith, append_assoc, length-append}
 use Rattle.mdb_datum.specs.Bytes.{Bytes, is_prefix}
-use Rattle.radix_node.specs.Cells.{CellNode, CellNodes, no_cells, celled, CellTree, Place, places_of, plain_nodes, plain_of}
-use Rattle.radix_node.specs.Paths.{Has, paths_of_nodes}
+use Rattle.radix_node.specs.Cells.{CellNode, CellNodes, no_cells, celled, CellTree, plain_nodes, plain_of}
 use Rattle.radix_node.specs.Shape.{FirstBytes, IsShaped, HasShape}
 use Rattle.radix_node.proofs.NearPlaces.{prefix_rest}
-use Rattle.radix_node.proofs.Paths.{Has-left, Has-right}
 use Rattle.radix_node.proofs.Prefixes.{is_prefix_all, is_prefix_start}
 use Rattle.radix_node.proofs.NodesBelow.{Sits, first_of_sits, seated}
 use Rattle.radix_txn.specs.Kept.{IsParent}
-use Rattle.radix_txn.proofs.TreePlaces.{path_sits, place_sits}
+use Rattle.radix_txn.proofs.TreePlaces.{path_sits}
 
 -- the first byte of a node's path, which is that of an edge
 first_byte : (P : ℕ → Type 0) (path q : Bytes) (n : CellNode) (ns : CellNodes) → IsShaped path (plain_nodes ns) → FirstBytes P (plain_nodes ns) → Sits q n ns → (y : ℕ) × (k : Bytes) × (q ++ n.prefix ≡ y ∷ k) × P y
@@ -94,46 +91,3 @@ parent_above t s q n at parent w =
           ap (λ (z : Bytes). is_prefix z q) v.3
           ∙ none_between [] t.nodes s.nodes q n at v.0 v.1 v.2 (ap (λ (z : Bytes). is_prefix z (q ++ n.prefix)) (sym v.3) ∙ w.prefix) (λ e. w.other (v.3 ∙ e))
     ]
-
--- ---- each path but the empty one has a parent
-
-path_above : (path q : Bytes) (n : CellNode) (ns : CellNodes) → Sits q n ns → (q ≡ []) ⊎ Has (path ++ q) (paths_of_nodes path (plain_nodes ns))
-path_above path q n no_cells at = absurd at
-path_above path q n (celled cell prefix leaf under later) (inl w) = inl w.0
-path_above path q n (celled cell prefix leaf under later) (inr (inl w)) =
-    elim (path_above (path ++ prefix) w.0 n under w.2) [
-      | inl e ↦ inr (inl (ap (λ (z : Bytes). path ++ z) (w.1 ∙ ap (λ (z : Bytes). prefix ++ z) e ∙ append-nil prefix)))
-      | inr h ↦ inr (inr (Has-left (path ++ q) (paths_of_nodes (path ++ prefix) (plain_nodes under)) (paths_of_nodes path (plain_nodes later))
-          (subst (λ (z : Bytes). Has z (paths_of_nodes (path ++ prefix) (plain_nodes under))) (append_assoc path prefix w.0 ∙ ap (λ (z : Bytes). path ++ z) (sym w.1)) h)))
-    ]
-path_above path q n (celled cell prefix leaf under later) (inr (inr v)) =
-    elim (path_above path q n later v) [
-      | inl e ↦ inl e
-      | inr h ↦ inr (inr (Has-right (path ++ q) (paths_of_nodes (path ++ prefix) (plain_nodes under)) (paths_of_nodes path (plain_nodes later)) h))
-    ]
-
-not_longer : (q p k : Bytes) (b : ℕ) → p ≡ b ∷ k → q ≢ q ++ p
-not_longer q p k b more e =
-    let whole = ap length e in
-    let parts = length-append q p in
-    let some = ap length more in
-    absurd (omega (arith, whole, parts, some))
-
-pub has_parent : (t : CellTree) → HasShape (plain_of t) → (p : Place) → Has p (places_of t) → (q : Bytes) × IsParent q p.path t
-has_parent t s p h =
-    let w = place_sits [] p t.nodes h in
-    let q = w.0 in
-    let n = w.1 in
-    let first = (seated [] q n t.nodes s.nodes w.2).first in
-    let parent : IsParent q (q ++ n.prefix) t = record {
-      there = elim (path_above [] q n t.nodes w.2) [ inl e ↦ inl e | inr i ↦ inr i ];
-      prefix = is_prefix_all q q n.prefix (q ++ n.prefix) refl refl;
-      other = not_longer q n.prefix first.1 first.0 first.2;
-      longest = λ r in_it pre ne. elim in_it [
-        | inl e ↦ ap (λ (z : Bytes). is_prefix z q) e
-        | inr i ↦
-            let v = path_sits [] r t.nodes i in
-            ap (λ (z : Bytes). is_prefix z q) v.3 ∙ none_between [] t.nodes s.nodes q n w.2 v.0 v.1 v.2 (ap (λ (z : Bytes). is_prefix z (q ++ n.prefix)) (sym v.3) ∙ pre) (λ e. ne (v.3 ∙ e))
-      ];
-    } in
-    (q, subst (λ (z : Place). IsParent q z.path t) (sym w.3) parent)

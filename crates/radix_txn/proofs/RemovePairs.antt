@@ -11,7 +11,6 @@ use Rattle.radix_node.proofs.Filters.{kept}
 use Rattle.radix_node.proofs.KeyOrder.{goes_on_back}
 use Rattle.radix_node.proofs.KeysUnder.{Any, Past-end}
 use Rattle.radix_node.proofs.Lookup.{other_byte, apart_less}
-use Rattle.radix_node.proofs.PairLaws.{byte_order_itself}
 use Rattle.radix_node.proofs.PathFilter.{Sides, IsTest, when, walked, walked_at, walked_plain, kept_plain}
 use Rattle.radix_node.proofs.Prefixes.{is_prefix_all, is_prefix_other, is_prefix_short}
 use Rattle.radix_txn.specs.declared.target.Target.{Target}
@@ -19,6 +18,7 @@ use Rattle.radix_txn.specs.declared.target.Target.TheVariants.{Key, Prefix}
 use Rattle.radix_txn.specs.inner.Edits.{cut, ended, remove, remove_plain}
 use Rattle.radix_txn.specs.inner.Removal.{kept_pairs}
 use Rattle.radix_txn.proofs.Settle.{pairs_settled}
+use Rattle.mdb_datum.proofs.ByteOrder.{byte_order_itself}
 
 -- ---- the test of the keys that stay
 

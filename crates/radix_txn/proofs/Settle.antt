@@ -2,7 +2,7 @@
 use Rattle.std.proofs.Common.{◌≡◌, ◌<◌, ◌++◌, ◌∷◌, ◌∙◌, ℕ, List, [], Option, Some, None, refl, sym, subst, arith, append_assoc}
 use Rattle.mdb_datum.specs.Row.{Pair}
 use Rattle.radix_node.specs.Nodes.{Nodes, no_nodes, node, pairs_of_leaf, pairs_of_nodes}
-use Rattle.radix_node.specs.Shape.{FirstBytes, IsKeyed, IsBranching, IsShaped}
+use Rattle.radix_node.specs.Shape.{FirstBytes, IsKeyed, IsShaped}
 use Rattle.radix_txn.specs.inner.Edits.{settled}
 use Rattle.radix_txn.proofs.InsertPairs.{three}
 
@@ -12,13 +12,6 @@ pairs_settled prefix (Some pair) under later = refl
 pairs_settled prefix None no_nodes later = refl
 pairs_settled prefix None (node q leaf under no_nodes) later = sym (three (pairs_of_leaf leaf) (pairs_of_nodes under) (pairs_of_nodes later) ∙ refl)
 pairs_settled prefix None (node q leaf under (node r leaf_2 under_2 rest)) later = refl
-
--- a node with a leaf or two edges stays
-pub settled_same : (prefix : List ℕ) (leaf : Option Pair) (under later : Nodes) → IsBranching leaf under → settled prefix leaf under later ≡ node prefix leaf under later
-settled_same prefix (Some pair) under later h = refl
-settled_same prefix None no_nodes later h = absurd (omega arith)
-settled_same prefix None (node q leaf under no_nodes) later h = absurd (omega arith)
-settled_same prefix None (node q leaf under (node r leaf_2 under_2 rest)) later h = refl
 
 pub first_settled : (P : ℕ → Type 0) (b : ℕ) (p : List ℕ) (leaf : Option Pair) (under later : Nodes) → P b → FirstBytes P later → FirstBytes P (settled (b ∷ p) leaf under later)
 first_settled P b p (Some pair) under later h f = (h, f)

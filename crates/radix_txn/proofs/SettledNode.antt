@@ -1,15 +1,13 @@
 -- What is left of a node after a delete, and the edges of the node above.
-use Rattle.std.proofs.Common.{◌≡◌, ◌+◌, ◌^◌, ◌<◌, ◌≤◌, ◌++◌, ◌∷◌, ◌∙◌, ℕ, true, false, List, [], length, take, drop, Option, Some, None, is_some, option_map, option_to_list, refl, sym, ap, arith, Fits, w64}
+use Rattle.std.proofs.Common.{◌≡◌, ◌+◌, ◌^◌, ◌<◌, ◌≤◌, ◌++◌, ◌∷◌, ◌∙◌, ℕ, true, false, List, [], length, Option, Some, None, is_some, option_map, refl, sym, ap, arith, Fits, w64}
 use Rattle.std.proofs.lemmas.List.{length-map}
 use Rattle.std.specs.List.{slice_get}
 use Rattle.mdb_datum.specs.Row.{Pair}
-use Rattle.radix_node.specs.Nodes.{Nodes, no_nodes, node}
-use Rattle.radix_node.specs.Node.{PlainNode, nodes_in, edges_of, edge_node, node_of}
+use Rattle.radix_node.specs.Nodes.{Nodes}
+use Rattle.radix_node.specs.Node.{PlainNode, nodes_in, edges_of, edge_node}
 use Rattle.radix_node.specs.inner.Siblings.{nodes_list}
 use Rattle.radix_node.specs.declared.edges.Edges.{Edges, out-Edges}
-use Rattle.radix_node.specs.declared.node_ref.NodeRef.{NodeRef}
 use Rattle.radix_node.proofs.Levels.{nodes_list_in, edges_out}
-use Rattle.radix_node.proofs.LookupSteps.{led}
 use Rattle.radix_txn.specs.inner.Below.{settled_node}
 
 pub settled_leaf : (prefix : List ℕ) (leaf : Option Pair) (under : Nodes) → is_some leaf ≡ true → settled_node prefix leaf under ≡ Some (record { prefix = prefix; leaf = leaf; under = under })
@@ -21,10 +19,6 @@ settled_wide prefix (Some pair) es h = refl
 settled_wide prefix None [] h = absurd (omega arith)
 settled_wide prefix None (e ∷ []) h = absurd (omega arith)
 settled_wide prefix None (e ∷ f ∷ es) h = refl
-
-pub settled_bare : (prefix : List ℕ) (leaf : Option Pair) (under : Nodes) → is_some leaf ≡ false → settled_node prefix leaf under ≡ settled_node prefix None under
-settled_bare prefix None under e = refl
-settled_bare prefix (Some pair) under e = cc
 
 pub merged_one : (prefix : List ℕ) (es : List PlainNode) (n : PlainNode) → length es ≤ 1 → Some n ≡ slice_get es 0 → settled_node prefix None (nodes_in es) ≡ Some (record { prefix = prefix ++ n.prefix; leaf = n.leaf; under = n.under })
 merged_one prefix [] n le e = cc
@@ -51,32 +45,6 @@ next_fits at e under is lt = omega (arith, edges_short e, ap length (list_of (ed
 
 pub within : (at : ℕ) (e : Edges) (under : Nodes) → nodes_in (edges_of e) ≡ under → at < length (nodes_list under) → at + 1 ≤ length (edges_of e)
 within at e under is lt = omega (arith, ap length (list_of (edges_of e) under is))
-
--- the edges around a place, with the node that a child is settled to, or with none, between them
-pub spliced_one : (at : ℕ) (es : List PlainNode) (under : Nodes) (x : ℕ) (p q : List ℕ) (leaf : Option Pair) (nodes : Nodes) (child : Option NodeRef) (r : NodeRef) (m : PlainNode) → nodes_in es ≡ under → option_map node_of child ≡ settled_node p leaf nodes → child ≡ Some r → p ≡ q → m ≡ led x (node_of r) → take at es ++ m ∷ drop (at + 1) es ≡ take at (nodes_list under) ++ (option_to_list (settled_node (x ∷ q) leaf nodes) ++ drop (at + 1) (nodes_list under))
-spliced_one at es under x p q leaf nodes child r m is told some same put =
-    let known : settled_node (x ∷ q) leaf nodes ≡ Some m =
-    ap (λ (z : List ℕ). settled_node (x ∷ z) leaf nodes) (sym same) ∙ settled_led x p leaf nodes
-    ∙ ap (option_map (led x)) (sym told ∙ ap (option_map node_of) some) ∙ ap Some (sym put) in
-    ap (λ (z : List PlainNode). take at z ++ m ∷ drop (at + 1) z) (list_of es under is)
-    ∙ ap (λ (z : Option PlainNode). take at (nodes_list under) ++ (option_to_list z ++ drop (at + 1) (nodes_list under))) (sym known)
-  where
-    settled_led : (x : ℕ) (p : List ℕ) (leaf : Option Pair) (nodes : Nodes) → settled_node (x ∷ p) leaf nodes ≡ option_map (led x) (settled_node p leaf nodes)
-    settled_led x p (Some pair) nodes = refl
-    settled_led x p None no_nodes = refl
-    settled_led x p None (node q leaf under no_nodes) = refl
-    settled_led x p None (node q leaf under (node r leaf_2 under_2 rest)) = refl
-
-pub spliced_none : (at : ℕ) (under : Nodes) (x : ℕ) (p q : List ℕ) (leaf : Option Pair) (nodes : Nodes) (child : Option NodeRef) → option_map node_of child ≡ settled_node p leaf nodes → child ≡ None → p ≡ q → take at (nodes_list under) ++ drop (at + 1) (nodes_list under) ≡ take at (nodes_list under) ++ (option_to_list (settled_node (x ∷ q) leaf nodes) ++ drop (at + 1) (nodes_list under))
-spliced_none at under x p q leaf nodes child told none same =
-    let known : settled_node p leaf nodes ≡ None = sym told ∙ ap (option_map node_of) none in
-    ap (λ (z : Option PlainNode). take at (nodes_list under) ++ (option_to_list z ++ drop (at + 1) (nodes_list under))) (sym (ap (λ (z : List ℕ). settled_node (x ∷ z) leaf nodes) (sym same) ∙ bare x p leaf nodes known))
-  where
-    bare : (x : ℕ) (p : List ℕ) (leaf : Option Pair) (nodes : Nodes) → settled_node p leaf nodes ≡ None → settled_node (x ∷ p) leaf nodes ≡ None
-    bare x p (Some pair) nodes e = cc
-    bare x p None no_nodes e = refl
-    bare x p None (node q leaf under no_nodes) e = cc
-    bare x p None (node q leaf under (node r leaf_2 under_2 rest)) e = cc
 
 pub some_map : {A B : Type 0} (f : A → B) (o : Option A) → true ≡ is_some o → is_some (option_map f o) ≡ true
 some_map f None e = cc

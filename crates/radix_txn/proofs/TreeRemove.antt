@@ -7,13 +7,13 @@ use Rattle.radix_node.specs.Nodes.{Plain, pairs_of}
 use Rattle.radix_node.specs.Pairs.{IsRising, find}
 use Rattle.radix_node.specs.Shape.{HasShape}
 use Rattle.radix_node.specs.inner.Seek.{seek_plain}
-use Rattle.radix_node.proofs.PairLaws.{byte_order_total, T_from_true}
 use Rattle.radix_node.proofs.WholeTree.{rising_plain, find_plain}
 use Rattle.radix_txn.specs.declared.target.Target.{Target}
 use Rattle.radix_txn.specs.declared.target.Target.TheVariants.{Key, Prefix}
 use Rattle.radix_txn.specs.inner.Removal.{IsAbsent, IsMissing, IsRemoval, IsTaken, IsThere, LosesPairs, kept_pairs, old_row, row_of}
 use Rattle.radix_txn.proofs.RemovePairs.{kept_remove}
 use Rattle.radix_txn.proofs.RemoveShape.{shape_remove}
+use Rattle.mdb_datum.proofs.ByteOrder.{byte_order_total, T_from_true}
 
 counted_there : (b : Bool) (m n : ℕ) → cond {A = ℕ} b 1 0 + m ≡ n → m < n → b ≡ true
 counted_there true m n all less = refl

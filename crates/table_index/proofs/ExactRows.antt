@@ -11,7 +11,8 @@ use Rattle.mdb_datum.specs.Row.{Fields, Pair}
 use Rattle.mdb_schema.specs.Answer.{picked}
 use Rattle.mdb_schema.proofs.Membership.{same_key}
 use Rattle.radix_node.specs.Pairs.{IsRising, find}
-use Rattle.radix_node.proofs.PairLaws.{below_rest, rising_rest, less_from_is_lt}
+use Rattle.radix_node.proofs.PairLaws.{below_rest, rising_rest}
+use Rattle.mdb_datum.proofs.ByteOrder.{less_from_is_lt}
 
 none_below : (key : Bytes) (es : List Pair) → entries.below_all byte_order key es ≡ true → find key es ≡ None
 none_below key [] h = refl

@@ -4,7 +4,7 @@ use Rattle.std.proofs.lemmas.Bool.Decides.{nat_tests}
 use Rattle.mdb_encode.specs.Answers.{AnswersKeys, key_error}
 use Rattle.mdb_encode.specs.Bytes.{Bytes}
 use Rattle.mdb_encode.specs.KeyRefusal.{KeyRefusal, wrong_kind, out_of_range, bad_uuid, too_many, too_long}
-use Rattle.mdb_encode.specs.Keys.{Keyed, keys}
+use Rattle.mdb_encode.specs.Keys.{Keyed}
 use Rattle.mdb_encode.specs.declared.error.KeyError.{KeyError}
 use Rattle.mdb_schema.specs.Refusals.{write_error}
 use Rattle.mdb_schema.specs.Tests.{each}

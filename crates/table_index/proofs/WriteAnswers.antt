@@ -53,7 +53,7 @@ module _ (next : ℕ) (e : WriteError) (old new : TableChange) where
   remove_error (Err why) a = a
 
 -- no refusal is want of memory
-told_memory : (why : WriteRefusal) → is_memory (write_error why) ≡ false
+pub told_memory : (why : WriteRefusal) → is_memory (write_error why) ≡ false
 told_memory unknown_table = refl
 told_memory no_id = refl
 told_memory (bad_key place wrong_kind) = refl

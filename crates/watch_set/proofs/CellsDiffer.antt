@@ -1,6 +1,6 @@
 -- The members of a set by their cells: a search through them, and that one more leaves them
 -- distinct.
-use Rattle.std.proofs.Common.{◌≡◌, ◌∙◌, ◌<◌, ◌++◌, ℕ, zero, suc, List, [], ◌∷◌, Bool, true, false, drop, get_or, length, refl, sym, ap, arith}
+use Rattle.std.proofs.Common.{◌≡◌, ◌∙◌, ◌++◌, ℕ, List, [], ◌∷◌, Bool, true, false, refl, ap, arith}
 use Rattle.std.specs.Prelude.{if◌then◌else◌, ◌&&◌, nat_eq}
 use Rattle.std.specs.Str.{bytes_eq}
 use Rattle.std.proofs.lemmas.Bool.Decides.{nat_tests}
@@ -8,16 +8,6 @@ use Rattle.mdb_schema.proofs.EntryEdits.{bytes_eq-turned}
 use Rattle.mem_txn.specs.Checked.{IsHeldBy}
 use Rattle.mem_txn.specs.Database.{Caller}
 use Rattle.watch_set.specs.Members.{AreDistinct, AreHeldBy, CellName, Member, cell_name, has_cell, names_eq, watches_of}
-
--- ---- a search through the members
-
--- the member at a place is the first of those from there on
-pub has_cell_from : (c : CellName) (ms : List Member) (k : ℕ) (m : Member) → k < length ms → m ≡ get_or ms k m
-    → has_cell c (drop k ms) ≡ (if names_eq (cell_name m.held) c then true else has_cell c (drop (suc k) ms))
-has_cell_from c [] k m within there = absurd (omega arith)
-has_cell_from c (x ∷ xs) zero m within there =
-    ap (λ (y : Member). if names_eq (cell_name y.held) c then true else has_cell c xs) (sym there)
-has_cell_from c (x ∷ xs) (suc k) m within there = has_cell_from c xs k m (omega arith) there
 
 -- ---- names of cells, the other way round
 

@@ -17,7 +17,7 @@ use Rattle.watch_set.specs.GuardedLooks.{AreGuarded, IsGuardedBy, QuietIsGuarded
 
 -- ---- a longer history
 
-item-there : {X : Type 0} (xs more : List X) (n : ℕ) → n < length xs → slice_get (xs ++ more) n ≡ slice_get xs n
+pub item-there : {X : Type 0} (xs more : List X) (n : ℕ) → n < length xs → slice_get (xs ++ more) n ≡ slice_get xs n
 item-there [] more n within = absurd (omega arith)
 item-there (x ∷ xs) more zero within = refl
 item-there (x ∷ xs) more (suc n) within = item-there xs more n (omega arith)
@@ -41,26 +41,34 @@ read-sooner xs ys zs rest p read e =
 -- ---- the caller at the end of a chain
 
 -- it has seen and read as much or more, and is the same caller
-record Follows (old new : Caller) : Type 0 where
-  seen : IsPrefix old.seen new.seen
-  counts : IsPrefix old.counts new.counts
-  schema : new.schema ≡ old.schema
-  number : new.number ≡ old.number
+pub record Follows (old new : Caller) : Type 0 where
+  pub seen : IsPrefix old.seen new.seen
+  pub counts : IsPrefix old.counts new.counts
+  pub schema : new.schema ≡ old.schema
+  pub number : new.number ≡ old.number
 
-follows-itself : (p : Caller) → Follows p p
+pub follows-itself : (p : Caller) → Follows p p
 follows-itself p = record { seen = ([], append-nil p.seen); counts = ([], append-nil p.counts); schema = refl; number = refl }
 
-follows-on : (old mid new : Caller) → HasSeen old mid → Follows mid new → Follows old new
+pub follows-seen : (old new : Caller) → HasSeen old new → Follows old new
+follows-seen old new seen = record {
+  seen = seen.seen;
+  counts = seen.counts;
+  schema = ap (λ (p : Caller). p.schema) seen.others;
+  number = ap (λ (p : Caller). p.number) seen.others;
+}
+
+pub follows-on : (old mid new : Caller) → Follows old mid → Follows mid new → Follows old new
 follows-on old mid new first then = record {
   seen = prefix_twice old.seen mid.seen new.seen first.seen then.seen;
   counts = prefix_twice old.counts mid.counts new.counts first.counts then.counts;
-  schema = then.schema ∙ ap (λ (p : Caller). p.schema) first.others;
-  number = then.number ∙ ap (λ (p : Caller). p.number) first.others;
+  schema = then.schema ∙ first.schema;
+  number = then.number ∙ first.number;
 }
 
-chain-follows : (old new : Caller) (hs : List HeldWatch) → AreQuiet old hs new → Follows old new
+pub chain-follows : (old new : Caller) (hs : List HeldWatch) → AreQuiet old hs new → Follows old new
 chain-follows old new [] same = subst (λ (p : Caller). Follows old p) (sym same) (follows-itself old)
-chain-follows old new (h ∷ hs) (next, at, told, rest) = follows-on old next new told.0 (chain-follows next new hs rest)
+chain-follows old new (h ∷ hs) (next, at, told, rest) = follows-on old next new (follows-seen old next told.0) (chain-follows next new hs rest)
 
 -- ---- what one check says, at the end of a chain
 

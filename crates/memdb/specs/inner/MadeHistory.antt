@@ -1,5 +1,5 @@
 -- What is known of a history that made clients leave, and that it then holds their rows.
-use Rattle.std.specs.Prelude.{◌≡◌, ◌+◌, ◌-◌, ℕ, List, [], ◌∷◌, Some, map, ⊤}
+use Rattle.std.specs.Prelude.{◌≡◌, ◌+◌, ℕ, List, [], ◌∷◌, Some, map, ⊤}
 use Rattle.mdb_schema.specs.History.{History}
 use Rattle.client_script.specs.Legal.{printed}
 use Rattle.client_script.specs.Reply.{Reply}

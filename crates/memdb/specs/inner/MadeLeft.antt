@@ -4,9 +4,8 @@ use Rattle.mdb_datum.specs.Row.{Fields}
 use Rattle.mdb_schema.specs.Answer.{ask}
 use Rattle.mdb_schema.specs.History.{History, state_at}
 use Rattle.mdb_schema.specs.declared.answer.Answer.TheVariants.{Many}
-use Rattle.mem_txn.specs.Database.{AreNamed}
-use Rattle.memdb.specs.Made.{Numbers, AreInRange, all_items, last_items, ages}
-use Rattle.memdb.specs.inner.MadeInputs.{made_schema, HasMadeItems, all_rows, ages_in}
+use Rattle.memdb.specs.Made.{Numbers, all_items, last_items, ages}
+use Rattle.memdb.specs.inner.MadeInputs.{made_schema, all_rows, ages_in}
 
 -- how many commits there are, the rows after them, how many these are, and the sum of their ages
 pub record AreLeft (n : Numbers) (H : History) : Type 0 where
@@ -15,9 +14,3 @@ pub record AreLeft (n : Numbers) (H : History) : Type 0 where
   pub answer : ask made_schema (state_at made_schema H (length H)) all_rows ≡ Ok (Many rows)
   pub count : length rows ≡ length (last_items (all_items n))
   pub sum : ages_in rows ≡ ages (last_items (all_items n))
-
--- ---- what is shown
-
--- in whatever order the clients' commits are made
-abbrev pub MadeRowsAreLeft : Type 0
-MadeRowsAreLeft = (n : Numbers) (H : History) → AreInRange n → AreNamed n.clients H → HasMadeItems n H → AreLeft n H

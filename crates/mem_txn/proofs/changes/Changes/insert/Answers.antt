@@ -10,9 +10,10 @@ use Rattle.mem_txn.specs.declared.txn_error.TxnWriteError.TheVariants.{Refused}
 use Rattle.mem_txn.specs.inner.ChangesView.{changes_view}
 use Rattle.mem_txn.specs.inner.VersionTables.{StandFor, is_memory}
 use Rattle.mem_txn.proofs.IdsCounted.{counted_more, counted_same}
-use Rattle.mem_txn.proofs.TablesFound.{stand_within, table_place_named, table_place_within}
+use Rattle.mem_txn.proofs.TablesFound.{stand_within, table_place_within}
 use Rattle.mem_txn.proofs.WritesAnswered.{joins_answer, joins_few, joins_later, joins_since, joins_stand, refuses_answer, refuses_same, refuses_since, refuses_stand}
 use Rattle.mem_txn.proofs.changes.Changes.insert.Goals as goal
+use Rattle.mdb_schema.proofs.Tables.{table_place-name}
 
 pub def_at-def-requires : goal.def_at-def-requires
 def_at-def-requires c =
@@ -30,7 +31,7 @@ invariant_of-self c =
     let t = c.self.inside in
     let name = c.args.table.now in
     let found : table_place name t.pass.caller.schema ≡ Some c.in-Some.place = cc in
-    let named = table_place_named name t.pass.caller.schema c.in-Some.place c.def_at-def.result.now found c.def_at-def.ensures.there in
+    let named = table_place-name name t.pass.caller.schema c.in-Some.place c.def_at-def.result.now found c.def_at-def.ensures.there in
     let joined : c.put_in.new.writes.items ≡ t.writes.items ++ put name c.args.row.now ∷ [] =
     c.in-Ok.ensures.1 ∙ ap (λ (n : Bytes). t.writes.items ++ put n c.args.row.now ∷ []) named in
     record {
@@ -51,7 +52,7 @@ invariant_of-self-in-Err c =
     let name = c.args.table.now in
     let w : Write = put name c.args.row.now in
     let found : table_place name t.pass.caller.schema ≡ Some c.in-Some.place = cc in
-    let named = table_place_named name t.pass.caller.schema c.in-Some.place c.def_at-def.result.now found c.def_at-def.ensures.there in
+    let named = table_place-name name t.pass.caller.schema c.in-Some.place c.def_at-def.result.now found c.def_at-def.ensures.there in
     let same : c.put_in.new.writes.items ≡ t.writes.items = c.in-Err.ensures.1 in
     record {
       few = c.self.invariant.few;
@@ -78,7 +79,7 @@ returns-in-Ok c =
     let name = c.args.table.now in
     let w : Write = put name c.args.row.now in
     let found : table_place name t.pass.caller.schema ≡ Some c.in-Some.place = cc in
-    let named = table_place_named name t.pass.caller.schema c.in-Some.place c.def_at-def.result.now found c.def_at-def.ensures.there in
+    let named = table_place-name name t.pass.caller.schema c.in-Some.place c.def_at-def.result.now found c.def_at-def.ensures.there in
     let joined : c.put_in.new.writes.items ≡ t.writes.items ++ w ∷ [] =
     c.in-Ok.ensures.1 ∙ ap (λ (n : Bytes). t.writes.items ++ put n c.args.row.now ∷ []) named in
     let new : Changes = record { caller = t.pass.caller; writes = c.put_in.new.writes.items; spoiled = t.spoiled } in

@@ -6,9 +6,10 @@ use Rattle.mem_txn.specs.Changes.{AnswersTxnWipe, Changes, present}
 use Rattle.mem_txn.specs.declared.txn_error.TxnWipeError.TheVariants.{Refused}
 use Rattle.mem_txn.specs.inner.ChangesView.{changes_view}
 use Rattle.mem_txn.specs.inner.Wipes.{JoinsGoneAt, is_memory, wipe_by, wiped_by}
-use Rattle.mem_txn.proofs.TablesFound.{schema_there, stand_within, table_place_named, table_place_within}
+use Rattle.mem_txn.proofs.TablesFound.{schema_there, stand_within, table_place_within}
 use Rattle.mem_txn.proofs.WipesAnswered.{refused_counted, refused_since, refused_stand, wipe_answer, wipe_counted, wipe_since, wipe_stand}
 use Rattle.mem_txn.proofs.changes.Changes.wipe.Goals as goal
+use Rattle.mdb_schema.proofs.Tables.{table_place-name}
 
 pub def_at-def-requires : goal.def_at-def-requires
 def_at-def-requires c =
@@ -26,7 +27,7 @@ invariant_of-self c =
     let t = c.self.inside in
     let q = c.args.query.now in
     let found : table_place q.table t.pass.caller.schema ≡ Some c.in-Some.place = cc in
-    let named = table_place_named q.table t.pass.caller.schema c.in-Some.place c.def_at-def.result.now found c.def_at-def.ensures.there in
+    let named = table_place-name q.table t.pass.caller.schema c.in-Some.place c.def_at-def.result.now found c.def_at-def.ensures.there in
     let stand = c.self.invariant.tables c.if-self.false in
     let at : JoinsGoneAt (λ u. wiped_by c.args.wipe u.schema u.rows q) c.in-Some.place q.table (Ok c.in-Ok.count) t.tables c.wipe_in.new.tables t.writes.items c.wipe_in.new.writes.items =
     subst (λ (n : Bytes). JoinsGoneAt (λ u. wiped_by c.args.wipe u.schema u.rows q) c.in-Some.place n (Ok c.in-Ok.count) t.tables c.wipe_in.new.tables t.writes.items c.wipe_in.new.writes.items) named c.in-Ok.ensures in
@@ -48,7 +49,7 @@ invariant_of-self-in-Err c =
     let t = c.self.inside in
     let q = c.args.query.now in
     let found : table_place q.table t.pass.caller.schema ≡ Some c.in-Some.place = cc in
-    let named = table_place_named q.table t.pass.caller.schema c.in-Some.place c.def_at-def.result.now found c.def_at-def.ensures.there in
+    let named = table_place-name q.table t.pass.caller.schema c.in-Some.place c.def_at-def.result.now found c.def_at-def.ensures.there in
     let at : JoinsGoneAt (λ u. wiped_by c.args.wipe u.schema u.rows q) c.in-Some.place q.table (Err c.in-Err.error) t.tables c.wipe_in.new.tables t.writes.items c.wipe_in.new.writes.items =
     subst (λ (n : Bytes). JoinsGoneAt (λ u. wiped_by c.args.wipe u.schema u.rows q) c.in-Some.place n (Err c.in-Err.error) t.tables c.wipe_in.new.tables t.writes.items c.wipe_in.new.writes.items) named c.in-Err.ensures in
     record {
@@ -72,7 +73,7 @@ returns-in-Ok c =
     let t = c.self.inside in
     let q = c.args.query.now in
     let found : table_place q.table t.pass.caller.schema ≡ Some c.in-Some.place = cc in
-    let named = table_place_named q.table t.pass.caller.schema c.in-Some.place c.def_at-def.result.now found c.def_at-def.ensures.there in
+    let named = table_place-name q.table t.pass.caller.schema c.in-Some.place c.def_at-def.result.now found c.def_at-def.ensures.there in
     let at : JoinsGoneAt (λ u. wiped_by c.args.wipe u.schema u.rows q) c.in-Some.place q.table (Ok c.in-Ok.count) t.tables c.wipe_in.new.tables t.writes.items c.wipe_in.new.writes.items =
     subst (λ (n : Bytes). JoinsGoneAt (λ u. wiped_by c.args.wipe u.schema u.rows q) c.in-Some.place n (Ok c.in-Ok.count) t.tables c.wipe_in.new.tables t.writes.items c.wipe_in.new.writes.items) named c.in-Ok.ensures in
     let new : Changes = record { caller = t.pass.caller; writes = c.wipe_in.new.writes.items; spoiled = t.spoiled } in
@@ -85,7 +86,7 @@ returns-in-Err c =
     let q = c.args.query.now in
     let e = c.in-Err.error in
     let found : table_place q.table t.pass.caller.schema ≡ Some c.in-Some.place = cc in
-    let named = table_place_named q.table t.pass.caller.schema c.in-Some.place c.def_at-def.result.now found c.def_at-def.ensures.there in
+    let named = table_place-name q.table t.pass.caller.schema c.in-Some.place c.def_at-def.result.now found c.def_at-def.ensures.there in
     let at : JoinsGoneAt (λ u. wiped_by c.args.wipe u.schema u.rows q) c.in-Some.place q.table (Err e) t.tables c.wipe_in.new.tables t.writes.items c.wipe_in.new.writes.items =
     subst (λ (n : Bytes). JoinsGoneAt (λ u. wiped_by c.args.wipe u.schema u.rows q) c.in-Some.place n (Err e) t.tables c.wipe_in.new.tables t.writes.items c.wipe_in.new.writes.items) named c.in-Err.ensures in
     let new : Changes = record { caller = t.pass.caller; writes = c.wipe_in.new.writes.items; spoiled = c.is_memory-self-inside.result } in
