@@ -8,7 +8,7 @@ ghost use Rattle.watch_set.specs.Checks.{KeepsHeld};
 ghost use Rattle.watch_set.specs.Members.{AreHeldBy, watches_of};
 
 use crate::{WatchSet, Woken};
-use mdb_datum::{Datum, Row, Text, read_doc};
+use mdb_datum::{Datum, Items, Row, Text, read_doc};
 use mdb_schema::{Ask, Query, Schema, read_schema};
 use mem_txn::pass_laws::asked_watches_are_held;
 use mem_txn::{BeginRefused, CommitRefused, Committed, Db, Held, Pass, Passes, ReadTxn, WriteTxn};
@@ -30,6 +30,10 @@ const WITH_B: Asked = (Ask::Get, ("users", "id_prefix"), r#"["b"]"#);
 
 const NOTES: Asked = (Ask::Get, ("notes", "id"), "[]");
 
+/// Whether a step did what it should. A text that can't be read counts as want of memory, which ends
+/// a test.
+type Told = Result<bool, AllocError>;
+
 /// A row of a table.
 type Line = (&'static str, &'static str);
 
@@ -39,16 +43,11 @@ const INSERT_BOB: Line = ("users", r#"{"name":"bob","age":2}"#);
 
 const INSERT_NOTE: Line = ("notes", r#"{"name":"n"}"#);
 
-/// A call that found no memory, or another error.
-fn failed<T>() -> Result<T, Fail> {
-    Err(Fail::from("no memory"))
-}
-
 /// The schema that a text is.
-fn schema_of(alloc: Global) -> Result<Schema, Fail> {
+fn schema_of(alloc: Global) -> Result<Schema, AllocError> {
     match read_schema(alloc, SCHEMA.as_bytes()) {
         Ok(schema) => Ok(schema),
-        Err(_) => failed(),
+        Err(_) => Err(AllocError),
     }
 }
 
@@ -60,18 +59,23 @@ fn row_of(alloc: Global, text: &str) -> Result<Row, AllocError> {
     }
 }
 
-/// A question of the table.
-fn query_of(alloc: Global, asked: &Asked) -> Result<Query, Fail> {
-    let Datum::Items(args) = read_doc(alloc, asked.2.as_bytes())? else {
-        return failed();
-    };
+/// The question with these arguments.
+fn query_with(alloc: Global, asked: &Asked, args: Items) -> Result<Query, AllocError> {
     let table = Text::of(alloc, asked.1.0)?;
     let index = Text::of(alloc, asked.1.1)?;
-    Ok(Query::from_parts(alloc, asked.0, table, index, args)?)
+    Query::from_parts(alloc, asked.0, table, index, args)
+}
+
+/// A question of the table.
+fn query_of(alloc: Global, asked: &Asked) -> Result<Query, AllocError> {
+    match read_doc(alloc, asked.2.as_bytes()) {
+        Ok(Datum::Items(args)) => query_with(alloc, asked, args),
+        _ => Err(AllocError),
+    }
 }
 
 /// A database of two callers, the list of its passes without them, and they.
-fn pair(alloc: Global) -> Result<(Db, Passes, Pass, Pass), Fail>
+fn pair(alloc: Global) -> Result<(Db, Passes, Pass, Pass), AllocError>
     ensures one { IfOk result (λ made. IsCaller made.0 1 made.2) }
     ensures two { IfOk result (λ made. IsCaller made.0 2 made.3) }
     ensures both { IfOk result (λ made. made.0.callers ≡ 2) }
@@ -107,6 +111,17 @@ fn insert_row(alloc: Global, txn: &mut WriteTxn<u8>, line: &Line) -> Result<(), 
     }
 }
 
+/// Commits a transaction of the second caller.
+fn committed<R: Wait>(rt: &R, db: &Db, txn: WriteTxn<u8>) -> (Pass, Result<(), AllocError>)
+    requires own { IsCaller db.now 2 (changes_of txn).caller }
+    ensures { IsCaller db.now 2 result.0 }
+{
+    match txn.commit(rt, db) {
+        Ok(Committed { pass, receipt: _ }) => (pass, Ok(())),
+        Err(CommitRefused { pass, cause: _ }) => (pass, Err(AllocError)),
+    }
+}
+
 /// Makes the insert of a row a commit of the second caller.
 fn insert<R: Wait>(
     rt: &R,
@@ -122,41 +137,71 @@ fn insert<R: Wait>(
         Ok(txn) => txn,
         Err(BeginRefused { pass, cause: _ }) => return (pass, Err(AllocError)),
     };
-    let done = insert_row(alloc, &mut txn, line);
-    if done.is_err() {
-        return (txn.abort(db), done);
-    }
-    match txn.commit(rt, db) {
-        Ok(Committed { pass, receipt: _ }) => (pass, Ok(())),
-        Err(CommitRefused { pass, cause: _ }) => (pass, Err(AllocError)),
+    match insert_row(alloc, &mut txn, line) {
+        Ok(()) => committed(rt, db, txn),
+        Err(AllocError) => (txn.abort(db), Err(AllocError)),
     }
 }
 
 /// The watch of a question in the state that a caller has read.
-fn watch_of(alloc: Global, pass: &Pass, read: &ReadTxn, asked: &Asked) -> Result<Held, Fail>
+fn watch_of(alloc: Global, pass: &Pass, read: &ReadTxn, asked: &Asked) -> Result<Held, AllocError>
     requires { read.now ≡ reading_of pass.now }
     ensures { IfOk result (λ h. IsHeldBy pass.now h) }
 {
     asked_watches_are_held(pass);
     let query = query_of(alloc, asked)?;
-    let (_, held) = read.ask_watch(&query)?;
-    Ok(held)
+    match read.ask_watch(&query) {
+        Ok((_, held)) => Ok(held),
+        Err(_) => Err(AllocError),
+    }
+}
+
+/// Adds two watches with a limit of one member, and tells whether the first alone is added.
+fn add_within_one(
+    set: &mut WatchSet,
+    first: &Text,
+    ann: &Held,
+    second: &Text,
+    with_b: &Held,
+) -> Told
+    ensures { (p : Caller) → AreHeldBy p (watches_of set.old) → IsHeldBy p ann.now
+        → IsHeldBy p with_b.now → AreHeldBy p (watches_of set.new) }
+{
+    let one = set.add_with_limit(1, first, ann, second, with_b)?;
+    let none = set.add_with_limit(1, second, with_b, first, ann)?;
+    Ok(one && !none && set.len() == 1)
+}
+
+/// Adds them without a limit then, and tells whether the second alone is added.
+fn add_both(set: &mut WatchSet, first: &Text, ann: &Held, second: &Text, with_b: &Held) -> Told
+    ensures { (p : Caller) → AreHeldBy p (watches_of set.old) → IsHeldBy p ann.now
+        → IsHeldBy p with_b.now → AreHeldBy p (watches_of set.new) }
+{
+    let again = set.add(first, ann)?;
+    let two = set.add(second, with_b)?;
+    Ok(!again && two && set.len() == 2)
 }
 
 /// Adds the watches of `s` and tells whether each call answers as it should: the first cell is
 /// added once, and the other while there is room or without a limit.
-fn are_added(alloc: Global, set: &mut WatchSet, ann: &Held, with_b: &Held) -> Result<bool, Fail>
+fn add_in_turn(set: &mut WatchSet, first: &Text, ann: &Held, second: &Text, with_b: &Held) -> Told
+    ensures { (p : Caller) → AreHeldBy p (watches_of set.old) → IsHeldBy p ann.now
+        → IsHeldBy p with_b.now → AreHeldBy p (watches_of set.new) }
+{
+    match add_within_one(set, first, ann, second, with_b) {
+        Ok(true) => add_both(set, first, ann, second, with_b),
+        other => other,
+    }
+}
+
+/// The same under the names `a` and `b`.
+fn are_added(alloc: Global, set: &mut WatchSet, ann: &Held, with_b: &Held) -> Told
     ensures { (p : Caller) → AreHeldBy p (watches_of set.old) → IsHeldBy p ann.now
         → IsHeldBy p with_b.now → AreHeldBy p (watches_of set.new) }
 {
     let first = Text::of(alloc, "a")?;
     let second = Text::of(alloc, "b")?;
-    let one = set.add_with_limit(1, &first, ann, &second, with_b)?;
-    let none = set.add_with_limit(1, &second, with_b, &first, ann)?;
-    let size = set.len();
-    let again = set.add(&first, ann)?;
-    let two = set.add(&second, with_b)?;
-    Ok(one && !none && size == 1 && !again && two && set.len() == 2)
+    add_in_turn(set, &first, ann, &second, with_b)
 }
 
 /// Whether the member at a place has this name.
@@ -175,8 +220,8 @@ struct Watched {
     notes: Held,
 }
 
-/// The set `s`.
-fn set_of_two(alloc: Global, ann: &Held, with_b: &Held) -> Result<WatchSet, Fail>
+/// The set `s`. Another one ends the test too.
+fn set_of_two(alloc: Global, ann: &Held, with_b: &Held) -> Result<WatchSet, AllocError>
     ensures { IfOk result (λ s. (p : Caller) → IsHeldBy p ann.now → IsHeldBy p with_b.now
         → AreHeldBy p (watches_of s)) }
 {
@@ -185,12 +230,12 @@ fn set_of_two(alloc: Global, ann: &Held, with_b: &Held) -> Result<WatchSet, Fail
     if right && is_named(&s, 0, "a") && is_named(&s, 1, "b") && s.name(2).is_none() {
         Ok(s)
     } else {
-        Err(Fail::from("another set"))
+        Err(AllocError)
     }
 }
 
 /// The set `t`.
-fn set_of_one(alloc: Global, ann: &Held) -> Result<WatchSet, Fail>
+fn set_of_one(alloc: Global, ann: &Held) -> Result<WatchSet, AllocError>
     ensures { IfOk result (λ t. (p : Caller) → IsHeldBy p ann.now → AreHeldBy p (watches_of t)) }
 {
     let mut t = WatchSet::new(alloc);
@@ -198,31 +243,77 @@ fn set_of_one(alloc: Global, ann: &Held) -> Result<WatchSet, Fail>
     Ok(t)
 }
 
+/// Both sets.
+fn sets_of(alloc: Global, ann: &Held, with_b: &Held) -> Result<(WatchSet, WatchSet), AllocError>
+    ensures s { IfOk result (λ sets. (p : Caller) → IsHeldBy p ann.now → IsHeldBy p with_b.now
+        → AreHeldBy p (watches_of sets.0)) }
+    ensures t { IfOk result (λ sets. (p : Caller) → IsHeldBy p ann.now
+        → AreHeldBy p (watches_of sets.1)) }
+{
+    let s = set_of_two(alloc, ann, with_b)?;
+    match set_of_one(alloc, ann) {
+        Ok(t) => Ok((s, t)),
+        Err(AllocError) => Err(AllocError),
+    }
+}
+
+/// Both sets, where the first watch is there.
+fn sets_beside(
+    alloc: Global,
+    pass: &Pass,
+    read: &ReadTxn,
+    ann: &Held,
+) -> Result<(WatchSet, WatchSet), AllocError>
+    requires read { read.now ≡ reading_of pass.now }
+    requires held { IsHeldBy pass.now ann.now }
+    ensures s { IfOk result (λ sets. AreHeldBy pass.now (watches_of sets.0)) }
+    ensures t { IfOk result (λ sets. AreHeldBy pass.now (watches_of sets.1)) }
+{
+    let with_b = watch_of(alloc, pass, read, &WITH_B)?;
+    sets_of(alloc, ann, &with_b)
+}
+
+/// Both sets in the state that a caller has read.
+fn sets_in(alloc: Global, pass: &Pass, read: &ReadTxn) -> Result<(WatchSet, WatchSet), AllocError>
+    requires { read.now ≡ reading_of pass.now }
+    ensures s { IfOk result (λ sets. AreHeldBy pass.now (watches_of sets.0)) }
+    ensures t { IfOk result (λ sets. AreHeldBy pass.now (watches_of sets.1)) }
+{
+    let ann = watch_of(alloc, pass, read, &ANN)?;
+    sets_beside(alloc, pass, read, &ann)
+}
+
 /// What a caller watches in the state that it has read.
-fn all_watched(alloc: Global, pass: &Pass, read: &ReadTxn) -> Result<Watched, Fail>
+fn all_watched(alloc: Global, pass: &Pass, read: &ReadTxn) -> Result<Watched, AllocError>
     requires { read.now ≡ reading_of pass.now }
     ensures s { IfOk result (λ w. AreHeldBy pass.now (watches_of w.s)) }
     ensures t { IfOk result (λ w. AreHeldBy pass.now (watches_of w.t)) }
     ensures notes { IfOk result (λ w. IsHeldBy pass.now w.notes) }
 {
-    let ann = watch_of(alloc, pass, read, &ANN)?;
-    let with_b = watch_of(alloc, pass, read, &WITH_B)?;
-    let notes = watch_of(alloc, pass, read, &NOTES)?;
-    let s = set_of_two(alloc, &ann, &with_b)?;
-    let t = set_of_one(alloc, &ann)?;
-    Ok(Watched { s, t, notes })
+    let (s, t) = sets_in(alloc, pass, read)?;
+    match watch_of(alloc, pass, read, &NOTES) {
+        Ok(notes) => Ok(Watched { s, t, notes }),
+        Err(AllocError) => Err(AllocError),
+    }
 }
 
 /// The same in the state after all commits.
-fn watched_now<R: Wait>(rt: &R, alloc: Global, db: &Db, pass: &mut Pass) -> Result<Watched, Fail>
+fn watched_now<R: Wait>(
+    rt: &R,
+    alloc: Global,
+    db: &Db,
+    pass: &mut Pass,
+) -> Result<Watched, AllocError>
     requires own { IsCaller db.now 1 pass.old }
     ensures own { IsCaller db.now 1 pass.new }
     ensures s { IfOk result (λ w. AreHeldBy pass.new (watches_of w.s)) }
     ensures t { IfOk result (λ w. AreHeldBy pass.new (watches_of w.t)) }
     ensures notes { IfOk result (λ w. IsHeldBy pass.new w.notes) }
 {
-    let read = db.read(rt, pass)?;
-    all_watched(alloc, pass, &read)
+    match db.read(rt, pass) {
+        Ok(read) => all_watched(alloc, pass, &read),
+        Err(_) => Err(AllocError),
+    }
 }
 
 const FIRED: Woken = Woken::Fired { place: 1, at: 2 };
@@ -254,7 +345,7 @@ fn found_of_s<R: Wait>(
     one: &mut Pass,
     two: Pass,
     set: &WatchSet,
-) -> (Pass, Result<bool, Fail>)
+) -> (Pass, Told)
     requires one { IsCaller db.now 1 one.old }
     requires two { IsCaller db.now 2 two }
     requires held { AreHeldBy one.old (watches_of set.now) }
@@ -264,18 +355,20 @@ fn found_of_s<R: Wait>(
 {
     let before = set.look_once(rt, db, one, None);
     let (two, bob) = insert(rt, alloc, db, two, &INSERT_BOB);
-    if bob.is_err() {
-        return (two, failed());
+    match bob {
+        Ok(()) => {
+            let after = look_and_wait(rt, db, one, set);
+            (two, is_found(before, after))
+        }
+        Err(AllocError) => (two, Err(AllocError)),
     }
-    let after = look_and_wait(rt, db, one, set);
-    (two, is_found(before, after))
 }
 
 /// Whether the first look finds nothing, and the others the second member.
 fn is_found(
     before: Result<Option<Woken>, AllocError>,
     after: Result<(Option<Woken>, Woken), AllocError>,
-) -> Result<bool, Fail> {
+) -> Told {
     Ok(before?.is_none() && after? == (Some(FIRED), FIRED))
 }
 
@@ -287,7 +380,7 @@ fn is_stopped<R: Wait>(
     one: &mut Pass,
     two: Pass,
     watched: &Watched,
-) -> (Pass, Result<bool, Fail>)
+) -> (Pass, Told)
     requires one { IsCaller db.now 1 one.old }
     requires two { IsCaller db.now 2 two }
     requires held { let set = watched.now.t in AreHeldBy one.old (watches_of set) }
@@ -297,47 +390,54 @@ fn is_stopped<R: Wait>(
 {
     let (two, note) = insert(rt, alloc, db, two, &INSERT_NOTE);
     if note.is_err() {
-        return (two, failed());
+        return (two, Err(AllocError));
     }
     match watched.t.look_once(rt, db, one, Some(&watched.notes)) {
         Ok(found) => (two, Ok(found == Some(Woken::Stopped { at: 3 }))),
-        Err(_) => (two, failed()),
+        Err(_) => (two, Err(AllocError)),
     }
 }
 
-/// Both, of what is watched after the first commit.
+/// Both, of what is watched.
 #[tactic(auto, using(crate::proofs::ChecksInTurn::all_kept))]
-fn are_found<R: Wait>(
+fn are_found_in<R: Wait>(
     rt: &R,
     alloc: Global,
     db: &Db,
     one: &mut Pass,
     two: Pass,
-) -> (Pass, Result<bool, Fail>)
+    watched: &Watched,
+) -> (Pass, Told)
+    requires one { IsCaller db.now 1 one.old }
+    requires two { IsCaller db.now 2 two }
+    requires s { let set = watched.now.s in AreHeldBy one.old (watches_of set) }
+    requires t { let set = watched.now.t in AreHeldBy one.old (watches_of set) }
+    requires notes { IsHeldBy one.old watched.now.notes }
+    ensures one { IsCaller db.now 1 one.new }
+    ensures two { IsCaller db.now 2 result.0 }
+{
+    let (two, first) = found_of_s(rt, alloc, db, one, two, &watched.s);
+    match first {
+        Ok(true) => is_stopped(rt, alloc, db, one, two, watched),
+        other => (two, other),
+    }
+}
+
+/// Both, of what is watched after the first commit.
+fn are_found<R: Wait>(rt: &R, alloc: Global, db: &Db, one: &mut Pass, two: Pass) -> (Pass, Told)
     requires one { IsCaller db.now 1 one.old }
     requires two { IsCaller db.now 2 two }
     ensures one { IsCaller db.now 1 one.new }
     ensures two { IsCaller db.now 2 result.0 }
 {
-    let watched = match watched_now(rt, alloc, db, one) {
-        Ok(watched) => watched,
-        Err(fail) => return (two, Err(fail)),
-    };
-    let (two, first) = found_of_s(rt, alloc, db, one, two, &watched.s);
-    match first {
-        Ok(true) => is_stopped(rt, alloc, db, one, two, &watched),
-        other => (two, other),
+    match watched_now(rt, alloc, db, one) {
+        Ok(watched) => are_found_in(rt, alloc, db, one, two, &watched),
+        Err(AllocError) => (two, Err(AllocError)),
     }
 }
 
 /// The same, behind the first commit.
-fn row_by_row<R: Wait>(
-    rt: &R,
-    alloc: Global,
-    db: &Db,
-    one: &mut Pass,
-    two: Pass,
-) -> (Pass, Result<bool, Fail>)
+fn row_by_row<R: Wait>(rt: &R, alloc: Global, db: &Db, one: &mut Pass, two: Pass) -> (Pass, Told)
     requires one { IsCaller db.now 1 one.old }
     requires two { IsCaller db.now 2 two }
     ensures one { IsCaller db.now 1 one.new }
@@ -346,12 +446,12 @@ fn row_by_row<R: Wait>(
     let (two, ann) = insert(rt, alloc, db, two, &INSERT_ANN);
     match ann {
         Ok(()) => are_found(rt, alloc, db, one, two),
-        Err(AllocError) => (two, failed()),
+        Err(AllocError) => (two, Err(AllocError)),
     }
 }
 
 /// The same in a new database.
-fn is_right<R: Wait>(rt: &R, alloc: Global) -> Result<bool, Fail> {
+fn is_right<R: Wait>(rt: &R, alloc: Global) -> Told {
     let (db, passes, mut one, two) = pair(alloc)?;
     let (two, told) = row_by_row(rt, alloc, &db, &mut one, two);
     drop(closed(rt, db, passes, one, two));
