@@ -61,12 +61,13 @@ fn is_told<R: Threads + Wait + Sync>(
 fn is_told_in_time<R: Threads + Wait + Sync>(
     rt: &R,
     alloc: Global,
-    gate: &HoldGate,
+    gate: HoldGate,
     files: &[File],
     told: &'static str,
 ) -> Result<bool, AllocError> {
-    let told = is_told(rt, alloc, gate, files, told);
+    let told = is_told(rt, alloc, &gate, files, told);
     let in_time = !gate.expired();
+    drop(gate);
     Ok(told? && in_time)
 }
 
@@ -74,7 +75,7 @@ fn is_told_in_time<R: Threads + Wait + Sync>(
 // midst.
 #[test]
 fn a_reader_and_a_writer_wait_for_each_other(rt: HostRuntime) -> Result<(), Fail> {
-    assert!(rt; is_told_in_time(&rt, rt.alloc(), &crossed(), FILES, TOLD)?);
+    assert!(rt; is_told_in_time(&rt, rt.alloc(), crossed(), FILES, TOLD)?);
     Ok(())
 }
 
@@ -119,6 +120,6 @@ fn watched_first() -> HoldGate {
 
 #[test]
 fn a_wait_ends_by_another_clients_commit(rt: HostRuntime) -> Result<(), Fail> {
-    assert!(rt; is_told_in_time(&rt, rt.alloc(), &watched_first(), WAITING, WOKEN)?);
+    assert!(rt; is_told_in_time(&rt, rt.alloc(), watched_first(), WAITING, WOKEN)?);
     Ok(())
 }
