@@ -1,5 +1,5 @@
 -- Lists that have a pass of each caller.
-use Rattle.std.proofs.Common.{◌≡◌, ℕ, zero, suc, List, [], ◌∷◌, ◌++◌, sym, ◌∙◌, subst, inl, inr, ⊎_elim, arith, Result, Ok, Err, IfOk}
+use Rattle.std.proofs.Common.{◌≡◌, ℕ, zero, suc, List, [], ◌∷◌, ◌++◌, sym, ◌∙◌, subst, inl, inr, ⊎_elim, arith, Result, Ok, Err, IfOk, Option, Some, None, IfSome}
 use mathlib.Core.Logic.{dite}
 use native.Mathlib.Decide.{dec_le}
 use Rattle.db_front.specs.Commits.{commits_by}
@@ -8,6 +8,10 @@ use Rattle.db_front.specs.Passes.{FrontId, Known, fresh, all_fresh, HasPass, Are
 pub if_so : {T E : Type 0} (r : Result T E) (P Q : T → Type 0) → ((t : T) → P t → Q t) → IfOk r P → IfOk r Q
 if_so (Ok t) P Q so p = so t p
 if_so (Err e) P Q so p = tt
+
+pub if_some_so : {T : Type 0} (r : Option T) (P Q : T → Type 0) → ((t : T) → P t → Q t) → IfSome r P → IfSome r Q
+if_some_so (Some t) P Q so p = so t p
+if_some_so None P Q so p = tt
 
 module _ {V : Type 0} where
   has_before : (c : ℕ) (ps qs : List (Known V)) → HasPass c ps → HasPass c (ps ++ qs)
@@ -33,6 +37,11 @@ module _ {V : Type 0} where
   all_pair n p q two first second c pos few = dite (dec_le c 1)
       (λ low. inl (omega (arith, first, low, pos)))
       (λ high. inr (inl (omega (arith, second, high, few, two))))
+
+  pub all_four : (n : ℕ) (p q r s : Known V) → n ≡ 4 → p.number ≡ 1 → q.number ≡ 2 → r.number ≡ 3 → s.number ≡ 4 → AreAll n (p ∷ q ∷ r ∷ s ∷ [])
+  all_four n p q r s four first second third fourth c pos few = dite (dec_le c 2)
+      (λ low. dite (dec_le c 1) (λ one. inl (omega (arith, first, one, pos))) (λ two. inr (inl (omega (arith, second, low, two)))))
+      (λ high. dite (dec_le c 3) (λ three. inr (inr (inl (omega (arith, third, high, three))))) (λ last. inr (inr (inr (inl (omega (arith, fourth, last, few, four)))))))
 
   has_made : (h : List (ℕ × V)) (ps : List (Known V)) (c : ℕ) → HasPass c ps → AreIn h ps → HasMade h ps c
   has_made h [] c has t = absurd has

@@ -4,9 +4,12 @@ pub mod AllPasses
 pub mod IdlePasses
 pub mod SeatNumbers
 pub mod Hands
+pub mod ShownTurns
 pub mod OtherSeats
 pub mod LoadSteps
 pub mod TurnSteps
 pub mod CommitSteps
 pub mod SeatSteps
 pub mod WholeSeats
+pub mod Stacks
+pub mod LaidSlots

@@ -2,7 +2,7 @@
 use Rattle.std.proofs.Common.{◌≡◌, List, [], ◌∷◌, ◌++◌, map, sym, refl, ap, ◌∙◌, subst, append_assoc, None, slice_get}
 use Rattle.std.proofs.lemmas.List.{append-nil}
 use Rattle.db_front.specs.Passes.{FrontId, Known, AreIdle}
-use Rattle.db_front.specs.inner.Plays.{Sat}
+use Rattle.db_front.specs.Steps.{Sat}
 use Rattle.db_front.specs.inner.Seats.{hand_of}
 
 pub map_snoc : {A B : Type 0} (f : A → B) (xs : List A) (x : A) → map f (xs ++ x ∷ []) ≡ map f xs ++ f x ∷ []

@@ -1,12 +1,12 @@
 -- A list of commits begins with the opening value under the number 0. Each commit follows with its
 -- caller's number.
-use Rattle.std.specs.Prelude.{◌≡◌, ℕ, suc, ◌==◌, ◌<◌, ◌≤◌, List, [], ◌∷◌, ◌++◌, take, if◌then◌else◌}
+use Rattle.std.specs.Prelude.{◌≡◌, ℕ, suc, ◌<◌, ◌≤◌, List, [], ◌∷◌, ◌++◌, take}
 use Rattle.watch_word.specs.Logs.{Log}
+use Rattle.db_front.specs.AnyPass as any
 
 -- the commits of caller c
 abbrev pub commits_by : {V : Type 0} → ℕ → List (ℕ × V) → List (ℕ × V)
-commits_by c [] = []
-commits_by c (e ∷ es) = if e.0 == c then e ∷ commits_by c es else commits_by c es
+commits_by {V} c h = any.commits_by (λ (e : ℕ × V). e.0) c h
 
 -- each commit is made by one of the callers 1 to n
 abbrev pub AreNamed : {V : Type 0} → ℕ → List (ℕ × V) → Type 0

@@ -1,4 +1,6 @@
+pub mod AnyPass
 pub mod Commits
 pub mod Passes
+pub mod Steps
 pub mod inner
 pub mod worked

@@ -1,8 +1,8 @@
 -- What callers see of passes and of what they share.
-use Rattle.std.specs.Prelude.{◌≡◌, ◌≢◌, ℕ, zero, suc, ◌+◌, ◌^◌, ◌<◌, ◌≤◌, ◌⊎◌, List, [], ◌∷◌, ◌++◌, length, Option, Result, IfOk, IfSome, IfNone}
+use Rattle.std.specs.Prelude.{◌≡◌, ℕ, zero, suc, ◌+◌, ◌^◌, ◌<◌, ◌≤◌, ◌⊎◌, List, [], ◌∷◌, ◌++◌, length, Option, Result, IfOk, IfSome, IfNone}
 use mathlib.Core.List.{IsPrefix}
 use Rattle.atomic_table.specs.Seated.{TableId}
-use Rattle.db_front.specs.Commits.{commits_by}
+use Rattle.db_front.specs.AnyPass as any
 
 -- which front it is: its table, and how many callers it has
 abbrev pub FrontId : Type 0
@@ -47,33 +47,33 @@ abbrev pub all_fresh : {V : Type 0} → FrontId → V → ℕ → List (Known V)
 all_fresh t o zero = []
 all_fresh t o (suc n) = all_fresh t o n ++ fresh t o (suc n) ∷ []
 
--- caller c has a pass in the list
-abbrev pub HasPass : {V : Type 0} → ℕ → List (Known V) → Type 0
-HasPass c [] = ⊥
-HasPass c (p ∷ ps) = (p.number ≡ c) ⊎ HasPass c ps
+module _ {V : Type 0} where
+  -- caller c has a pass in the list
+  abbrev pub HasPass : ℕ → List (Known V) → Type 0
+  HasPass c ps = any.HasPass (λ (p : Known V). p.number) c ps
 
--- each of the callers 1 to n has a pass in the list
-abbrev pub AreAll : {V : Type 0} → ℕ → List (Known V) → Type 0
-AreAll n ps = (c : ℕ) → 0 < c → c ≤ n → HasPass c ps
+  -- each of the callers 1 to n has a pass in the list
+  abbrev pub AreAll : ℕ → List (Known V) → Type 0
+  AreAll n ps = any.AreAll (λ (p : Known V). p.number) n ps
+
+  -- each pass's own commits are those of its caller in the list, of which it has seen a beginning
+  abbrev pub AreIn : List (ℕ × V) → List (Known V) → Type 0
+  AreIn h ps = any.AreIn (λ (p : Known V). p.number) (λ p. p.mine) (λ p. p.seen) (λ e. e.0) h ps
+
+  -- caller c has a pass in the list of passes, whose own commits are all those of c in h
+  abbrev pub HasMade : List (ℕ × V) → List (Known V) → ℕ → Type 0
+  HasMade h ps c =
+      any.HasMade (λ (p : Known V). p.number) (λ p. p.mine) (λ p. p.seen) (λ e. e.0) h ps c
+
+  -- the commits in h of each of the callers 1 to n are those that its pass made
+  abbrev pub AreMade : ℕ → List (ℕ × V) → List (Known V) → Type 0
+  AreMade n h ps =
+      any.AreMade (λ (p : Known V). p.number) (λ p. p.mine) (λ p. p.seen) (λ e. e.0) n h ps
 
 -- the passes belong to the front, and none holds the writer's turn
 abbrev pub AreIdle : {V : Type 0} → FrontId → List (Known V) → Type 0
 AreIdle t [] = Unit {0}
 AreIdle t (p ∷ ps) = (p.table ≡ t) × (p.stage ≡ 0) × AreIdle t ps
-
--- each pass's own commits are those of its caller in the list, of which it has seen a beginning
-abbrev pub AreIn : {V : Type 0} → List (ℕ × V) → List (Known V) → Type 0
-AreIn h [] = Unit {0}
-AreIn h (p ∷ ps) = (commits_by p.number h ≡ p.mine) × IsPrefix p.seen h × AreIn h ps
-
--- caller c has a pass in the list of passes, whose own commits are all those of c in h
-abbrev pub HasMade : {V : Type 0} → List (ℕ × V) → List (Known V) → ℕ → Type 0
-HasMade h [] c = ⊥
-HasMade h (p ∷ ps) c = ((p.number ≡ c) × (commits_by c h ≡ p.mine)) ⊎ HasMade h ps c
-
--- the commits in h of each of the callers 1 to n are those that its pass made
-abbrev pub AreMade : {V : Type 0} → ℕ → List (ℕ × V) → List (Known V) → Type 0
-AreMade n h ps = (c : ℕ) → 0 < c → c ≤ n → HasMade h ps c
 
 module _ {V : Type 0} where
   -- the number of commits of the list that the pass now has seen, which it read in this call
@@ -82,20 +82,61 @@ module _ {V : Type 0} where
       (number + 1 ≡ length new.seen) × (new.counts ≡ old.counts ++ number ∷ [])
       × (number ≤ 2 ^ 63)
 
+  -- the same, where all these commits are finished
+  abbrev pub IsFinished : Known V → Known V → ℕ → ℕ → Type 0
+  IsFinished old new number finished = IsNumber old new number × (finished ≡ number)
+
   -- one try was made, which found the writer's turn free
   abbrev pub Won : Known V → Known V → Type 0
-  Won old new = new.tries ≡ old.tries ++ 0 ∷ []
+  Won old new = any.Won (λ (p : Known V). p.tries) old new
 
   -- tries were made, the last of which found the writer's turn free
   abbrev pub WonAtLast : Known V → Known V → Type 0
-  WonAtLast old new = (ts : List ℕ) × (new.tries ≡ old.tries ++ ts ++ 0 ∷ [])
+  WonAtLast old new = any.WonAtLast (λ (p : Known V). p.tries) old new
 
   -- one try was made, which found the number of another of so many callers, and nothing else was
   -- done
   abbrev pub Lost : ℕ → Known V → Known V → Type 0
-  Lost callers old new =
-      (n : ℕ) × (n ≢ 0) × (n ≢ old.number) × (n ≤ callers)
-      × (new ≡ record old { tries = old.tries ++ n ∷ [] })
+  Lost callers old new = any.Lost (λ (p : Known V). p.tries) (λ p. p.number)
+      (λ p ts. record p { tries = ts }) callers old new
+
+  -- The pass has seen as much or more, and may have read a count; all else is as before. With the
+  -- writer's turn it had seen all.
+  pub record HasLooked (old new : Known V) : Type 0 where
+    pub seen : IsPrefix old.seen new.seen
+    pub whole : 0 < old.stage → new.seen ≡ old.seen
+    pub counts : IsPrefix old.counts new.counts
+    pub room : length new.seen ≤ 2 ^ 63 + 1
+    pub others : new ≡ record old { seen = new.seen; counts = new.counts }
+
+  -- the pass has seen as much or more, and may have read counts, made tries and taken the writer's
+  -- turn; all else is as before
+  pub record HasTurned (old new : Known V) : Type 0 where
+    pub seen : IsPrefix old.seen new.seen
+    pub counts : IsPrefix old.counts new.counts
+    pub others : new ≡ record old {
+      seen = new.seen;
+      counts = new.counts;
+      tries = new.tries;
+      stage = new.stage;
+    }
+
+  -- the same, where the last try found the writer's turn free
+  pub record HasBegun (old new : Known V) : Type 0 where
+    pub turned : HasTurned old new
+    pub won : WonAtLast old new
+    pub room : length new.seen ≤ 2 ^ 63 + 1
+
+  -- the one try found the writer's turn free, and for want of memory the turn was given back
+  pub record HasLeft (stands : List (ℕ × V) → V → Type 0) (old new : Known V) : Type 0 where
+    pub won : Won old new
+    pub out : new.stage ≡ 0
+    pub room : length new.seen ≤ 2 ^ 63 + 1
+    pub stood : (v : V) × stands new.seen v
+
+  -- the turn is held with the one try that was made
+  abbrev pub HasWonTurn : Known V → Known V → Type 0
+  HasWonTurn old new = Won old new × (new.stage ≡ 1)
 
 -- all commits are finished, or all but the last
 abbrev pub AllOrAllButLast : ℕ → ℕ → Type 0

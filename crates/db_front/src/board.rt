@@ -1,6 +1,11 @@
-//! The table that the callers share: four words, and one slot with the current value and its log. A
-//! turn word is 0, or the number of the caller that has the turn. The rule of the table is in
+//! The table that the callers share: words, and for each caller a slot with the current value and its
+//! log. A turn word is 0, or the number of the caller that has the turn. The words that different
+//! callers use lie eight apart, and so do the slots. The rule of the table is in
 //! `specs/inner/Kept.antt`.
+ghost use Rattle.std.specs.Prelude.{◌≡◌, ◌≤◌};
+ghost use Rattle.db_front.specs.Steps;
+ghost use Rattle.db_front.specs.inner.Kept;
+
 use crate::card::Card;
 use crate::version::Version;
 use atomic_table::{Seat, Table, TableRule};
@@ -17,10 +22,24 @@ pub(crate) const COUNT: usize = 0;
 pub(crate) const DONE: usize = 1;
 
 /// The writer's turn.
-pub(crate) const WRITER: usize = 2;
+pub(crate) const WRITER: usize = 8;
 
-/// The shown turn. Who has it may take the slot's card out.
-pub(crate) const SHOWN: usize = 3;
+/// The shown turn of a caller, which is also the place of its slot. Who has the turn may take the
+/// slot's card out.
+pub(crate) fn turn_of(number: u64) -> usize
+    requires { number ≤ 64 }
+    ensures { result ≡ Steps.turn_of number }
+{
+    8 + 8 * number as usize
+}
+
+/// How many words a table for so many callers has, and how many places for slots.
+pub(crate) fn size_of(callers: u64) -> usize
+    requires { callers ≤ 64 }
+    ensures { result ≡ Kept.size_of callers }
+{
+    16 + 8 * callers as usize
+}
 
 /// What the table is told once: the opening value and the number of callers.
 #[derive(Drop)]
@@ -54,13 +73,11 @@ pub(crate) struct View<V> {
     pub(crate) counts: LinkedList<u64>,
     /// What its tries for the writer's turn found.
     pub(crate) tries: LinkedList<u64>,
-    /// 0 without the writer's turn, 1 with it, 2 where it has published, 3 where besides the slot
-    /// has the new log.
+    /// 0 without the writer's turn, 1 with it, 2 where it has published, and one more for each slot
+    /// that besides has the new log.
     pub(crate) stage: u64,
-    /// 1 with the shown turn.
-    pub(crate) out: u64,
-    /// The log that was in the slot when the shown turn was taken.
-    pub(crate) log: Front,
+    /// The shown turns that it holds, each with the log that was in its slot, the last one first.
+    pub(crate) outs: LinkedList<(u64, Front)>,
 }
 
 /// The rule of the table.

@@ -1,4 +1,4 @@
-//! What lies in the slot.
+//! What lies in a slot.
 ghost use Rattle.std.specs.Prelude.{◌≡◌, IfOk};
 ghost use Rattle.std.specs.Arc.{arc_value};
 

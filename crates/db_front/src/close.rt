@@ -4,22 +4,21 @@ ghost use Rattle.std.specs.Arc.{arc_value};
 ghost use Rattle.db_front.specs.Commits.{HasFirings, IsHistory};
 ghost use Rattle.db_front.specs.Passes.{AreAll, AreIdle, AreIn, AreMade};
 ghost use Rattle.db_front.specs.inner.Kept.{HasHand};
-ghost use Rattle.db_front.specs.inner.Seats.{IsSized, IsFree, IsSame, hand_of};
+ghost use Rattle.db_front.specs.inner.Seats.{IsAt, IsFree, IsSame, hand_of};
 
-use crate::board::{Board, BoardTable, COUNT, DONE, Place};
+use crate::board::{Board, BoardTable, COUNT, DONE, Place, turn_of};
 use crate::pass::Pass;
 use crate::passes::Passes;
 use crate::plays::{Count, Hand, Note};
 use crate::shared::Shared;
 use crate::shown::Shown;
-use crate::turns::{enter, take_turn};
+use crate::turns::{Sleepers, enter, take_turn};
 use crate::version::Version;
 use std::sync::Wait;
-use std::sync::atomic::AtomicU64;
 
 /// Takes the number of a pass into the seat.
 fn absorb<V: Version>(board: &Board<V>, place: &mut Place<V>, pass: Pass<V>)
-    requires table { (place.old.table_id ≡ board.now.table_id) × IsSized board.now.table_id }
+    requires table { IsAt board.now.table_id board.now.key.1 place.old }
     requires pass { (pass.table ≡ (board.now.table_id, board.now.key.1)) × (pass.stage ≡ 0) }
     ensures seat { IsSame place.old place.new }
     ensures joined { place.new.me ≡ (
@@ -39,7 +38,7 @@ fn absorb<V: Version>(board: &Board<V>, place: &mut Place<V>, pass: Pass<V>)
 
 /// Takes the numbers of all these passes into the seat.
 fn gather<V: Version>(board: &Board<V>, place: &mut Place<V>, mut passes: Passes<V>)
-    requires table { (place.old.table_id ≡ board.now.table_id) × IsSized board.now.table_id }
+    requires table { IsAt board.now.table_id board.now.key.1 place.old }
     requires idle { AreIdle (board.now.table_id, board.now.key.1) passes.passes }
     requires alone { place.old.me.0.more ≡ [] }
     ensures seat { IsSame place.old place.new }
@@ -52,27 +51,31 @@ fn gather<V: Version>(board: &Board<V>, place: &mut Place<V>, mut passes: Passes
     passes.end();
 }
 
-/// Takes the table apart, with the shown turn held: nobody can commit any more, so the list that
+/// Takes the table apart, with the writer's turn held: nobody can commit any more, so the list that
 /// the seat has seen is the whole history.
 fn take_apart<V: Version>(table: BoardTable<V>, place: Place<V>)
-    requires table { (place.table_id ≡ table.shared.table_id) × IsSized table.shared.table_id }
-    requires shown { (0 < place.me.0.out) × (0 < place.me.0.number) }
+    requires table { IsAt table.shared.table_id table.shared.key.1 place }
+    requires held { (0 < place.me.0.stage) × (0 < place.me.0.number) }
     ensures { IsHistory table.shared.key.1 place.me.0.seen × HasHand place.me.0.seen place.me.0 }
 {
     let mut closed = table.close_with(place);
-    drop(closed.take(0));
+    let mut at = 0;
+    while at < closed.slot_count() {
+        drop(closed.take(at));
+        at += 1;
+    }
     closed.free();
 }
 
-/// Takes both turns, and the table apart.
+/// Takes the writer's turn and the own shown turn, and the table apart.
 fn settle<V: Version, R: Wait>(
     rt: &R,
     table: BoardTable<V>,
-    sleepers: &AtomicU64,
+    sleepers: &Sleepers,
     mut place: Place<V>,
     number: u64,
 ) -> Shown<V>
-    requires table { (place.table_id ≡ table.shared.table_id) × IsSized table.shared.table_id }
+    requires table { IsAt table.shared.table_id table.shared.key.1 place }
     requires free { IsFree place number × (place.me.0.stage ≡ 0) }
     ensures { (h : List (ℕ × V)) × IsHistory table.shared.key.1 h × HasHand h place.me.0
         × (result.number + 1 ≡ length h) × (result.finished ≡ result.number)
@@ -80,7 +83,8 @@ fn settle<V: Version, R: Wait>(
         × HasFirings V.fired result.finished h result.log }
 {
     take_turn(rt, &table.shared, sleepers, &mut place, number);
-    let card = enter(rt, &table.shared, sleepers, &mut place, number);
+    let turn = turn_of(number);
+    let card = enter(rt, &table.shared, sleepers, &mut place, number, turn);
     let count = table.shared.load::<Count>(&mut place, COUNT);
     let finished = table.shared.load::<Note>(&mut place, DONE);
     take_apart(table, place);
@@ -101,7 +105,11 @@ impl<V: Version> Shared<V> {
             × HasFirings V.fired result.finished h result.log
             × AreMade self.callers h passes.passes }
     {
-        let Shared { table, sleepers } = self;
+        let Shared {
+            table,
+            callers: _,
+            sleepers,
+        } = self;
         let Some(first) = passes.take() else {
             unreachable!()
         };

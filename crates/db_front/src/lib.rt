@@ -6,16 +6,21 @@
 //! has seen, and all passes see beginnings of one list. One caller at a time has the writer's turn,
 //! from `begin` to `finish` or `leave`; `publish` is the commit. `close` ends all and gives the
 //! last value. The layer above may use the clauses of these calls and the definitions of
-//! `specs/Commits.antt` and `specs/Passes.antt`.
+//! `specs/Commits.antt`, `specs/Passes.antt` and `specs/AnyPass.antt`, which says the words on
+//! passes for its own commits too. What a load and a try are is said in `specs/Steps.antt`.
 //!
 //! A `Pass`, a list of them and a [`Ready`] can't be let go: a program that drops one doesn't
 //! compile. `close` takes the passes back, and `publish` the value made ready.
 //!
-//! All readers share one turn at the slot with the value. A reader holds it to share the value and
-//! its log, and never while values are made or dropped. A look costs a fixed number of atomic
-//! steps, where it needn't wait. A caller that finds a turn taken looks at it for a short while,
-//! and then sleeps until it is given back. A call that takes a runtime may wait for another caller,
-//! and its clauses hold if it returns. That a caller is ever served is not proved.
+//! Each caller has a slot of its own with the value and the log, and a shown turn at it. `look`
+//! takes the own turn alone, so readers don't wait for each other. `publish` takes every shown turn
+//! and `finish` each of them once more, so the cost of a commit grows with the number of callers. A
+//! turn is held to share the value and its log or to change them, and never while values are made.
+//!
+//! A look costs a fixed number of atomic steps, where it needn't wait. A caller that finds a turn
+//! taken looks at it for a short while, and then sleeps until it is given back. A call that takes a
+//! runtime may wait for another caller, and its clauses hold if it returns. That a caller is ever
+//! served is not proved.
 //!
 //! The log is a [`watch_word::Front`], which contracts see as its book and its cells. This crate
 //! knows no book and no cell: what a log must have is said by [`Version`] alone, of the opening

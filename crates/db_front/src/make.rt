@@ -1,27 +1,29 @@
 //! The front at its start, with its passes.
 ghost use Rattle.std.specs.Prelude.{IfOk, Some, ◌≡◌, ◌+◌, ◌-◌, ◌<◌, ◌≤◌, [], ◌∷◌, length};
+ghost use Rattle.std.specs.Prelude.{replicate};
 ghost use Rattle.std.specs.Arc.{arc_value};
 ghost use Rattle.watch_word.specs.Logs.{Log};
 ghost use Rattle.db_front.specs.Passes.{fresh, all_fresh, AreAll, AreIdle};
+ghost use Rattle.db_front.specs.inner.Kept;
 ghost use Rattle.db_front.specs.inner.Kept.{start, dealing};
-ghost use Rattle.db_front.specs.inner.Seats.{IsSized};
+ghost use Rattle.db_front.specs.inner.Seats.{IsSized, IsAt, LiesTo};
 
-use crate::board::{Board, BoardTable, Opening, Place};
+use crate::board::{Board, BoardTable, Opening, Place, size_of, turn_of};
 use crate::card::Card;
 use crate::pass::Pass;
 use crate::passes::Passes;
 use crate::plays::Hand;
 use crate::shared::Shared;
+use crate::turns::Sleepers;
 use crate::version::Version;
 use atomic_table::Table;
 use std::alloc::{AllocError, Global};
 use std::sync::Arc;
-use std::sync::atomic::AtomicU64;
 use watch_word::Front;
 
 /// The pass of the next number, which is split off.
 fn deal_one<V: Version>(board: &Board<V>, place: &mut Place<V>, number: u64) -> Pass<V>
-    requires table { (place.old.table_id ≡ board.now.table_id) × IsSized board.now.table_id }
+    requires table { IsAt board.now.table_id board.now.key.1 place.old }
     requires next { (0 < number) × (number < board.now.key.1) }
     requires dealing { place.old.me ≡ (dealing board.now.key number, []) }
     ensures table { place.new.table_id ≡ place.old.table_id }
@@ -38,7 +40,7 @@ fn deal_one<V: Version>(board: &Board<V>, place: &mut Place<V>, number: u64) -> 
 
 /// The passes below the last one.
 fn deal<V: Version>(board: &Board<V>, place: &mut Place<V>, passes: &mut Passes<V>, callers: u64)
-    requires table { (place.old.table_id ≡ board.now.table_id) × IsSized board.now.table_id }
+    requires table { IsAt board.now.table_id board.now.key.1 place.old }
     requires callers { (0 < callers) × (callers ≡ board.now.key.1) }
     requires dealing { place.old.me ≡ (dealing board.now.key 1, []) }
     requires passes { passes.old ≡ record { room = callers; passes = [] } }
@@ -63,7 +65,7 @@ fn deal_all<V: Version>(
     mut place: Place<V>,
     callers: u64,
 ) -> Result<Passes<V>, AllocError>
-    requires table { (place.table_id ≡ board.now.table_id) × IsSized board.now.table_id }
+    requires table { IsAt board.now.table_id board.now.key.1 place }
     requires callers { (0 < callers) × (callers ≡ board.now.key.1) }
     requires dealing { place.me ≡ (dealing board.now.key 1, []) }
     ensures { IfOk result (λ p. p ≡ record {
@@ -89,51 +91,84 @@ fn opening_of<V: Version>(card: &Card<V>, callers: u64) -> Result<Opening<V>, Al
     Ok(Opening { value, callers })
 }
 
-/// The only slot, with a card in it.
-fn slot_of<V: Version>(alloc: Global, card: Card<V>) -> Result<Vec<Option<Card<V>>>, AllocError>
-    ensures { IfOk result (λ slots. slots.items ≡ Some card ∷ []) }
+/// Places for slots, with nothing in them.
+fn places<V: Version>(alloc: Global, count: usize) -> Result<Vec<Option<Card<V>>>, AllocError>
+    ensures { IfOk result (λ slots. length slots.items ≡ count) }
 {
-    Ok(vec![in alloc; Some(card)]?)
+    let mut slots = Vec::with_capacity(alloc, count)?;
+    while slots.len() < count {
+        slots.push(None)?;
+    }
+    Ok(slots)
 }
 
-/// The table whose slot is filled, and its first seat.
+/// The slots, with a card for each caller.
+fn slots_of<V: Version>(
+    alloc: Global,
+    card: &Card<V>,
+    callers: u64,
+) -> Result<Vec<Option<Card<V>>>, AllocError>
+    requires { callers ≤ 64 }
+    ensures size { IfOk result (λ slots. length slots.items ≡ Kept.size_of callers) }
+    ensures laid { IfOk result (λ slots. LiesTo callers card.now slots.items) }
+{
+    let mut slots = places(alloc, size_of(callers))?;
+    for caller in 1..callers + 1 {
+        slots[turn_of(caller)] = Some(card.share()?);
+    }
+    Ok(slots)
+}
+
+/// Words for so many callers, all 0.
+fn words_of(alloc: Global, callers: u64) -> Result<Vec<u64>, AllocError>
+    requires { callers ≤ 64 }
+    ensures { IfOk result (λ words. words.items ≡ replicate (Kept.size_of callers) 0) }
+{
+    Ok(vec![in alloc; 0; size_of(callers)]?)
+}
+
+/// The table whose slots are filled, and its first seat.
 fn table_of<V: Version>(
     alloc: Global,
+    words: &[u64],
     slots: Vec<Option<Card<V>>>,
     opening: Opening<V>,
 ) -> Result<(BoardTable<V>, Place<V>), AllocError>
-    requires callers { 0 < opening.1 }
+    requires callers { (0 < opening.1) × (opening.1 ≤ 64) }
     requires stands { V.stands (start opening.0) opening.0 }
-    requires slot { (log : Log) × (slots.items ≡ Some (opening.0, log) ∷ [])
+    requires words { words.now ≡ replicate (Kept.size_of opening.1) 0 }
+    requires size { length slots.items ≡ Kept.size_of opening.1 }
+    requires laid { (log : Log) × LiesTo opening.1 (opening.0, log) slots.items
         × V.fired (start opening.0) log }
-    ensures sized { IfOk result (λ t. IsSized t.0.shared.table_id) }
+    ensures sized { IfOk result (λ t. IsSized t.0.shared.table_id t.0.shared.key.1) }
     ensures key { IfOk result (λ t. t.0.shared.key ≡ opening) }
     ensures table { IfOk result (λ t. t.1.table_id ≡ t.0.shared.table_id) }
     ensures seat { IfOk result (λ t. t.1.me ≡ (dealing opening 1, [])) }
 {
-    match Table::new(alloc, &[0, 0, 0, 0], slots, &opening) {
+    match Table::new(alloc, words, slots, &opening) {
         Ok(made) => Ok(made),
         Err(_) => Err(AllocError),
     }
 }
 
-/// The table with a card in its slot, and its first seat.
+/// The table with a card in each slot, and its first seat.
 fn lay<V: Version>(
     alloc: Global,
     card: Card<V>,
     callers: u64,
 ) -> Result<(BoardTable<V>, Place<V>), AllocError>
-    requires callers { 0 < callers }
+    requires callers { (0 < callers) × (callers ≤ 64) }
     requires stands { V.stands (start card.0) card.0 }
     requires log { V.fired (start card.0) card.1 }
-    ensures sized { IfOk result (λ t. IsSized t.0.shared.table_id) }
+    ensures sized { IfOk result (λ t. IsSized t.0.shared.table_id t.0.shared.key.1) }
     ensures key { IfOk result (λ t. t.0.shared.key ≡ (card.0, callers)) }
     ensures table { IfOk result (λ t. t.1.table_id ≡ t.0.shared.table_id) }
     ensures seat { IfOk result (λ t. t.1.me ≡ (dealing (card.0, callers) 1, [])) }
 {
     let opening = opening_of(&card, callers)?;
-    let slots = slot_of(alloc, card)?;
-    table_of(alloc, slots, opening)
+    let slots = slots_of(alloc, &card, callers)?;
+    let words = words_of(alloc, callers)?;
+    table_of(alloc, words.as_slice(), slots, opening)
 }
 
 /// A front that shows the value with the number 0, and the passes of the callers 1 to `callers`, in
@@ -158,6 +193,12 @@ pub fn make_shared<V: Version>(
 {
     let (table, place) = lay(alloc, Card { value, log }, callers as u64)?;
     let passes = deal_all(alloc, &table.shared, place, callers as u64)?;
-    let sleepers = AtomicU64::new(0);
-    Ok((Shared { table, sleepers }, passes))
+    Ok((
+        Shared {
+            table,
+            callers: callers as u64,
+            sleepers: Sleepers::none(),
+        },
+        passes,
+    ))
 }

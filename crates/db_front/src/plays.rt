@@ -9,36 +9,36 @@ use atomic_table::{Join, Play, Split};
 pub(crate) struct Count;
 
 impl<V: Drop> Play<Option<Card<V>>, View<V>> for Count {
-    ghost use Rattle.db_front.specs.inner.Plays.{counted};
+    ghost use Rattle.db_front.specs.Steps.{LoadsCount};
 
-    ghost then = { counted };
+    ghost then = { LoadsCount };
 }
 
 /// A load of the number of finished commits.
 pub(crate) struct Note;
 
 impl<V: Version> Play<Option<Card<V>>, View<V>> for Note {
-    ghost use Rattle.db_front.specs.inner.Plays.{noted};
+    ghost use Rattle.db_front.specs.Steps.{LoadsDone};
 
-    ghost then = { noted V.stands V.fired };
+    ghost then = { LoadsDone V.fired };
 }
 
 /// A try for the writer's turn.
 pub(crate) struct Try;
 
 impl<V: Drop> Play<Option<Card<V>>, View<V>> for Try {
-    ghost use Rattle.db_front.specs.inner.Plays.{tried};
+    ghost use Rattle.db_front.specs.Steps.{TriesWriter};
 
-    ghost then = { tried };
+    ghost then = { TriesWriter };
 }
 
-/// A try for the shown turn.
+/// A try for a shown turn.
 pub(crate) struct Take;
 
 impl<V: Version> Play<Option<Card<V>>, View<V>> for Take {
-    ghost use Rattle.db_front.specs.inner.Plays.{took};
+    ghost use Rattle.db_front.specs.Steps.{TriesShown};
 
-    ghost then = { took V.stands V.fired };
+    ghost then = { TriesShown V.stands };
 }
 
 /// The writer's turn is given back.
@@ -50,7 +50,7 @@ impl<V: Drop> Play<Option<Card<V>>, View<V>> for Leave {
     ghost then = { left };
 }
 
-/// The shown turn is given back, with the slot's old log.
+/// A shown turn is given back, with the slot's old log.
 pub(crate) struct Back;
 
 impl<V: Drop> Play<Option<Card<V>>, View<V>> for Back {
@@ -59,7 +59,7 @@ impl<V: Drop> Play<Option<Card<V>>, View<V>> for Back {
     ghost then = { back };
 }
 
-/// The shown turn is given back, with a new log in the slot.
+/// A shown turn is given back, with a new log in the slot.
 pub(crate) struct Renew;
 
 impl<V: Drop> Play<Option<Card<V>>, View<V>> for Renew {

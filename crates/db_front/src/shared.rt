@@ -2,20 +2,18 @@
 ghost use Rattle.std.specs.Prelude.{IfOk, OnOk, OnErr, ◌≡◌, ◌+◌, ◌-◌, ◌<◌, ◌≤◌, ◌^◌, [], ◌∷◌, ◌++◌};
 ghost use Rattle.std.specs.Prelude.{length};
 ghost use Rattle.std.specs.Arc.{arc_value};
-ghost use mathlib.Core.List.{IsPrefix};
 ghost use Rattle.db_front.specs.Commits.{HasFirings, IsLastOf};
-ghost use Rattle.db_front.specs.Passes.{IsNumber, AllOrAllButLast, IfBegun, IfTaken, Won};
-ghost use Rattle.db_front.specs.Passes.{WonAtLast, Lost};
+ghost use Rattle.db_front.specs.Passes.{AllOrAllButLast, HasBegun, HasLeft, HasLooked, HasTurned};
+ghost use Rattle.db_front.specs.Passes.{HasWonTurn, IfBegun, IfTaken, IsFinished, IsNumber, Lost};
 
 use crate::board::BoardTable;
 use crate::commits::{commit, end};
 use crate::pass::Pass;
 use crate::shown::{Ready, Shown};
-use crate::turns::{leave_turn, see, see_begun, take_turn, try_turn};
+use crate::turns::{Sleepers, leave_turn, see, see_begun, take_turn, try_turn};
 use crate::version::Version;
 use std::alloc::AllocError;
 use std::marker::Model;
-use std::sync::atomic::AtomicU64;
 use std::sync::{Arc, Wait};
 use watch_word::Front;
 
@@ -24,11 +22,12 @@ use watch_word::Front;
 #[derive(Drop)]
 pub struct Shared<V: Version> {
     pub(crate) table: BoardTable<V>,
-    /// How many callers sleep until a turn is given back.
-    pub(crate) sleepers: AtomicU64,
+    pub(crate) callers: u64,
+    pub(crate) sleepers: Sleepers,
 }
 
 impl<V: Version> Model for Shared<V> {
+    ghost use Rattle.std.specs.Prelude.{◌≡◌};
     ghost use Rattle.db_front.specs.Passes.{Group};
     ghost use Rattle.db_front.specs.inner.Seats.{IsSized};
 
@@ -39,25 +38,19 @@ impl<V: Version> Model for Shared<V> {
       callers = s.table.shared.key.1;
     } };
 
-    ghost invariant = { λ s. IsSized s.table.shared.table_id };
+    ghost invariant = { λ s. IsSized s.table.shared.table_id s.table.shared.key.1
+        × (s.callers ≡ s.table.shared.key.1) };
 }
 
 impl<V: Version> Shared<V> {
     /// The value after the whole list of commits that the pass now has seen, which begins with all
-    /// that it had seen. It may wait while another caller looks or commits.
+    /// that it had seen. It may wait while another caller commits, and for no other look.
     ///
     /// `AllocError` comes where a further owner of the value is refused. The pass may
     /// have seen more by then.
     pub fn look<R: Wait>(&self, rt: &R, pass: &mut Pass<V>) -> Result<Shown<V>, AllocError>
         requires { pass.old.table ≡ self.now.table }
-        ensures pass { pass.new ≡ record pass.old {
-          seen = pass.new.seen;
-          counts = pass.new.counts;
-        } }
-        ensures seen { IsPrefix pass.old.seen pass.new.seen }
-        ensures whole { 0 < pass.old.stage → pass.new.seen ≡ pass.old.seen }
-        ensures counts { IsPrefix pass.old.counts pass.new.counts }
-        ensures room { length pass.new.seen ≤ 2 ^ 63 + 1 }
+        ensures pass { HasLooked pass.old pass.new }
         ensures stood { (v : V) × V.stands pass.new.seen v }
         ensures value { IfOk result (λ s. V.stands pass.new.seen (arc_value s.value)) }
         ensures number { IfOk result (λ s. IsNumber pass.old pass.new s.number) }
@@ -83,21 +76,10 @@ impl<V: Version> Shared<V> {
     pub fn begin<R: Wait>(&self, rt: &R, pass: &mut Pass<V>) -> Result<Shown<V>, AllocError>
         requires own { pass.old.table ≡ self.now.table }
         requires out { pass.old.stage ≡ 0 }
-        ensures pass { pass.new ≡ record pass.old {
-          seen = pass.new.seen;
-          counts = pass.new.counts;
-          tries = pass.new.tries;
-          stage = pass.new.stage;
-        } }
-        ensures seen { IsPrefix pass.old.seen pass.new.seen }
-        ensures counts { IsPrefix pass.old.counts pass.new.counts }
-        ensures tries { IsPrefix pass.old.tries pass.new.tries }
-        ensures won { WonAtLast pass.old pass.new }
-        ensures room { length pass.new.seen ≤ 2 ^ 63 + 1 }
+        ensures pass { HasBegun pass.old pass.new }
         ensures stood { (v : V) × V.stands pass.new.seen v }
         ensures value { IfOk result (λ s. V.stands pass.new.seen (arc_value s.value)) }
-        ensures number { IfOk result (λ s. IsNumber pass.old pass.new s.number) }
-        ensures finished { IfOk result (λ s. s.finished ≡ s.number) }
+        ensures number { IfOk result (λ s. IsFinished pass.old pass.new s.number s.finished) }
         ensures log { IfOk result (λ s. HasFirings V.fired s.number pass.new.seen s.log) }
         ensures held { OnOk result (pass.new.stage ≡ 1) }
         ensures memory { OnErr result (pass.new.stage ≡ 0) }
@@ -113,7 +95,7 @@ impl<V: Version> Shared<V> {
     }
 
     /// Makes one try to take the writer's turn. `None` comes exactly where the try found the number
-    /// of another caller. It may wait while another caller looks, and never for the writer's turn.
+    /// of another caller. It never waits for the writer's turn.
     ///
     /// After `AllocError`, which comes as in `look`, the pass doesn't have the turn.
     pub fn try_begin<R: Wait>(
@@ -123,23 +105,13 @@ impl<V: Version> Shared<V> {
     ) -> Result<Option<Shown<V>>, AllocError>
         requires own { pass.old.table ≡ self.now.table }
         requires out { pass.old.stage ≡ 0 }
-        ensures pass { pass.new ≡ record pass.old {
-          seen = pass.new.seen;
-          counts = pass.new.counts;
-          tries = pass.new.tries;
-          stage = pass.new.stage;
-        } }
-        ensures seen { IsPrefix pass.old.seen pass.new.seen }
-        ensures counts { IsPrefix pass.old.counts pass.new.counts }
-        ensures stood { OnErr result ((v : V) × V.stands pass.new.seen v) }
+        ensures pass { HasTurned pass.old pass.new }
         ensures value { IfBegun result (λ s. V.stands pass.new.seen (arc_value s.value)) }
-        ensures number { IfBegun result (λ s. IsNumber pass.old pass.new s.number) }
-        ensures finished { IfBegun result (λ s. s.finished ≡ s.number) }
+        ensures number { IfBegun result (λ s. IsFinished pass.old pass.new s.number s.finished) }
         ensures log { IfBegun result (λ s. HasFirings V.fired s.number pass.new.seen s.log) }
-        ensures won { IfBegun result (λ s. Won pass.old pass.new × (pass.new.stage ≡ 1)) }
+        ensures won { IfBegun result (λ s. HasWonTurn pass.old pass.new) }
         ensures taken { IfTaken result (Lost self.now.callers pass.old pass.new) }
-        ensures memory { OnErr result (Won pass.old pass.new × (pass.new.stage ≡ 0)) }
-        ensures room { OnErr result (length pass.new.seen ≤ 2 ^ 63 + 1) }
+        ensures memory { OnErr result (HasLeft V.stands pass.old pass.new) }
     {
         let board = &self.table.shared;
         let found = try_turn(board, &mut pass.place, pass.number);
@@ -154,16 +126,16 @@ impl<V: Version> Shared<V> {
         }
     }
 
-    /// Makes a value ready to be published: takes the owners that its commit needs, one for each
-    /// slot. With one slot that is the owner given, and no memory is taken.
+    /// Makes a value ready to be published. The further owners of it, one for each slot, are made
+    /// by `publish`, which takes no memory.
     pub fn ready(&self, value: Arc<V>) -> Result<Ready<V>, AllocError>
         ensures { IfOk result (λ r. r ≡ arc_value value) }
     {
         Ok(Ready { value })
     }
 
-    /// The commit event. It gives the new number. It takes no memory, and may wait while another
-    /// caller looks.
+    /// The commit event, made while every shown turn is held. It gives the new number. It takes no
+    /// memory, and may wait while another caller looks.
     pub fn publish<R: Wait>(&self, rt: &R, pass: &mut Pass<V>, ready: Ready<V>) -> u64
         requires own { pass.old.table ≡ self.now.table }
         requires begun { pass.old.stage ≡ 1 }
@@ -183,14 +155,15 @@ impl<V: Version> Shared<V> {
             &self.sleepers,
             &mut pass.place,
             pass.number,
+            self.callers,
             ready,
         );
         pass.last = count;
         count
     }
 
-    /// Shows the log and the finished number, and gives the writer's turn back. It takes no memory,
-    /// and may wait while another caller looks.
+    /// Shows the log in each slot, then the finished number, and gives the writer's turn back. It
+    /// takes no memory, and may wait while another caller looks.
     pub fn finish<R: Wait>(&self, rt: &R, pass: &mut Pass<V>, log: Front)
         requires own { pass.old.table ≡ self.now.table }
         requires published { pass.old.stage ≡ 2 }
@@ -204,6 +177,7 @@ impl<V: Version> Shared<V> {
             &self.sleepers,
             &mut pass.place,
             pass.number,
+            self.callers,
             pass.last,
             log,
         );

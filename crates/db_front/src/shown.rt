@@ -16,8 +16,7 @@ pub struct Shown<V: Drop> {
     pub log: Front,
 }
 
-/// A value with the owners that its commit needs, so that `publish` takes no memory. Contracts see
-/// it as the value. It can't be dropped: `publish` takes it.
+/// A value to be published. Contracts see it as the value. It can't be dropped: `publish` takes it.
 pub struct Ready<V: Drop> {
     pub(crate) value: Arc<V>,
 }

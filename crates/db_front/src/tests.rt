@@ -3,6 +3,8 @@ ghost use Rattle.std.specs.Prelude.{◌≡◌, ◌+◌, ◌<◌, ◌^◌, length
 ghost use Rattle.std.specs.Arc.{arc_value};
 ghost use Rattle.db_front.specs.Passes.{all_fresh, AreAll, AreIdle};
 
+mod long;
+
 use crate::{Pass, Passes, Ready, Shared, Shown, Version, make_shared};
 use std::alloc::{AllocError, Global};
 use std::marker::Model;
@@ -269,19 +271,20 @@ impl Duo {
     }
 }
 
-/// Fifty commits of one caller.
-fn fifty<R: Wait>(
+/// Commits of one caller, counted from 1, below the number given.
+fn commits_below<R: Wait>(
     rt: &R,
     alloc: Global,
     shared: &Shared<Roll>,
     pass: &mut Pass<Roll>,
     caller: u64,
+    end: u64,
 ) -> Result<(), AllocError>
     requires { (pass.old.table ≡ shared.now.table) × (pass.old.stage ≡ 0) }
     ensures { (pass.new.table ≡ pass.old.table) × (pass.new.stage ≡ 0)
         × (pass.new.number ≡ pass.old.number) }
 {
-    for own in 1..51 {
+    for own in 1..end {
         commit(rt, alloc, shared, pass, Entry { caller, own })?;
     }
     Ok(())
@@ -308,12 +311,12 @@ fn hundred<R: Threads + Wait + Sync>(
             requires { (one.now.table ≡ shared.now.table) × (one.now.stage ≡ 0) }
             ensures { (one.exit.now.table ≡ one.entry.now.table) × (one.exit.now.stage ≡ 0)
                 × (one.exit.now.number ≡ one.entry.now.number) }
-        { fifty(rt, alloc, shared, one, 1) },
+        { commits_below(rt, alloc, shared, one, 1, 51) },
         &mut || -> Result<(), AllocError>
             requires { (two.now.table ≡ shared.now.table) × (two.now.stage ≡ 0) }
             ensures { (two.exit.now.table ≡ two.entry.now.table) × (two.exit.now.stage ≡ 0)
                 × (two.exit.now.number ≡ two.entry.now.number) }
-        { fifty(rt, alloc, shared, two, 2) },
+        { commits_below(rt, alloc, shared, two, 2, 51) },
     );
     first.and(second)
 }

@@ -1,11 +1,13 @@
 //! Turns: taken, given back, and what is seen while one is held.
-ghost use Rattle.std.specs.Prelude.{IfOk, OnOk, OnErr, ◌≢◌, ◌≡◌, ◌+◌, ◌<◌, ◌≤◌, [], ◌∷◌, ◌++◌};
+ghost use Rattle.std.specs.Prelude.{IfOk, OnOk, OnErr, ◌≢◌, ◌≡◌, ◌+◌, ◌<◌, ◌≤◌, [], ◌∷◌, ◌++◌, drop};
 ghost use Rattle.std.specs.Prelude.{None};
 ghost use Rattle.db_front.specs.Commits.{HasFirings};
-ghost use Rattle.db_front.specs.inner.Seats.{IsSized, IsFree, IsSame, Entered, Began, Sees};
+ghost use Rattle.atomic_table.specs.Table.{rest as other_slots};
+ghost use Rattle.db_front.specs.Steps.{IsTurn};
+ghost use Rattle.db_front.specs.inner.Seats.{IsAt, IsOf, IsFree, IsSame, Entered, Began, Sees};
 ghost use Rattle.db_front.specs.inner.Seats.{SeesBegun, TookShown};
 
-use crate::board::{Board, COUNT, DONE, Place, SHOWN, WRITER};
+use crate::board::{Board, COUNT, DONE, Place, WRITER, turn_of};
 use crate::card::Card;
 use crate::plays::{Back, Count, Leave, Note, Take, Try};
 use crate::version::Version;
@@ -14,6 +16,25 @@ use std::hint::spin_loop;
 use std::sync::Wait;
 use std::sync::atomic::AtomicU64;
 use std::sync::atomic::Ordering::SeqCst;
+
+/// How many callers sleep until a turn is given back.
+#[derive(Drop)]
+pub(crate) struct Sleepers {
+    /// Those who wait for the writer's turn.
+    pub(crate) writers: AtomicU64,
+    /// Those who wait for a shown turn.
+    pub(crate) shown: AtomicU64,
+}
+
+impl Sleepers {
+    /// Nobody sleeps.
+    pub(crate) fn none() -> Sleepers {
+        Sleepers {
+            writers: AtomicU64::new(0),
+            shown: AtomicU64::new(0),
+        }
+    }
+}
 
 /// How often a caller looks at a turn that is taken before it sleeps: a turn at the slot is short.
 const LOOKS: u32 = 100;
@@ -51,100 +72,111 @@ pub(crate) fn wake<V: Version>(board: &Board<V>, sleepers: &AtomicU64, turn: usi
     }
 }
 
-/// Takes the shown turn.
-fn take_shown<V: Version, R: Wait>(
+/// Takes a shown turn.
+pub(crate) fn take_shown<V: Version, R: Wait>(
     rt: &R,
     board: &Board<V>,
-    sleepers: &AtomicU64,
+    sleepers: &Sleepers,
     place: &mut Place<V>,
     number: u64,
+    turn: usize,
 )
-    requires table { (place.old.table_id ≡ board.now.table_id) × IsSized board.now.table_id }
-    requires free { IsFree place.old number }
+    requires table { IsAt board.now.table_id board.now.key.1 place.old }
+    requires own { IsOf place.old number }
+    requires turn { IsTurn board.now.key.1 turn }
     ensures seat { IsSame place.old place.new }
-    ensures took { TookShown V.stands place.old place.new }
+    ensures took { TookShown V.stands place.old place.new turn }
 {
     for _ in rt.forever() {
-        let found = board.compare_exchange::<Take>(place, SHOWN, 0, number);
+        let found = board.compare_exchange::<Take>(place, turn, 0, number);
         if found == 0 {
             return;
         }
-        rest(rt, board, sleepers, SHOWN, found);
+        rest(rt, board, &sleepers.shown, turn, found);
     }
     unreachable!()
 }
 
-/// Takes the shown turn, and what lies in the slot.
+/// Takes a shown turn, and what lies in its slot.
 pub(crate) fn enter<V: Version, R: Wait>(
     rt: &R,
     board: &Board<V>,
-    sleepers: &AtomicU64,
+    sleepers: &Sleepers,
     place: &mut Place<V>,
     number: u64,
+    turn: usize,
 ) -> Card<V>
-    requires table { (place.old.table_id ≡ board.now.table_id) × IsSized board.now.table_id }
-    requires free { IsFree place.old number }
+    requires table { IsAt board.now.table_id board.now.key.1 place.old }
+    requires own { IsOf place.old number }
+    requires turn { IsTurn board.now.key.1 turn }
     ensures seat { IsSame place.old place.new }
-    ensures took { Entered V.stands place.old place.new result }
+    ensures took { Entered V.stands place.old place.new turn result }
 {
-    take_shown(rt, board, sleepers, place, number);
-    board.exchange(place, 0, None).unwrap()
+    take_shown(rt, board, sleepers, place, number, turn);
+    board.exchange(place, turn, None).unwrap()
 }
 
-/// Puts the card back into the slot, and gives the shown turn back.
+/// Puts a card into the slot whose turn was taken last, with the log that lay there, and gives the
+/// turn back.
 pub(crate) fn give<V: Version>(
     board: &Board<V>,
-    sleepers: &AtomicU64,
+    sleepers: &Sleepers,
     place: &mut Place<V>,
+    turn: usize,
     card: Card<V>,
 )
-    requires table { (place.old.table_id ≡ board.now.table_id) × IsSized board.now.table_id }
-    requires out { (0 < place.old.me.0.out) × (place.old.me.1 ≡ (0, None) ∷ []) }
+    requires table { IsAt board.now.table_id board.now.key.1 place.old }
+    requires turn { IsTurn board.now.key.1 turn }
+    requires out { place.old.me.0.outs ≡ (turn, card.1) ∷ drop 1 place.old.me.0.outs }
+    requires slot { place.old.me.1 ≡ (turn, None) ∷ other_slots place.old.me.1 }
     requires stands { V.stands place.old.me.0.seen card.0 }
-    requires log { card.1 ≡ place.old.me.0.log }
     ensures seat { IsSame place.old place.new }
-    ensures gave { place.new.me ≡ (record place.old.me.0 { out = 0 }, []) }
+    ensures gave { place.new.me ≡ (
+      record place.old.me.0 { outs = drop 1 place.old.me.0.outs },
+      other_slots place.old.me.1,
+    ) }
 {
-    let gone = board.exchange(place, 0, Some(card));
+    let gone = board.exchange(place, turn, Some(card));
     let None = gone else { unreachable!() };
-    board.store::<Back>(place, SHOWN, 0);
-    wake(board, sleepers, SHOWN);
+    board.store::<Back>(place, turn, 0);
+    wake(board, &sleepers.shown, turn);
 }
 
-/// Looks into the slot: the number of commits, the number of finished ones, and what lies there.
+/// Looks into the caller's own slot: the number of commits, the number of finished ones, and what lies there.
 pub(crate) fn see<V: Version, R: Wait>(
     rt: &R,
     board: &Board<V>,
-    sleepers: &AtomicU64,
+    sleepers: &Sleepers,
     place: &mut Place<V>,
     number: u64,
 ) -> (u64, u64, Result<Card<V>, AllocError>)
-    requires table { (place.old.table_id ≡ board.now.table_id) × IsSized board.now.table_id }
+    requires table { IsAt board.now.table_id board.now.key.1 place.old }
     requires free { IsFree place.old number }
     ensures seat { IsSame place.old place.new × (place.new.me.1 ≡ []) }
-    ensures sees { Sees V.fired place.old.me.0 place.new.me.0 result.0 result.1 }
+    ensures sees { Sees place.old.me.0 place.new.me.0 result.0 result.1 }
     ensures stood { (v : V) × V.stands place.new.me.0.seen v }
     ensures value { IfOk result.2 (λ c. V.stands place.new.me.0.seen c.0) }
-    ensures log { IfOk result.2 (λ c. c.1 ≡ place.new.me.0.log) }
+    ensures log { IfOk result.2 (λ c. HasFirings V.fired result.1 place.new.me.0.seen c.1) }
 {
-    let card = enter(rt, board, sleepers, place, number);
+    let turn = turn_of(number);
+    let card = enter(rt, board, sleepers, place, number, turn);
     let count = board.load::<Count>(place, COUNT);
     let finished = board.load::<Note>(place, DONE);
     let shared = card.share();
-    give(board, sleepers, place, card);
+    give(board, sleepers, place, turn, card);
     (count, finished, shared)
 }
 
-/// Looks into the slot with the writer's turn held, where all commits are finished. For want of
+/// Looks into the own slot with the writer's turn held, where all commits are finished. For want of
 /// memory it gives the turn back.
 pub(crate) fn see_begun<V: Version, R: Wait>(
     rt: &R,
     board: &Board<V>,
-    sleepers: &AtomicU64,
+    sleepers: &Sleepers,
     place: &mut Place<V>,
     number: u64,
 ) -> (u64, Result<Card<V>, AllocError>)
-    requires table { (place.old.table_id ≡ board.now.table_id) × IsSized board.now.table_id }
+    requires table { IsAt board.now.table_id board.now.key.1 place.old }
     requires free { IsFree place.old number × (place.old.me.0.stage ≡ 1) }
     ensures seat { IsSame place.old place.new }
     ensures view { SeesBegun place.old place.new result.0 }
@@ -168,11 +200,11 @@ pub(crate) fn see_begun<V: Version, R: Wait>(
 pub(crate) fn take_turn<V: Version, R: Wait>(
     rt: &R,
     board: &Board<V>,
-    sleepers: &AtomicU64,
+    sleepers: &Sleepers,
     place: &mut Place<V>,
     number: u64,
 )
-    requires table { (place.old.table_id ≡ board.now.table_id) × IsSized board.now.table_id }
+    requires table { IsAt board.now.table_id board.now.key.1 place.old }
     requires free { IsFree place.old number × (place.old.me.0.stage ≡ 0) }
     ensures seat { IsSame place.old place.new }
     ensures began { Began place.old place.new }
@@ -182,14 +214,14 @@ pub(crate) fn take_turn<V: Version, R: Wait>(
         if found == 0 {
             return;
         }
-        rest(rt, board, sleepers, WRITER, found);
+        rest(rt, board, &sleepers.writers, WRITER, found);
     }
     unreachable!()
 }
 
 /// One try for the writer's turn.
 pub(crate) fn try_turn<V: Version>(board: &Board<V>, place: &mut Place<V>, number: u64) -> u64
-    requires table { (place.old.table_id ≡ board.now.table_id) × IsSized board.now.table_id }
+    requires table { IsAt board.now.table_id board.now.key.1 place.old }
     requires free { IsFree place.old number × (place.old.me.0.stage ≡ 0) }
     ensures seat { IsSame place.old place.new }
     ensures tries { place.new.me.0.tries ≡ place.old.me.0.tries ++ result ∷ [] }
@@ -201,12 +233,12 @@ pub(crate) fn try_turn<V: Version>(board: &Board<V>, place: &mut Place<V>, numbe
 }
 
 /// Gives the writer's turn back.
-pub(crate) fn leave_turn<V: Version>(board: &Board<V>, sleepers: &AtomicU64, place: &mut Place<V>)
-    requires table { (place.old.table_id ≡ board.now.table_id) × IsSized board.now.table_id }
+pub(crate) fn leave_turn<V: Version>(board: &Board<V>, sleepers: &Sleepers, place: &mut Place<V>)
+    requires table { IsAt board.now.table_id board.now.key.1 place.old }
     requires held { place.old.me.0.stage ≡ 1 }
     ensures seat { IsSame place.old place.new }
     ensures left { place.new.me ≡ (record place.old.me.0 { stage = 0 }, place.old.me.1) }
 {
     board.store::<Leave>(place, WRITER, 0);
-    wake(board, sleepers, WRITER);
+    wake(board, &sleepers.writers, WRITER);
 }

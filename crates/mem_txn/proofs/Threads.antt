@@ -10,6 +10,8 @@ use Rattle.watch_word.proofs.book.Book.TheSendSync as book
 use Rattle.watch_word.proofs.cell.WatchCell.TheSendSync as cell
 use Rattle.watch_word.proofs.front.Front.TheSendSync as log
 use Rattle.radix_node.specs.contracts.ids.Ids
+use Rattle.radix_node.specs.contracts.left.Left
+use Rattle.radix_txn.specs.contracts.txn.TreeTxn
 use Rattle.mem_txn.specs.contracts.db.Db
 use Rattle.mem_txn.specs.contracts.pass.Pass
 use Rattle.mem_txn.specs.contracts.passes.Passes
@@ -85,8 +87,14 @@ table_send = search (sendable, crosses, def_send, tree_send) depth 20
 pub table_sync : IsSync Table.the_row
 table_sync = search (sendable, crosses, def_sync, tree_sync) depth 20
 
+left-send : IsSend Left.the_row
+left-send = search (sendable, crosses, cell.the_send, cell.the_sync) depth 20
+
+tree_txn-send : IsSend TreeTxn.the_row
+tree_txn-send = search (sendable, crosses, tree_send, left-send) depth 20
+
 pub table_change_send : IsSend TableTxn.the_row
-table_change_send = search (sendable, crosses, def_send, tree_send, cell.the_send, cell.the_sync) depth 20
+table_change_send = search (sendable, crosses, def_send, tree_txn-send) depth 20
 
 pub accepted_send : IsSend Accepted.the_row
 accepted_send = search (sendable, crosses, def_send, row-send) depth 20

@@ -1,6 +1,7 @@
 -- A database and its callers, as contracts see them.
-use Rattle.std.specs.Prelude.{◌≡◌, ◌==◌, ◌⊎◌, ◌++◌, ◌<◌, ◌≤◌, ◌^◌, ℕ, zero, suc, List, [], ◌∷◌, filter, length}
+use Rattle.std.specs.Prelude.{◌≡◌, ◌++◌, ◌<◌, ◌≤◌, ◌^◌, ℕ, zero, suc, List, [], ◌∷◌, length}
 use mathlib.Core.List.{IsPrefix}
+use Rattle.db_front.specs.AnyPass as any
 use Rattle.db_front.specs.Passes.{FrontId}
 use Rattle.mdb_schema.specs.History.{Commit, History, state_at}
 use Rattle.mdb_schema.specs.Schema.{DbSchema}
@@ -30,7 +31,7 @@ pub record Caller : Type 0 where
 
 -- the commits that are a caller's own
 abbrev pub commits_by : ℕ → History → List Commit
-commits_by number H = filter (λ (c : Commit). c.caller == number) H
+commits_by number H = any.commits_by (λ (c : Commit). c.caller) number H
 
 -- the state after the commits that a caller has seen
 abbrev pub state_seen : Caller → State
@@ -139,28 +140,29 @@ abbrev pub AreNamed : ℕ → History → Type 0
 AreNamed n [] = Unit {0}
 AreNamed n (c ∷ cs) = (0 < c.caller) × (c.caller ≤ n) × AreNamed n cs
 
+-- The words on passes are those of `db_front`, at callers and their commits.
+
 -- each pass's own commits are those of its caller in the history, of which it has seen a beginning
 abbrev pub AreIn : History → List Caller → Type 0
-AreIn H [] = Unit {0}
-AreIn H (p ∷ ps) = (commits_by p.number H ≡ p.own) × IsPrefix p.seen H × AreIn H ps
+AreIn H ps = any.AreIn (λ (p : Caller). p.number) (λ p. p.own) (λ p. p.seen) (λ c. c.caller) H ps
 
 -- caller c has a pass in the list
 abbrev pub HasPass : ℕ → List Caller → Type 0
-HasPass c [] = ⊥
-HasPass c (p ∷ ps) = (p.number ≡ c) ⊎ HasPass c ps
+HasPass c ps = any.HasPass (λ (p : Caller). p.number) c ps
 
 -- each of the callers 1 to n has a pass in the list
 abbrev pub AreAll : ℕ → List Caller → Type 0
-AreAll n ps = (c : ℕ) → 0 < c → c ≤ n → HasPass c ps
+AreAll n ps = any.AreAll (λ (p : Caller). p.number) n ps
 
 -- caller c has a pass in the list, whose own commits are all those of c in the history
 abbrev pub HasMade : History → List Caller → ℕ → Type 0
-HasMade H [] c = ⊥
-HasMade H (p ∷ ps) c = ((p.number ≡ c) × (commits_by c H ≡ p.own)) ⊎ HasMade H ps c
+HasMade H ps c =
+    any.HasMade (λ (p : Caller). p.number) (λ p. p.own) (λ p. p.seen) (λ c. c.caller) H ps c
 
 -- the commits in the history of each of the callers 1 to n are those that its pass made
 abbrev pub AreMade : ℕ → History → List Caller → Type 0
-AreMade n H ps = (c : ℕ) → 0 < c → c ≤ n → HasMade H ps c
+AreMade n H ps =
+    any.AreMade (λ (p : Caller). p.number) (λ p. p.own) (λ p. p.seen) (λ c. c.caller) n H ps
 
 -- the whole history of a database, when these passes are back
 pub record IsWhole (db : Database) (ps : List Caller) (H : History) : Type 0 where

@@ -1,6 +1,7 @@
 -- Write transactions with their deferred items, and what becomes of them.
-use Rattle.std.specs.Prelude.{◌≡◌, ◌≢◌, ◌⊎◌, ◌+◌, ◌^◌, ◌<◌, ◌≤◌, ◌++◌, ℕ, Bool, true, false, List, [], ◌∷◌, length, reverse}
+use Rattle.std.specs.Prelude.{◌≡◌, ◌⊎◌, ◌+◌, ◌^◌, ◌<◌, ◌≤◌, ℕ, Bool, true, false, List, [], length, reverse}
 use Rattle.std.specs.Prelude.{Some, Result, Ok, Err, MatchResult}
+use Rattle.db_front.specs.AnyPass as any
 use Rattle.mdb_schema.specs.Guarded.{IsGuarded}
 use Rattle.mdb_schema.specs.Query.{Query}
 use Rattle.watch_word.specs.Logs.{Cell, Log, has_fired}
@@ -40,7 +41,7 @@ IsRefused old new begin_errors.CommitsSpent =
 
 -- tries for the writer's turn were made, the last of which found it free
 abbrev pub HasWonAtLast : Caller → Caller → Type 0
-HasWonAtLast old new = (ts : List ℕ) × (new.tries ≡ old.tries ++ ts ++ 0 ∷ [])
+HasWonAtLast old new = any.WonAtLast (λ (p : Caller). p.tries) old new
 
 -- a transaction without writes and items, on all commits, whose number was read in this call; or
 -- the caller is told why not, and has its pass back
@@ -53,12 +54,12 @@ AnswersBegin p (Err refused) =
 
 -- the one try for the writer's turn found it free
 abbrev pub HasWon : Caller → Caller → Type 0
-HasWon old new = new.tries ≡ old.tries ++ 0 ∷ []
+HasWon old new = any.Won (λ (p : Caller). p.tries) old new
 
 -- it found the number of another of so many callers, and nothing else was done
 abbrev pub HasLost : ℕ → Caller → Caller → Type 0
-HasLost callers old new = (n : ℕ) × (n ≢ 0) × (n ≢ old.number) × (n ≤ callers)
-    × (new ≡ record old { tries = old.tries ++ n ∷ [] })
+HasLost callers old new = any.Lost (λ (p : Caller). p.tries) (λ p. p.number)
+    (λ p ts. record p { tries = ts }) callers old new
 
 -- the same of a call that makes one try: exactly where that found the number of another of so many
 -- callers, the turn is taken

@@ -1,5 +1,5 @@
 -- The rule of the table, as named facts over plain lists.
-use Rattle.std.specs.Prelude.{◌≡◌, ◌≢◌, ℕ, zero, suc, ◌-◌, ◌^◌, ◌<◌, ◌≤◌, List, [], ◌∷◌, ◌++◌, length, drop, Option, Some}
+use Rattle.std.specs.Prelude.{◌≡◌, ◌≢◌, ◌⊎◌, ℕ, zero, suc, ◌+◌, ◌-◌, ◌*◌, ◌^◌, ◌<◌, ◌≤◌, List, [], ◌∷◌, ◌++◌, length, slice_index, drop, Option, Some}
 use mathlib.Core.Option.{some, none}
 use mathlib.Core.Option as maybe
 use mathlib.Core.List.{IsPrefix}
@@ -8,14 +8,33 @@ use Rattle.atomic_table.specs.Table.{State}
 use Rattle.watch_word.specs.Logs.{Log}
 use Rattle.db_front.specs.declared.board.View.{View}
 use Rattle.db_front.specs.Commits.{commits_by, AreNamed, HasFirings}
+use Rattle.db_front.specs.Steps.{count_word, done_word, writer_word, IsTurn, Outs}
 
 -- a caller's number, its commits, and the list that it has seen
 abbrev pub Hand : Type 0 → Type 0
 Hand V = ℕ × List (ℕ × V) × List (ℕ × V)
 
--- a log that nothing is said of
-abbrev pub no_log : Log
-no_log = record { book = record { number = 0; log_name = 0; cells_name = 0 }; fired = [] }
+-- how many words a table for so many callers has, and how many places for slots
+abbrev pub size_of : ℕ → ℕ
+size_of callers = 16 + 8 * callers
+
+-- the turn i is none of these, or one of them
+abbrev pub Without : ℕ → Outs → Type 0
+Without i [] = Unit {0}
+Without i (p ∷ ps) = (p.0 ≢ i) × Without i ps
+
+abbrev pub Has : ℕ → Outs → Type 0
+Has i [] = ⊥
+Has i (p ∷ ps) = (p.0 ≡ i) ⊎ Has i ps
+
+-- these turns differ
+abbrev pub Differ : Outs → Type 0
+Differ [] = Unit {0}
+Differ (p ∷ ps) = Without p.0 ps × Differ ps
+
+-- all shown turns are among these
+abbrev pub HasAll : ℕ → Outs → Type 0
+HasAll callers outs = (i : ℕ) → IsTurn callers i → Has i outs
 
 -- a view that holds no turn
 abbrev pub blank : {V : Type 0} → ℕ → ℕ → List (ℕ × V) → List (ℕ × V) → List (Hand V) → View V
@@ -28,8 +47,7 @@ blank callers number seen mine more = record {
   counts = [];
   tries = [];
   stage = 0;
-  out = 0;
-  log = no_log;
+  outs = [];
 }
 
 -- the list without a commit
@@ -72,10 +90,10 @@ abbrev pub Apart : {V : Type 0} → List (Hand V) → Type 0
 Apart [] = Unit {0}
 Apart (p ∷ ps) = Lacks p.0 ps × Apart ps
 
--- What holds at one moment. Words: how many commits are finished, the writer's and the shown turn.
--- The writer and the shower are the seats that hold the turns, the owner of a number its seat. The
--- stage is 0 where nobody has the writer's turn, then 1, 2 where the holder has published, 3 where
--- it has put the new log into the slot.
+-- What holds at one moment. Words: how many commits are finished, the writer's turn and, by its word,
+-- each shown turn. The writer and the shower of a turn are the seats that hold the turns, the owner of
+-- a number its seat. The stage is 0 where nobody has the writer's turn, then 1, and 2 where the holder
+-- has published; it rises by one for each slot into which the holder has put the new log.
 pub record Now (V : Type 0) : Type 0 where
   pub opening : V
   pub commits : List (ℕ × V)
@@ -84,20 +102,47 @@ pub record Now (V : Type 0) : Type 0 where
   pub stage : ℕ
   pub turn : ℕ
   pub writer : ℕ
-  pub shown : ℕ
-  pub shower : ℕ
+  pub shown : ℕ → ℕ
+  pub shower : ℕ → ℕ
   pub owner : ℕ → ℕ
 
 abbrev pub log_of : {V : Type 0} → Now V → List (ℕ × V)
 log_of n = (0, n.opening) ∷ n.commits
 
+-- the words: how many commits there are, how many are finished, the writer's turn, the shown turns
+pub record Reads (callers commits finished writer : ℕ) (turns : ℕ → ℕ) (words : List ℕ)
+    : Type 0 where
+  pub size : length words ≡ size_of callers
+  pub count : slice_index words count_word ≡ commits
+  pub done : slice_index words done_word ≡ finished
+  pub turn : slice_index words writer_word ≡ writer
+  pub shown : (i : ℕ) → IsTurn callers i → slice_index words i ≡ turns i
+
+-- each shown turn that is taken is held by the seat that is named as its shower
+abbrev pub AreHeld : {V : Type 0} → Now V → List (View V) → Type 0
+AreHeld {V} n views = (i : ℕ) → IsTurn n.callers i → 0 < n.shown i → (u : View V)
+    × (get_elem? views (n.shower i) ≡ some u) × Has i u.outs
+
 module _ {V : Type 0} (stands : List (ℕ × V) → V → Type 0)
     (fired : List (ℕ × V) → Log → Type 0) where
-  -- a log that is in the slot, or was taken out of it by the holder of the shown turn
-  abbrev pub Covers : Now V → Log → Type 0
-  Covers n log =
+  -- a log that is in the slot i, or was taken out of it by the holder of its turn
+  abbrev pub Covers : Now V → ℕ → Log → Type 0
+  Covers n i log =
       HasFirings fired n.done (log_of n) log
-      × (n.stage ≡ 3 → HasFirings fired (length n.commits) (log_of n) log)
+      × (2 < n.stage → i + 8 ≤ 8 * n.stage → HasFirings fired (length n.commits) (log_of n) log)
+
+  -- the shown turn i, held by the seat id of that number, which has seen the list
+  pub record Holds (n : Now V) (id number : ℕ) (seen : List (ℕ × V)) (i : ℕ) (l : Log) : Type 0 where
+    pub turn : IsTurn n.callers i
+    pub taken : 0 < n.shown i
+    pub by : n.shower i ≡ id
+    pub named : number ≡ n.shown i
+    pub whole : seen ≡ log_of n
+    pub covers : Covers n i l
+
+  abbrev pub HoldsAll : Now V → ℕ → ℕ → List (ℕ × V) → Outs → Type 0
+  HoldsAll n id number seen [] = Unit {0}
+  HoldsAll n id number seen (p ∷ ps) = Holds n id number seen p.0 p.1 × HoldsAll n id number seen ps
 
   pub record Fits (n : Now V) (id : ℕ) (v : View V) : Type 0 where
     pub limit : 0 < v.number → v.callers ≡ n.callers
@@ -106,14 +151,13 @@ module _ {V : Type 0} (stands : List (ℕ × V) → V → Type 0)
     pub apart : (0 < v.number → Lacks v.number v.more) × Apart v.more
     pub writes : 0 < v.stage → (0 < n.turn) × (n.writer ≡ id) × (v.stage ≡ n.stage)
         × (v.number ≡ n.turn) × (v.seen ≡ log_of n)
-    pub shows : 0 < v.out → (0 < n.shown) × (n.shower ≡ id) × (v.number ≡ n.shown)
-        × (v.seen ≡ log_of n) × Covers n v.log
+    pub shows : HoldsAll n id v.number v.seen v.outs × Differ v.outs
 
-  -- the slot, at home or out
+  -- the slots whose turns are free
   pub record Lies (n : Now V) (homes : List (maybe.Option (Option (V × Log)))) : Type 0 where
-    pub home : n.shown ≡ 0 → (c : V × Log) × (homes ≡ some (Some c) ∷ [])
-        × stands (log_of n) c.0 × Covers n c.1
-    pub away : 0 < n.shown → homes ≡ none ∷ []
+    pub size : length homes ≡ size_of n.callers
+    pub home : (i : ℕ) → IsTurn n.callers i → n.shown i ≡ 0 → (c : V × Log)
+        × (get_elem? homes i ≡ some (some (Some c))) × stands (log_of n) c.0 × Covers n i c.1
 
   pub record Turns (n : Now V) (views : List (View V)) : Type 0 where
     pub room : length n.commits ≤ 2 ^ 63
@@ -128,9 +172,10 @@ module _ {V : Type 0} (stands : List (ℕ × V) → V → Type 0)
   pub record IsKept (callers : ℕ) (s : State (Option (V × Log)) (View V)) : Type 0 where
     pub now : Now V
     pub limit : now.callers ≡ callers
-    pub words : s.words ≡ length now.commits ∷ now.done ∷ now.turn ∷ now.shown ∷ []
+    pub words : Reads now.callers (length now.commits) now.done now.turn now.shown s.words
     pub slot : Lies now s.homes
     pub turns : Turns now s.views
+    pub holders : AreHeld now s.views
     pub seats : (id : ℕ) (v : View V) → get_elem? s.views id ≡ some v → Fits now id v
 
 -- a seat hands over its first further number, or takes in another seat's number

@@ -1,6 +1,5 @@
-use Rattle.std.proofs.Common.{◌∷◌, [], List, Option, sym, subst}
+use Rattle.std.proofs.Common.{ℕ, List, sym, subst}
 use Rattle.atomic_table.specs.Table.{opening}
-use Rattle.watch_word.specs.Logs.{Log}
 use Rattle.db_front.specs.inner.Kept.{IsKept, first_view}
 use Rattle.db_front.proofs.SeatSteps.{starts}
 use Rattle.db_front.proofs.make.table_of.Goals as goal
@@ -8,6 +7,6 @@ use Rattle.db_front.proofs.make.table_of.Goals as goal
 pub new-requires : goal.new-requires
 new-requires g c =
     let key = c.args.opening in
-    let slot = c.requires.slot in
-    subst (λ (z : List (Option (g.row.V.Denot × Log))). IsKept g.V.Version.stands g.V.Version.fired key.1 (opening (0 ∷ 0 ∷ 0 ∷ 0 ∷ []) z (first_view key))) (sym slot.1)
-    (starts g.V.Version.stands g.V.Version.fired (key.0, slot.0) key.1 c.requires.callers c.requires.stands slot.2)
+    let laid = c.requires.laid in
+    subst (λ (ws : List ℕ). IsKept g.V.Version.stands g.V.Version.fired key.1 (opening ws c.args.slots.items (first_view key))) (sym c.requires.words)
+    (starts g.V.Version.stands g.V.Version.fired (key.0, laid.0) key.1 c.args.slots.items c.requires.callers.0 c.requires.stands laid.2 c.requires.size laid.1)

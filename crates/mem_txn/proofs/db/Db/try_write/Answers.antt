@@ -11,8 +11,8 @@ use Rattle.mem_txn.proofs.db.Db.try_write.Goals as goal
 pub invariant_of-result-in-Err : goal.invariant_of-result-in-Err
 invariant_of-result-in-Err g c =
     let e = c.try_begin.ensures in
-    let number = ap (λ (k : Known Version). k.number) e.pass in
-    token_at 0 c.pass.inside.token c.try_begin.new.pass c.pass.invariant e.seen 0 number c.in-Err.ensures.memory.1 c.in-Err.ensures.stood.1.steps
+    let number = ap (λ (k : Known Version). k.number) e.pass.others in
+    token_at 0 c.pass.inside.token c.try_begin.new.pass c.pass.invariant e.pass.seen 0 number c.in-Err.ensures.memory.out c.in-Err.ensures.memory.stood.1.steps
 
 pub returns-in-Ok : goal.returns-in-Ok
 returns-in-Ok g c =
@@ -21,9 +21,9 @@ returns-in-Ok g c =
     let e = c.try_begin.ensures in
     let here = c.in-Ok-Some in
     let won = (some_has here.field-0 here.shown _ here.field-0-is here.ensures.won).0 in
-    let number = some_has here.field-0 here.shown _ here.field-0-is here.ensures.number in
-    let seen : HasSeen c.args.pass c.of.result.caller = subst (λ (p : Caller). HasSeen p c.of.result.caller) c.pass.view_is (subst (HasSeen (caller_of old)) (sym c.of.ensures) (turned old new c.pass.invariant e.pass e.seen (number_room old new here.shown.number number) e.counts (0 ∷ [], sym won))) in
-    let read : HasRead c.args.pass c.of.result.caller (length c.of.result.caller.seen) = subst (λ (p : Caller). HasRead p c.of.result.caller (length c.of.result.caller.seen)) c.pass.view_is (subst (λ (q : Caller). HasRead (caller_of old) q (length q.seen)) (sym c.of.ensures) (numbered old new c.in-Ok-Some.shown.number c.pass.invariant e.seen number)) in
+    let number = (some_has here.field-0 here.shown _ here.field-0-is here.ensures.number).0 in
+    let seen : HasSeen c.args.pass c.of.result.caller = subst (λ (p : Caller). HasSeen p c.of.result.caller) c.pass.view_is (subst (HasSeen (caller_of old)) (sym c.of.ensures) (turned old new c.pass.invariant e.pass.others e.pass.seen (number_room old new here.shown.number number) e.pass.counts (0 ∷ [], sym won))) in
+    let read : HasRead c.args.pass c.of.result.caller (length c.of.result.caller.seen) = subst (λ (p : Caller). HasRead p c.of.result.caller (length c.of.result.caller.seen)) c.pass.view_is (subst (λ (q : Caller). HasRead (caller_of old) q (length q.seen)) (sym c.of.ensures) (numbered old new c.in-Ok-Some.shown.number c.pass.invariant e.pass.seen number)) in
     let first : HasWon c.args.pass c.of.result.caller = subst (λ (p : Caller). HasWon p c.of.result.caller) c.pass.view_is (subst (HasWon (caller_of old)) (sym c.of.ensures) won) in
     try_begins c.args.pass c.of.result.caller seen read (won_at_last c.args.pass c.of.result.caller first) first c.in-Ok.txn c.in-Ok.ensures
 
@@ -34,16 +34,16 @@ returns-in-Err-begun g c =
     let e = c.try_begin.ensures in
     let here = c.in-Ok-Some in
     let won = (some_has here.field-0 here.shown _ here.field-0-is here.ensures.won).0 in
-    let number = some_has here.field-0 here.shown _ here.field-0-is here.ensures.number in
-    let seen : HasSeen c.args.pass c.of.result.caller = subst (λ (p : Caller). HasSeen p c.of.result.caller) c.pass.view_is (subst (HasSeen (caller_of old)) (sym c.of.ensures) (turned old new c.pass.invariant e.pass e.seen (number_room old new here.shown.number number) e.counts (0 ∷ [], sym won))) in
-    let read : HasRead c.args.pass c.of.result.caller (length c.of.result.caller.seen) = subst (λ (p : Caller). HasRead p c.of.result.caller (length c.of.result.caller.seen)) c.pass.view_is (subst (λ (q : Caller). HasRead (caller_of old) q (length q.seen)) (sym c.of.ensures) (numbered old new c.in-Ok-Some.shown.number c.pass.invariant e.seen number)) in
+    let number = (some_has here.field-0 here.shown _ here.field-0-is here.ensures.number).0 in
+    let seen : HasSeen c.args.pass c.of.result.caller = subst (λ (p : Caller). HasSeen p c.of.result.caller) c.pass.view_is (subst (HasSeen (caller_of old)) (sym c.of.ensures) (turned old new c.pass.invariant e.pass.others e.pass.seen (number_room old new here.shown.number number) e.pass.counts (0 ∷ [], sym won))) in
+    let read : HasRead c.args.pass c.of.result.caller (length c.of.result.caller.seen) = subst (λ (p : Caller). HasRead p c.of.result.caller (length c.of.result.caller.seen)) c.pass.view_is (subst (λ (q : Caller). HasRead (caller_of old) q (length q.seen)) (sym c.of.ensures) (numbered old new c.in-Ok-Some.shown.number c.pass.invariant e.pass.seen number)) in
     let first : HasWon c.args.pass c.of.result.caller = subst (λ (p : Caller). HasWon p c.of.result.caller) c.pass.view_is (subst (HasWon (caller_of old)) (sym c.of.ensures) won) in
     try_refuses c.args.pass c.of.result.caller seen read (won_at_last c.args.pass c.of.result.caller first) first c.in-Err-begun.refused c.in-Err-begun.ensures
 
 pub returns-in-Err : goal.returns-in-Err
 returns-in-Err g c =
     let e = c.try_begin.ensures in
-    let won = c.in-Err.ensures.memory.0 in
+    let won = c.in-Err.ensures.memory.won in
     let old = c.pass.inside.token in
-    let both : HasSeen c.args.pass (caller_of c.try_begin.new.pass) = subst (λ (p : Caller). HasSeen p (caller_of c.try_begin.new.pass)) c.pass.view_is (turned old c.try_begin.new.pass c.pass.invariant e.pass e.seen c.in-Err.ensures.room e.counts (0 ∷ [], sym won)) in
+    let both : HasSeen c.args.pass (caller_of c.try_begin.new.pass) = subst (λ (p : Caller). HasSeen p (caller_of c.try_begin.new.pass)) c.pass.view_is (turned old c.try_begin.new.pass c.pass.invariant e.pass.others e.pass.seen c.in-Err.ensures.memory.room e.pass.counts (0 ∷ [], sym won)) in
     (both, tt, subst (λ (p : Caller). HasWon p (caller_of c.try_begin.new.pass)) c.pass.view_is won)

@@ -1,4 +1,4 @@
-use Rattle.std.proofs.Common.{length, ap, sym, subst}
+use Rattle.std.proofs.Common.{append_assoc, ◌∷◌, ◌++◌, ◌∙◌, [], length, ap, sym, subst}
 use Rattle.db_front.specs.Passes.{Known}
 use Rattle.mem_txn.specs.Database.{Caller, HasRead, HasSeen}
 use Rattle.mem_txn.specs.Transactions.{HasWonAtLast}
@@ -11,20 +11,20 @@ use Rattle.mem_txn.proofs.db.Db.write.Goals as goal
 pub invariant_of-result : goal.invariant_of-result
 invariant_of-result g c =
     let e = c.begin.ensures in
-    let number = ap (λ (k : Known Version). k.number) e.pass in
-    token_at 0 c.pass.inside.token c.begin.new.pass c.pass.invariant e.seen 0 number c.in-Err.ensures.memory e.stood.1.steps
+    let number = ap (λ (k : Known Version). k.number) e.pass.turned.others in
+    token_at 0 c.pass.inside.token c.begin.new.pass c.pass.invariant e.pass.turned.seen 0 number c.in-Err.ensures.memory e.stood.1.steps
 
 pub returns-in-Ok : goal.returns-in-Ok
 returns-in-Ok g c =
     let old = c.pass.inside.token in
     let new = c.begin.new.pass in
     let e = c.begin.ensures in
-    let seen : HasSeen c.args.pass c.of.result.caller = subst (λ (p : Caller). HasSeen p c.of.result.caller) c.pass.view_is (subst (HasSeen (caller_of old)) (sym c.of.ensures) (turned old new c.pass.invariant e.pass e.seen e.room e.counts e.tries)) in
-    let read : HasRead c.args.pass c.of.result.caller (length c.of.result.caller.seen) = subst (λ (p : Caller). HasRead p c.of.result.caller (length c.of.result.caller.seen)) c.pass.view_is (subst (λ (q : Caller). HasRead (caller_of old) q (length q.seen)) (sym c.of.ensures) (numbered old new c.in-Ok.shown.number c.pass.invariant e.seen c.in-Ok.ensures.number)) in
-    let last : HasWonAtLast c.args.pass c.of.result.caller = subst (λ (p : Caller). HasWonAtLast p c.of.result.caller) c.pass.view_is (subst (HasWonAtLast (caller_of old)) (sym c.of.ensures) e.won) in
+    let seen : HasSeen c.args.pass c.of.result.caller = subst (λ (p : Caller). HasSeen p c.of.result.caller) c.pass.view_is (subst (HasSeen (caller_of old)) (sym c.of.ensures) (turned old new c.pass.invariant e.pass.turned.others e.pass.turned.seen e.pass.room e.pass.turned.counts (e.pass.won.0 ++ 0 ∷ [], sym (append_assoc c.pass.inside.token.tries e.pass.won.0 (0 ∷ [])) ∙ sym e.pass.won.1))) in
+    let read : HasRead c.args.pass c.of.result.caller (length c.of.result.caller.seen) = subst (λ (p : Caller). HasRead p c.of.result.caller (length c.of.result.caller.seen)) c.pass.view_is (subst (λ (q : Caller). HasRead (caller_of old) q (length q.seen)) (sym c.of.ensures) (numbered old new c.in-Ok.shown.number c.pass.invariant e.pass.turned.seen c.in-Ok.ensures.number.0)) in
+    let last : HasWonAtLast c.args.pass c.of.result.caller = subst (λ (p : Caller). HasWonAtLast p c.of.result.caller) c.pass.view_is (subst (HasWonAtLast (caller_of old)) (sym c.of.ensures) e.pass.won) in
     begin_answers c.args.pass c.of.result.caller seen read last c.begun.result c.begun.ensures
 
 pub returns-in-Err : goal.returns-in-Err
 returns-in-Err g c =
     let e = c.begin.ensures in
-    (subst (λ (p : Caller). HasSeen p (caller_of c.begin.new.pass)) c.pass.view_is (turned c.pass.inside.token c.begin.new.pass c.pass.invariant e.pass e.seen e.room e.counts e.tries), tt, subst (λ (p : Caller). HasWonAtLast p (caller_of c.begin.new.pass)) c.pass.view_is e.won)
+    (subst (λ (p : Caller). HasSeen p (caller_of c.begin.new.pass)) c.pass.view_is (turned c.pass.inside.token c.begin.new.pass c.pass.invariant e.pass.turned.others e.pass.turned.seen e.pass.room e.pass.turned.counts (e.pass.won.0 ++ 0 ∷ [], sym (append_assoc c.pass.inside.token.tries e.pass.won.0 (0 ∷ [])) ∙ sym e.pass.won.1)), tt, subst (λ (p : Caller). HasWonAtLast p (caller_of c.begin.new.pass)) c.pass.view_is e.pass.won)
