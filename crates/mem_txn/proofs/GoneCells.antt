@@ -50,7 +50,7 @@ notices_all [] (o ∷ old) new frozen c f = absurd frozen
 notices_all (gone ∷ notices) [] new frozen c f = absurd frozen
 notices_all (gone ∷ notices) (o ∷ old) [] frozen c f = absurd frozen
 notices_all (gone ∷ notices) (o ∷ old) (n ∷ new) frozen c f = elim (some_case c o n old new f) [
-  | inl fires ↦ Has-left c gone (cells_in notices) ((frozen.0.notice c).1 fires)
+  | inl fires ↦ Has-left c gone (cells_in notices) ((frozen.0.notice.fires c).1 fires)
   | inr later ↦ Has-right c gone (cells_in notices) (notices_all notices old new frozen.1 c later)
 ]
 
@@ -59,7 +59,7 @@ notices_gone [] old new frozen c has = absurd has
 notices_gone (gone ∷ notices) [] new frozen c has = absurd frozen
 notices_gone (gone ∷ notices) (o ∷ old) [] frozen c has = absurd frozen
 notices_gone (gone ∷ notices) (o ∷ old) (n ∷ new) frozen c has = elim (Has-split c gone (cells_in notices) has) [
-  | inl first ↦ some_first c o n old new ((frozen.0.notice c).0 first)
+  | inl first ↦ some_first c o n old new ((frozen.0.notice.fires c).0 first)
   | inr later ↦ some_later c o n old new (notices_gone notices old new frozen.1 c later)
 ]
 

@@ -5,12 +5,14 @@ ghost use Rattle.mdb_schema.specs.Answer.{ask};
 ghost use Rattle.mdb_schema.specs.Refusals.{AnswersAsk};
 ghost use Rattle.mem_txn.specs.Held.{AnswersHeld, IsHeldOf, tells_own};
 ghost use Rattle.mem_txn.specs.inner.VersionTables.{AreWithin};
+ghost use Rattle.table_index.specs.Walks.{WalksAsk};
 ghost use Rattle.table_index.specs.Watched.{is_watchable};
 
 use crate::held::Held;
 use crate::version::Version;
 use crate::view::View;
 use mdb_schema::{Answer, AskError, Query};
+use radix_iter::Walk;
 use std::alloc::{AllocError, Global};
 use std::marker::Model;
 use std::sync::Arc;
@@ -72,6 +74,15 @@ impl ReadTxn {
         ensures { AnswersAsk (ask self.now.view.schema self.now.view.state query.now) result }
     {
         self.version.view().ask(query)
+    }
+
+    /// A walk over the rows that [`ReadTxn::ask`] gives, in the same order, one at a time. It
+    /// borrows this transaction, and is refused as [`ReadTxn::ask`] is. It takes memory for the key
+    /// of the question's arguments and for its place, and none for a list of rows.
+    pub fn walk<'a>(&'a self, query: &Query) -> Result<Walk<'a>, AskError>
+        ensures { WalksAsk (ask self.now.view.schema self.now.view.state query.now) result }
+    {
+        self.version.view().walk(query)
     }
 
     /// What [`ReadTxn::ask`] answers, with the watch of the answer. Questions for bounds, or for

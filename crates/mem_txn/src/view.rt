@@ -8,12 +8,14 @@ ghost use Rattle.mem_txn.specs.inner.EmptyTables.{AreEmpty, IsEmptyOf};
 ghost use Rattle.mem_txn.specs.inner.Steps.{tables_with};
 ghost use Rattle.mem_txn.specs.inner.VersionTables.{AreWithin, schemas_of, state_of, trees_of};
 ghost use Rattle.table_index.specs.Table.{TableRows};
+ghost use Rattle.table_index.specs.Walks.{WalksAsk};
 ghost use Rattle.table_index.specs.Watched.{AnswersWatch, HoldsRows, is_watchable};
 ghost use Rattle.mem_txn.specs.CellHistory.{question_cell, table_in};
 ghost use Rattle.mem_txn.specs.Held.{IsLookedUp, tells_own};
 ghost use Rattle.mem_txn.specs.inner.Looks.{IsAsked};
 
 use mdb_schema::{Answer, AskError, Query, Schema, TableDef};
+use radix_iter::Walk;
 use radix_node::Ids;
 use std::alloc::{AllocError, Global};
 use std::marker::Model;
@@ -161,6 +163,19 @@ impl View {
             Some(place) => {
                 let table = &self.tables[place];
                 table.ask(query)
+            }
+            None => Err(AskError::UnknownTable),
+        }
+    }
+
+    /// A walk over the rows of the answer to a question.
+    pub(crate) fn walk<'a>(&'a self, query: &Query) -> Result<Walk<'a>, AskError>
+        ensures { WalksAsk (ask self.now.view.schema self.now.view.state query.now) result }
+    {
+        match self.schema.find(query.table().as_str()) {
+            Some(place) => {
+                let table = &self.tables[place];
+                table.walk(query)
             }
             None => Err(AskError::UnknownTable),
         }

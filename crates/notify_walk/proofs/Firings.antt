@@ -1,9 +1,10 @@
 -- What has fired stays so, and a walk over a list of cells reaches each.
-use Rattle.std.proofs.Common.{append_assoc, arith, subst, ◌+◌, ◌≡◌, ℕ, zero, suc, List, [], ◌∷◌, ◌++◌, ◌∙◌, Some, slice_get, take, true, sym, ap}
+use Rattle.std.proofs.Common.{append_assoc, arith, subst, ◌+◌, ◌<◌, ◌≤◌, inl, inr, length, map, get_or, refl, ◌≡◌, ℕ, zero, suc, List, [], ◌∷◌, ◌++◌, ◌∙◌, Some, slice_get, take, true, sym, ap}
 use Rattle.radix_node.specs.Ids.{Book}
 use Rattle.radix_node.specs.Cells.{AreCellsOf, AreOf, CellTree, cells_of}
 use Rattle.radix_node.proofs.OneBook.{all_are, each_is}
 use Rattle.radix_txn.specs.Notice.{IsNotice}
+use Rattle.radix_txn.proofs.Steps.{lt_or_le}
 use Rattle.watch_word.specs.Logs.{Cell, IsLater, Log, has, has_fired}
 use Rattle.watch_word.proofs.Keys.{has_more}
 use Rattle.notify_walk.specs.Fired.{HaveFired}
@@ -26,9 +27,23 @@ of_at [] i c book all at = cc
 of_at (d ∷ ds) zero c book all at = let same : d ≡ c = cc in let first : d.book ≡ book = cc in sym (ap (λ (x : Cell). x.book) same) ∙ first
 of_at (d ∷ ds) (suc i) c book all at = let rest : AreCellsOf book ds = cc in of_at ds i c book rest at
 
+-- what stands at a place of a list, seen
+pub got_map : {A B : Type 0} → (f : A → B) (xs : List A) (i : ℕ) (x : A) → i < length xs → x ≡ get_or xs i x → slice_get (map f xs) i ≡ Some (f x)
+got_map f [] i x lt read = absurd (omega (arith, lt))
+got_map f (y ∷ ys) zero x lt read = ap (λ z. Some (f z)) (sym read)
+got_map f (y ∷ ys) (suc i) x lt read = got_map f ys i x (omega (arith, lt)) read
+
+-- the listed cells of a notice, which are all of them or none
+pub listed_of : (book : Book) (cells listed : List Cell) → (length cells ≤ 8192 → listed ≡ cells) → (8192 < length cells → listed ≡ []) → AreCellsOf book cells → AreCellsOf book listed
+listed_of book cells listed few many all =
+    elim (lt_or_le 8192 (length cells)) [
+      | inl more ↦ subst (AreCellsOf book) (sym (many more)) refl
+      | inr within ↦ subst (AreCellsOf book) (sym (few within)) all
+    ]
+
 -- each cell of a notice is of the old tree's book
 pub notice_of : (book : Book) (cs : List Cell) (old new : CellTree) → IsNotice cs old new → AreOf book old → AreCellsOf book cs
-notice_of book cs old new notice all = all_are book cs (λ c h. each_is book (cells_of old) all c ((notice c).0 h).left)
+notice_of book cs old new notice all = all_are book cs (λ c h. each_is book (cells_of old) all c ((notice.fires c).0 h).left)
 
 pub later_again : (a b c : Log) → IsLater a b → IsLater b c → IsLater a c
 later_again a b c p q =

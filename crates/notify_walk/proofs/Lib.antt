@@ -1,1 +1,3 @@
 pub mod Firings
+pub mod Parts
+pub mod Walked

@@ -1,23 +1,29 @@
 //! Firing: the cells of a notice fire by the number of a commit.
 //!
 //! A transaction over a tree ends with a notice of the cells that are gone from it. Whoever shows
-//! its tree fires them all, and then each watch of one has moved.
+//! its tree fires them all, and then each watch of one has moved. A notice of many cells has the
+//! two trees in place of a list; then a walk finds the cells.
 #![tactic(auto)]
 
-ghost use Rattle.std.specs.Prelude.{◌≤◌};
+ghost use Rattle.std.specs.Prelude.{◌≤◌, map};
+ghost use Rattle.std.specs.Arc.{arc_value};
 ghost use Rattle.notify_walk.specs.Fired.{HaveFired};
 ghost use Rattle.radix_node.specs.Cells.{AreCellsOf};
 ghost use Rattle.watch_word.specs.Logs.{AreDistinct, IsLater};
 
 #[cfg(test)]
 mod tests;
+mod walk;
 
 use radix_txn::Notice;
-use watch_word::{Front, fire};
+use std::sync::Arc;
+use walk::fire_gone;
+use watch_word::{Front, WatchCell, fire};
 
 /// Fires each cell of a notice by the commit with this number, unless it has fired before. The
-/// front given back has them all. It takes no memory, waits for nobody, and makes one step a cell.
-#[tactic(auto, using(crate::proofs::Firings::later_again, crate::proofs::Firings::next, crate::proofs::Firings::of_at))]
+/// front given back has them all. It takes no memory, and waits for nobody. Where the cells are
+/// listed it makes one step a cell. Else it walks what differs between the old and the new tree,
+/// with two look-ups a node.
 pub fn fire_all(notice: &Notice, front: &Front, by: u64) -> Front
     requires book { AreCellsOf front.now.book notice.now }
     requires number { 1 ≤ by }
@@ -25,9 +31,23 @@ pub fn fire_all(notice: &Notice, front: &Front, by: u64) -> Front
     ensures fired { HaveFired result notice.now }
     ensures once { AreDistinct result.fired }
 {
+    match notice.trees() {
+        None => fire_listed(notice.cells(), front, by),
+        Some((old, new)) => fire_gone(old, new, front, by),
+    }
+}
+
+/// Fires each cell of a list.
+#[tactic(auto, using(crate::proofs::Firings::later_again, crate::proofs::Firings::next, crate::proofs::Firings::of_at))]
+fn fire_listed(cells: &[Arc<WatchCell>], front: &Front, by: u64) -> Front
+    requires book { AreCellsOf front.now.book (map arc_value cells.now) }
+    requires number { 1 ≤ by }
+    ensures later { IsLater front.now result }
+    ensures fired { HaveFired result (map arc_value cells.now) }
+    ensures once { AreDistinct result.fired }
+{
     let mut log = front.share();
-    for at in 0..notice.len() {
-        let cell = notice.cell(at).unwrap();
+    for cell in cells {
         log = fire(&log, cell, by);
     }
     log

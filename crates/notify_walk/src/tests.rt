@@ -1,5 +1,6 @@
 //! Firings, on the trees of the words `foo`, `football` and `fool`, each ended by a byte 00.
-ghost use Rattle.std.specs.Prelude.{◌≡◌, ◌+◌, ◌<◌, ◌≤◌, ◌^◌, IfOk, length};
+ghost use Rattle.std.specs.Prelude.{◌≡◌, ◌+◌, ◌≤◌, ◌^◌, IfOk, length, map};
+ghost use Rattle.std.specs.Arc.{arc_value};
 ghost use Rattle.radix_node.specs.Cells.{AreBelow, AreCellsOf, AreOf};
 
 use crate::fire_all;
@@ -9,8 +10,9 @@ use radix_txn::{Edit, Notice};
 use std::alloc::{AllocError, Global};
 use std::sync::Arc;
 use std::test::Fail;
-use watch_word::{Front, Watch, open_book};
+use watch_word::{Front, Watch, WatchCell, open_book};
 
+mod limit;
 mod run;
 
 /// A row without members. Another document counts as want of memory, which ends a test.
@@ -111,37 +113,36 @@ fn noticed(alloc: Global, row: &Row) -> Result<(Notice, Front, (u64, u64)), Allo
     Ok((notice, front, watches))
 }
 
-/// Whether the cell at a place of a notice has fired.
-#[tactic(auto, using(crate::proofs::Firings::of_at))]
-fn fired_at(notice: &Notice, at: usize, front: &Front) -> Result<bool, AllocError>
-    requires of { AreCellsOf front.now.book notice.now }
-    requires within { at < length notice.now }
+/// Whether a cell has fired.
+fn has_moved(cell: &Arc<WatchCell>, front: &Front) -> Result<bool, AllocError>
+    requires { let c = arc_value cell.now in c.book ≡ front.now.book }
 {
-    let cell = notice.cell(at).unwrap();
     Ok(Watch::of(Arc::try_clone(cell)?).moved(front).fired)
 }
 
-/// How many cells of a notice have fired.
-fn fired(notice: &Notice, front: &Front) -> Result<usize, AllocError>
-    requires { AreCellsOf front.now.book notice.now }
+/// How many cells have fired.
+fn count_fired(cells: &[Arc<WatchCell>], front: &Front) -> Result<usize, AllocError>
+    requires { AreCellsOf front.now.book (map arc_value cells.now) }
 {
     let mut count = 0;
-    for at in 0..notice.len() {
-        if fired_at(notice, at, front)? {
+    for cell in cells {
+        if has_moved(cell, front)? {
             count += 1;
         }
     }
     Ok(count)
 }
 
+/// How many cells of a notice have fired, of those that are listed.
+fn fired(notice: &Notice, front: &Front) -> Result<usize, AllocError>
+    requires { AreCellsOf front.now.book notice.now }
+{
+    count_fired(notice.cells(), front)
+}
+
 /// Whether a notice has the cell of this id.
 fn has(notice: &Notice, id: u64) -> bool {
-    for at in 0..notice.len() {
-        if notice.cell(at).is_some_and(|cell| cell.id() == id) {
-            return true;
-        }
-    }
-    false
+    notice.cells().iter().any(|cell| cell.id() == id)
 }
 
 /// How many cells of a notice have fired after its firing by this number.

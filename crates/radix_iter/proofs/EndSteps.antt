@@ -101,7 +101,7 @@ module _ (whole : Option Pair) (n : PlainNode) (on : IsFirstAt whole n) (o : Opt
 -- ---- down by the last edges
 
 -- a list up to its last item
-up_to_last : {A : Type 0} → (xs : List A) (x : A) → Some x ≡ slice_get xs (length xs - 1) → (front : List A) × (xs ≡ front ++ x ∷ [])
+pub up_to_last : {A : Type 0} → (xs : List A) (x : A) → Some x ≡ slice_get xs (length xs - 1) → (front : List A) × (xs ≡ front ++ x ∷ [])
 up_to_last [] x is = absurd cc
 up_to_last (y ∷ []) x is = ([], ap (λ z. z ∷ []) (let same : y ≡ x = cc in same))
 up_to_last (y ∷ z ∷ xs) x is =

@@ -2,6 +2,7 @@ pub mod EdgeSlices
 pub mod EndSteps
 pub mod KeyFilters
 pub mod KeySteps
+pub mod LevelSteps
 pub mod NodeCount
 pub mod RowsGathered
 pub mod SliceCompare

@@ -1,11 +1,11 @@
 -- Rows that are gathered edge by edge.
-use Rattle.std.proofs.Common.{◌≡◌, ◌<◌, ◌+◌, ◌++◌, ◌∷◌, ◌∙◌, ℕ, List, [], length, map, drop, get_or, Option, Some, None, refl, sym, ap, append_assoc}
+use Rattle.std.proofs.Common.{◌≡◌, ◌++◌, ◌∷◌, ◌∙◌, List, [], map, refl, sym, ap, append_assoc}
 use Rattle.std.specs.Prelude.{reverse}
-use Rattle.std.proofs.lemmas.List.{append-nil, drop_more, map-append, reverse-append}
+use Rattle.std.proofs.lemmas.List.{append-nil, map-append, reverse-append}
 use Rattle.mdb_datum.specs.Pairs.{rows_of}
 use Rattle.mdb_datum.specs.Row.{Fields, Pair}
-use Rattle.radix_node.specs.Node.{PlainNode, below, nodes_in, edge_node, plain_edge}
-use Rattle.radix_node.specs.Nodes.{Nodes, pairs_of_leaf, pairs_of_nodes, pairs_of}
+use Rattle.radix_node.specs.Node.{below, nodes_in, edge_node, plain_edge}
+use Rattle.radix_node.specs.Nodes.{pairs_of_leaf, pairs_of_nodes, pairs_of}
 use Rattle.radix_node.specs.declared.edge.Edge.{Edge}
 
 -- the rows, the last first
@@ -47,34 +47,3 @@ pairs_more (e ∷ es) ds =
 
 pub pairs_last : (es : List Edge) (e : Edge) → pairs_at_edges (es ++ e ∷ []) ≡ pairs_at_edges es ++ pairs_at_edge e
 pairs_last es e = pairs_more es (e ∷ []) ∙ ap (λ (z : List Pair). pairs_at_edges es ++ z) (pairs_one e [] ∙ append-nil (pairs_at_edge e))
-
--- a node's own row and those under it are added
-module _ (rows own all : List Fields) (n : PlainNode) where
-  pub all_rising : (under : Nodes) → under ≡ n.under → own ≡ rows ++ rows_of (pairs_of_leaf n.leaf) → all ≡ own ++ rows_of (pairs_of_nodes under) → all ≡ rows ++ rows_of (pairs_of (below n))
-  all_rising under is added_own added =
-      added ∙ (λ i. added_own i ++ rows_of (pairs_of_nodes (is i))) ∙ more rows (pairs_of_leaf n.leaf) (pairs_of_nodes n.under)
-
-  pub all_falling : (under : Nodes) → under ≡ n.under → own ≡ rows ++ back (pairs_of_nodes under) → all ≡ own ++ rows_of (pairs_of_leaf n.leaf) → all ≡ rows ++ back (pairs_of (below n))
-  all_falling under is added added_own =
-      added_own ∙ (λ i. (added ∙ ap (λ (ns : Nodes). rows ++ back (pairs_of_nodes ns)) is) i ++ one_back n.leaf i)
-      ∙ more_back rows (pairs_of_leaf n.leaf) (pairs_of_nodes n.under)
-    where
-      one_back : (leaf : Option Pair) → rows_of (pairs_of_leaf leaf) ≡ back (pairs_of_leaf leaf)
-      one_back None = refl
-      one_back (Some pair) = refl
-
--- one edge more
-module _ (whole rows then : List Fields) where
-  pub rising_step : (es : List Edge) (i : ℕ) (e : Edge) → i < length es → e ≡ get_or es i e → rows ++ rows_of (pairs_at_edges (drop i es)) ≡ whole → then ≡ rows ++ rows_of (pairs_at_edge e) → then ++ rows_of (pairs_at_edges (drop (i + 1) es)) ≡ whole
-  rising_step es i e lt read so_far added =
-      ap (λ (z : List Fields). z ++ rows_of (pairs_at_edges (drop (i + 1) es))) added
-      ∙ more rows (pairs_at_edge e) (pairs_at_edges (drop (i + 1) es))
-      ∙ ap (λ (z : List Pair). rows ++ rows_of z) (sym (pairs_one e (drop (i + 1) es)) ∙ ap pairs_at_edges (ap (λ (d : Edge). d ∷ drop (i + 1) es) read ∙ sym (drop_more es i e lt)))
-      ∙ so_far
-
-  pub falling_step : (rest : List Edge) (e : Edge) (es : List Edge) → es ≡ rest ++ e ∷ [] → rows ++ back (pairs_at_edges es) ≡ whole → then ≡ rows ++ back (pairs_at_edge e) → then ++ back (pairs_at_edges rest) ≡ whole
-  falling_step rest e es is so_far added =
-      ap (λ (z : List Fields). z ++ back (pairs_at_edges rest)) added
-      ∙ more_back rows (pairs_at_edges rest) (pairs_at_edge e)
-      ∙ ap (λ (z : List Pair). rows ++ back z) (sym (pairs_last rest e) ∙ ap pairs_at_edges (sym is))
-      ∙ so_far

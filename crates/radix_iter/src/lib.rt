@@ -2,15 +2,14 @@
 //! begin with a prefix, of those from a key on, and of those down from one; and the first and the
 //! last row under a prefix.
 //!
-//! A [`Walk`] keeps its rows, which share their memory with the tree's. To make it takes time and
-//! memory in the number of its rows and in the length of the prefix or key: of the tree's nodes
-//! only those on the way to the first row, and those that hold rows of the walk, are looked at.
-//! Each step takes a time that doesn't depend on the tree. [`first`] and [`last`] take no memory.
+//! A [`Walk`] borrows the tree and keeps the place where it stands. To make it takes time and memory
+//! in the length of the prefix or key alone. All steps together take time in the nodes that hold
+//! rows of the walk, and memory in the depth of the tree. [`first`], [`last`] and [`one`] take none.
 #![tactic(auto)]
 
 mod edges;
 mod ends;
-mod gather;
+mod level;
 mod lower_bound;
 mod prefixed;
 #[cfg(test)]
@@ -22,4 +21,4 @@ pub use ends::{first, last};
 pub use lower_bound::from_key;
 pub use prefixed::{ascend, descend};
 pub use upper_bound::down_from;
-pub use walk::Walk;
+pub use walk::{Walk, one};

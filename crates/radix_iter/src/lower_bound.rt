@@ -3,44 +3,50 @@ ghost use Rattle.std.specs.Prelude.{◌≡◌, ◌++◌, IfOk, reverse};
 ghost use Rattle.mdb_datum.specs.Pairs.{at_least, rows_of};
 ghost use Rattle.radix_node.specs.Cells.{plain_of};
 ghost use Rattle.radix_node.specs.Nodes.{pairs_of};
+ghost use Rattle.radix_iter.specs.inner.Held.{held_up};
 
 use crate::edges::child_and_higher;
-use crate::gather::{push_all_falling, push_falling, push_if_higher};
-use crate::walk::Walk;
-use mdb_datum::Row;
+use crate::level::{Level, push_edges, push_if_higher, push_up};
+use crate::walk::{Rest, Walk};
 use radix_node::Tree;
-use std::alloc::{AllocError, Global};
+use std::alloc::AllocError;
 
 /// A walk over the rows of keys that are at least `key`, in the order of the keys. It takes memory
-/// for the list of the rows, and is refused only for want of it, or of room to count one more owner
-/// of a row. It takes time in the length of the key and in the nodes that hold the rows.
-pub fn from_key(alloc: Global, tree: &Tree, key: &[u8]) -> Result<Walk, AllocError>
+/// for its place, in the length of the key, and is refused only for want of it. It takes time in the
+/// length of the key.
+pub fn from_key<'a>(tree: &'a Tree, key: &[u8]) -> Result<Walk<'a>, AllocError>
     ensures { IfOk result (λ w. w ≡ rows_of (at_least key.now (pairs_of (plain_of tree.now)))) }
 {
-    let mut rows = Vec::new(alloc);
-    push_at_least(&mut rows, tree, key)?;
-    Ok(Walk { rows })
+    let mut levels = Vec::new(tree.root().edges().allocator());
+    push_at_least(&mut levels, tree, key)?;
+    Ok(Walk {
+        rest: Rest::Rising(levels),
+    })
 }
 
-/// Adds the rows of keys that are at least `key`, the last first: on the way down along the key
+/// Adds the levels of keys that are at least `key`, the last first: on the way down along the key
 /// those beside it, which are higher, and at its end those under it.
-fn push_at_least(rows: &mut Vec<Row>, tree: &Tree, key: &[u8]) -> Result<(), AllocError>
-    ensures { IfOk result (λ _. rows.new.items
-        ≡ rows.old.items ++ reverse (rows_of (at_least key.now (pairs_of (plain_of tree.now))))) }
+fn push_at_least<'a>(
+    levels: &mut Vec<Level<'a>>,
+    tree: &'a Tree,
+    key: &[u8],
+) -> Result<(), AllocError>
+    ensures { IfOk result (λ _. held_up levels.new.items
+        ≡ held_up levels.old.items ++ reverse (rows_of (at_least key.now (pairs_of (plain_of tree.now))))) }
 {
     let mut node = tree.root();
     let mut rest = key;
     while let Some((first, after)) = rest.split_first() {
         let (child, higher) = child_and_higher(node, *first);
-        push_falling(rows, higher)?;
+        push_edges(levels, higher)?;
         let Some(child) = child else {
             return Ok(());
         };
         let Some(left) = child.strip_prefix(after) else {
-            return push_if_higher(rows, child, after);
+            return push_if_higher(levels, child, after);
         };
         node = child;
         rest = left;
     }
-    push_all_falling(rows, node)
+    push_up(levels, node)
 }

@@ -4,34 +4,37 @@ ghost use Rattle.mdb_datum.specs.Pairs.{rows_of, with_prefix};
 ghost use Rattle.radix_node.specs.Cells.{plain_of};
 ghost use Rattle.radix_node.specs.Nodes.{pairs_of};
 
-use crate::gather::{push_all_falling, push_all_rising};
-use crate::walk::Walk;
+use crate::level::{push_down, push_up};
+use crate::walk::{Rest, Walk};
 use radix_node::Tree;
-use std::alloc::{AllocError, Global};
+use std::alloc::AllocError;
 
 /// A walk over the rows whose keys begin with a prefix, in the order of the keys. It takes memory
-/// for the list of the rows, and is refused only for want of it, or of room to count one more owner
-/// of a row. It takes time in the length of the prefix and in the nodes under it.
-pub fn ascend(alloc: Global, tree: &Tree, prefix: &[u8]) -> Result<Walk, AllocError>
+/// for its place, and is refused only for want of it. It takes time in the length of the prefix.
+pub fn ascend<'a>(tree: &'a Tree, prefix: &[u8]) -> Result<Walk<'a>, AllocError>
     ensures { IfOk result
         (λ w. w ≡ rows_of (with_prefix prefix.now (pairs_of (plain_of tree.now)))) }
 {
-    let mut rows = Vec::new(alloc);
+    let mut levels = Vec::new(tree.root().edges().allocator());
     if let Some(node) = tree.seek(prefix) {
-        push_all_falling(&mut rows, node)?;
+        push_up(&mut levels, node)?;
     }
-    Ok(Walk { rows })
+    Ok(Walk {
+        rest: Rest::Rising(levels),
+    })
 }
 
 /// A walk over the rows whose keys begin with a prefix, against the order of the keys. It takes
 /// memory and time as [`ascend`] does.
-pub fn descend(alloc: Global, tree: &Tree, prefix: &[u8]) -> Result<Walk, AllocError>
+pub fn descend<'a>(tree: &'a Tree, prefix: &[u8]) -> Result<Walk<'a>, AllocError>
     ensures { IfOk result
         (λ w. w ≡ reverse (rows_of (with_prefix prefix.now (pairs_of (plain_of tree.now))))) }
 {
-    let mut rows = Vec::new(alloc);
+    let mut levels = Vec::new(tree.root().edges().allocator());
     if let Some(node) = tree.seek(prefix) {
-        push_all_rising(&mut rows, node)?;
+        push_down(&mut levels, node)?;
     }
-    Ok(Walk { rows })
+    Ok(Walk {
+        rest: Rest::Falling(levels),
+    })
 }

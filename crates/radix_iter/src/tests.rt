@@ -4,7 +4,7 @@ mod drawn;
 
 use crate::{Walk, ascend, descend, down_from, first, from_key, last};
 use built::{Entry, chain, empty_tree, entries_of, tree_of, tree_of_keys};
-use drawn::{drawn_entries, drawn_key};
+use drawn::{byte_entries, drawn_entries, drawn_key, key_after, key_before};
 use mdb_datum::{Datum, Row};
 use radix_node::Tree;
 use std::alloc::{AllocError, Global};
@@ -23,12 +23,12 @@ enum Kind {
 const KINDS: &[Kind] = &[Kind::Ascend, Kind::Descend, Kind::FromKey, Kind::DownFrom];
 
 /// The walk of a kind, by a prefix or from a bound.
-fn walk(alloc: Global, tree: &Tree, kind: Kind, key: &[u8]) -> Result<Walk, AllocError> {
+fn walk<'a>(tree: &'a Tree, kind: Kind, key: &[u8]) -> Result<Walk<'a>, AllocError> {
     match kind {
-        Kind::Ascend => ascend(alloc, tree, key),
-        Kind::Descend => descend(alloc, tree, key),
-        Kind::FromKey => from_key(alloc, tree, key),
-        Kind::DownFrom => down_from(alloc, tree, key),
+        Kind::Ascend => ascend(tree, key),
+        Kind::Descend => descend(tree, key),
+        Kind::FromKey => from_key(tree, key),
+        Kind::DownFrom => down_from(tree, key),
     }
 }
 
@@ -41,13 +41,13 @@ fn number_of(row: Option<&Row>) -> Option<i128> {
 }
 
 /// The number of the next row, and `None` at the end.
-fn next_number(walk: &mut Walk) -> Result<Option<i128>, AllocError> {
+fn next_number(walk: &mut Walk<'_>) -> Result<Option<i128>, AllocError> {
     let row = walk.next()?;
     Ok(number_of(row.as_ref()))
 }
 
 /// Whether the next rows of a walk are those of these numbers.
-fn gives_each(walk: &mut Walk, numbers: &[i128]) -> Result<bool, AllocError> {
+fn gives_each(walk: &mut Walk<'_>, numbers: &[i128]) -> Result<bool, AllocError> {
     for number in numbers {
         if next_number(walk)? != Some(*number) {
             return Ok(false);
@@ -57,7 +57,7 @@ fn gives_each(walk: &mut Walk, numbers: &[i128]) -> Result<bool, AllocError> {
 }
 
 /// Whether a walk gives the rows of these numbers, and then the end twice.
-fn gives(walk: &mut Walk, numbers: &[i128]) -> Result<bool, AllocError> {
+fn gives(walk: &mut Walk<'_>, numbers: &[i128]) -> Result<bool, AllocError> {
     if !gives_each(walk, numbers)? {
         return Ok(false);
     }
@@ -65,14 +65,8 @@ fn gives(walk: &mut Walk, numbers: &[i128]) -> Result<bool, AllocError> {
 }
 
 /// Whether the walk of a kind gives the rows of these numbers.
-fn walk_gives(
-    alloc: Global,
-    tree: &Tree,
-    kind: Kind,
-    key: &[u8],
-    numbers: &[i128],
-) -> Result<bool, AllocError> {
-    let mut walk = walk(alloc, tree, kind, key)?;
+fn walk_gives(tree: &Tree, kind: Kind, key: &[u8], numbers: &[i128]) -> Result<bool, AllocError> {
+    let mut walk = walk(tree, kind, key)?;
     gives(&mut walk, numbers)
 }
 
@@ -82,7 +76,7 @@ type Case = (Kind, &'static [u8], &'static [i128]);
 /// The place of the first case that is not so.
 fn first_wrong(alloc: Global, tree: &Tree, cases: &[Case]) -> Result<Option<usize>, AllocError> {
     for (at, (kind, key, numbers)) in cases.iter().enumerate() {
-        if !walk_gives(alloc, tree, *kind, key, numbers)? {
+        if !walk_gives(tree, *kind, key, numbers)? {
             return Ok(Some(at));
         }
     }
@@ -162,6 +156,47 @@ const WALKS: &[Case] = &[
 #[test]
 fn rows_come_in_the_order_of_their_keys(rt: HostRuntime) -> Result<(), Fail> {
     let wrong = first_wrong_of(rt.alloc(), STORED, WALKS)?;
+    assert!(rt; wrong.is_none(), "{wrong:?}");
+    Ok(())
+}
+
+/// Whether a walk gives half of the rows of these numbers, and the others after another walk has
+/// given all.
+fn goes_on(tree: &Tree, kind: Kind, key: &[u8], numbers: &[i128]) -> Result<bool, AllocError> {
+    let (half, others) = numbers.split_at(numbers.len() / 2);
+    let mut left = walk(tree, kind, key)?;
+    Ok(
+        gives_each(&mut left, half)?
+            && walk_gives(tree, kind, key, numbers)?
+            && gives(&mut left, others)?,
+    )
+}
+
+/// Whether a walk that is left half way gives the rows of the first half of these numbers.
+fn is_left(tree: &Tree, kind: Kind, key: &[u8], numbers: &[i128]) -> Result<bool, AllocError> {
+    let mut left = walk(tree, kind, key)?;
+    gives_each(&mut left, numbers.split_at(numbers.len() / 2).0)
+}
+
+/// The place of the first walk that is other after another one on the same tree, or half way.
+fn first_wrong_half(tree: &Tree, cases: &[Case]) -> Result<Option<usize>, AllocError> {
+    for (at, (kind, key, numbers)) in cases.iter().enumerate() {
+        if !is_left(tree, *kind, key, numbers)? || !goes_on(tree, *kind, key, numbers)? {
+            return Ok(Some(at));
+        }
+    }
+    Ok(None)
+}
+
+/// The same in the tree of the stored keys.
+fn first_wrong_half_stored(alloc: Global) -> Result<Option<usize>, AllocError> {
+    let tree = tree_of_keys(alloc, STORED)?;
+    first_wrong_half(&tree, WALKS)
+}
+
+#[test]
+fn a_walk_may_be_left_half_way_and_others_go_beside_it(rt: HostRuntime) -> Result<(), Fail> {
+    let wrong = first_wrong_half_stored(rt.alloc())?;
     assert!(rt; wrong.is_none(), "{wrong:?}");
     Ok(())
 }
@@ -270,7 +305,7 @@ fn is_filter(
 ) -> Result<bool, AllocError> {
     let numbers = numbers_of(alloc, entries, kind, asked)?;
     let ends = !matches!(kind, Kind::Ascend) || ends_are_of(tree, asked, &numbers);
-    Ok(walk_gives(alloc, tree, kind, asked, &numbers)? && ends)
+    Ok(walk_gives(tree, kind, asked, &numbers)? && ends)
 }
 
 /// Whether all walks give what the entries give.
@@ -344,6 +379,88 @@ fn bounds_hold_between_keys_and_at_prefixes_of_them(rt: HostRuntime) -> Result<(
     Ok(())
 }
 
+/// The same in the tree of all keys of one byte, which are edges of one node.
+fn first_wrong_wide(alloc: Global) -> Result<Option<&'static [u8]>, AllocError> {
+    let entries = byte_entries(alloc)?;
+    first_wrong_bound_of(alloc, &entries)
+}
+
+#[test]
+fn walks_go_through_a_node_with_256_edges(rt: HostRuntime) -> Result<(), Fail> {
+    let wrong = first_wrong_wide(rt.alloc())?;
+    assert!(rt; wrong.is_none(), "{wrong:?}");
+    Ok(())
+}
+
+/// Whether all walks from just before a key give what the entries give.
+fn are_filters_before(
+    alloc: Global,
+    tree: &Tree,
+    entries: &[Entry],
+    key: &[u8],
+) -> Result<bool, AllocError> {
+    let bound = key_before(alloc, key)?;
+    are_filters(alloc, tree, entries, &bound)
+}
+
+/// Whether all walks from just after a key give what the entries give.
+fn are_filters_after(
+    alloc: Global,
+    tree: &Tree,
+    entries: &[Entry],
+    key: &[u8],
+) -> Result<bool, AllocError> {
+    let bound = key_after(alloc, key)?;
+    are_filters(alloc, tree, entries, &bound)
+}
+
+/// The place of the first key at, before or after which a walk gives other rows.
+fn first_wrong_key(
+    alloc: Global,
+    tree: &Tree,
+    entries: &[Entry],
+) -> Result<Option<usize>, AllocError> {
+    for (at, entry) in entries.iter().enumerate() {
+        if !are_filters(alloc, tree, entries, &entry.key)?
+            || !are_filters_before(alloc, tree, entries, &entry.key)?
+            || !are_filters_after(alloc, tree, entries, &entry.key)?
+        {
+            return Ok(Some(at));
+        }
+    }
+    Ok(None)
+}
+
+/// The same in the tree of entries.
+fn first_wrong_key_of(alloc: Global, entries: &[Entry]) -> Result<Option<usize>, AllocError> {
+    let tree = tree_of(alloc, entries)?;
+    first_wrong_key(alloc, &tree, entries)
+}
+
+/// The same in a drawn tree.
+fn first_wrong_key_drawn(alloc: Global, seed: &mut u32) -> Result<Option<usize>, AllocError> {
+    let entries = drawn_entries(alloc, 16, seed)?;
+    first_wrong_key_of(alloc, &entries)
+}
+
+/// The first of 20 drawn trees in which a walk gives other rows, and the place of the key.
+fn first_wrong_tree(alloc: Global) -> Result<Option<(u8, usize)>, AllocError> {
+    let mut seed = 2;
+    for tree in 0..20 {
+        if let Some(at) = first_wrong_key_drawn(alloc, &mut seed)? {
+            return Ok(Some((tree, at)));
+        }
+    }
+    Ok(None)
+}
+
+#[test]
+fn bounds_hold_at_before_and_after_each_key_of_drawn_trees(rt: HostRuntime) -> Result<(), Fail> {
+    let wrong = first_wrong_tree(rt.alloc())?;
+    assert!(rt; wrong.is_none(), "{wrong:?}");
+    Ok(())
+}
+
 /// Whether all walks from a drawn key or prefix give what the entries give.
 fn are_filters_at_a_draw(
     alloc: Global,
@@ -386,7 +503,7 @@ fn first_wrong_of_many(
 /// The same of drawn entries.
 fn first_wrong_drawn(alloc: Global) -> Result<Option<u16>, Fail> {
     let mut seed = 1;
-    let entries = drawn_entries(alloc, &mut seed)?;
+    let entries = drawn_entries(alloc, 160, &mut seed)?;
     first_wrong_of_many(alloc, &entries, &mut seed)
 }
 
@@ -418,10 +535,7 @@ fn both_give(
     bound: &[u8],
     numbers: &[i128],
 ) -> Result<bool, AllocError> {
-    Ok(
-        walk_gives(alloc, tree, prefixed, b"", numbers)?
-            && walk_gives(alloc, tree, bounded, bound, numbers)?,
-    )
+    Ok(walk_gives(tree, prefixed, b"", numbers)? && walk_gives(tree, bounded, bound, numbers)?)
 }
 
 /// Whether the two walks in order give the rows of all lengths.
@@ -474,15 +588,5 @@ fn goes_deep_elsewhere<R: Threads>(rt: &R, alloc: Global, tree: Tree) -> Result<
 fn walks_go_deep_in_a_thread(rt: HostRuntime) -> Result<(), Fail> {
     let tree = chain(rt.alloc(), &LONGEST)?;
     assert!(rt; goes_deep_elsewhere(&rt, rt.alloc(), tree)?);
-    Ok(())
-}
-
-/// Takes what threads may share.
-fn assert_shareable<T: Send + Sync>(_value: &T) {}
-
-#[test]
-fn threads_may_share_a_walk(rt: HostRuntime) -> Result<(), Fail> {
-    let tree = empty_tree(rt.alloc())?;
-    assert_shareable(&ascend(rt.alloc(), &tree, b"")?);
     Ok(())
 }

@@ -1,20 +1,31 @@
 //! A walk.
-ghost use Rattle.std.specs.Prelude.{◌≡◌, IfOk, IsOk, OnErr, OnOk, drop, length};
+ghost use Rattle.std.specs.Prelude.{◌≡◌, IfOk, OnErr, OnOk, drop, option_to_list};
 ghost use Rattle.mdb_datum.specs.Pairs.{first_item};
 
+use crate::level::{Level, next_falling, next_rising};
 use mdb_datum::Row;
+use radix_node::Tree;
 use std::alloc::AllocError;
 use std::marker::Model;
 
-/// A walk, seen as the rows that are still to come.
+/// What a walk has yet to give: one row at most, or the rows of levels, the last of which comes
+/// first, in the order of the keys or against it.
 #[derive(Drop)]
-pub struct Walk {
-    // The last comes first, so that a step takes it off the end.
-    pub(crate) rows: Vec<Row>,
+pub(crate) enum Rest<'a> {
+    One(Option<Row>),
+    Rising(Vec<Level<'a>>),
+    Falling(Vec<Level<'a>>),
 }
 
-impl Model for Walk {
-    ghost use Rattle.std.specs.Prelude.{List, reverse};
+/// A walk over a tree that it borrows, seen as the rows that are still to come. It keeps the place
+/// where it stands, and no row.
+#[derive(Drop)]
+pub struct Walk<'a> {
+    pub(crate) rest: Rest<'a>,
+}
+
+impl<'a> Model for Walk<'a> {
+    ghost use Rattle.std.specs.Prelude.{List};
     ghost use Rattle.std.specs.Coded.{coded_list};
     ghost use Rattle.mdb_datum.specs.Row.{Fields};
     ghost use Rattle.mdb_datum.specs.inner.Stored.{fields_code};
@@ -23,27 +34,33 @@ impl Model for Walk {
 
     ghost coded = { coded_list fields_code };
 
-    ghost view = { λ w. reverse w.rows.items };
+    ghost use Rattle.radix_iter.specs.inner.Rests.{rest_rows};
+
+    ghost view = { λ w. rest_rows w.rest };
 }
 
-impl Walk {
-    /// How many rows are still to come.
-    pub fn len(&self) -> usize
-        ensures { result ≡ length self.now }
-    {
-        self.rows.len()
+/// A walk over one row of a tree, or over none. It takes no memory.
+pub fn one<'a>(_tree: &'a Tree, row: Option<Row>) -> Walk<'a>
+    ensures { result ≡ option_to_list row }
+{
+    Walk {
+        rest: Rest::One(row),
     }
+}
 
-    /// The next row. `None` comes exactly at the end, and from then on. It takes a time that
-    /// doesn't depend on the tree, and no memory.
+impl<'a> Walk<'a> {
+    /// The next row. `None` comes exactly at the end, and from then on. It takes memory where the
+    /// walk goes down further than before, and is refused only for want of it, or of room to count
+    /// one more owner of the row; the walk is then as it was.
     pub fn next(&mut self) -> Result<Option<Row>, AllocError>
         ensures next { IfOk result (λ r. r ≡ first_item self.old) }
         ensures rest { OnOk result (self.new ≡ drop 1 self.old) }
-
-        // A walk keeps its rows. One that made them as it goes could want memory for one.
-        ensures kept { IsOk result }
         ensures unchanged { OnErr result (self.new ≡ self.old) }
     {
-        Ok(self.rows.pop())
+        match &mut self.rest {
+            Rest::One(row) => Ok(row.take()),
+            Rest::Rising(levels) => next_rising(levels),
+            Rest::Falling(levels) => next_falling(levels),
+        }
     }
 }

@@ -79,7 +79,7 @@ BareNode n = bare (cell_node n) ≡ plain_node n
 abbrev BareRef : NodeRef → Type 0
 BareRef r = bare (cell_ref r) ≡ node_of r
 
-bare_cells : (ns : List CellNode) → plain_nodes (cells_in ns) ≡ nodes_in (map bare ns)
+pub bare_cells : (ns : List CellNode) → plain_nodes (cells_in ns) ≡ nodes_in (map bare ns)
 bare_cells [] = refl
 bare_cells (n ∷ ns) = ap (node n.prefix (plain_leaf n.leaf) (plain_nodes n.under)) (bare_cells ns)
 
@@ -140,3 +140,6 @@ plain_under n = sym (ap below (bare_node n))
 
 pub same_prefix : (n : Node) → (plain_node n).prefix ≡ (cell_node n).prefix
 same_prefix n = ap (λ (p : PlainNode). p.prefix) (sym (bare_node n))
+
+pub out_cell_prefix : (n : Node) → (out-Node n).prefix.items ≡ (cell_node n).prefix
+out_cell_prefix n = sym (ap (λ (p : CellNode). p.prefix) (cell_node_out n))

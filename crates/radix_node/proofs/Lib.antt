@@ -11,6 +11,7 @@ pub mod KeysRise
 pub mod KeysUnder
 pub mod LeafCount
 pub mod LeafWatch
+pub mod Lent
 pub mod Levels
 pub mod LongestPrefix
 pub mod Lookup

@@ -1,18 +1,21 @@
 -- The watches of a key and of a prefix hold between two trees in which an id tells its piece.
-use Rattle.std.proofs.Common.{◌≡◌, inl, inr, ◌∙◌, Some, None, sym, ap, subst}
+use Rattle.std.proofs.Common.{◌≡◌, inl, inr, ◌∙◌, Option, Some, None, refl, sym, ap, subst}
 use Rattle.mdb_datum.specs.Bytes.{Bytes}
 use Rattle.watch_word.specs.Logs.{Cell}
-use Rattle.radix_node.specs.Cells.{CellLeaf, CellTree, plain_leaf, plain_of}
+use Rattle.radix_node.specs.Cells.{CellLeaf, CellTree, a_leaf, a_node, cells_of, pieces_of, plain_leaf, plain_of}
 use Rattle.radix_node.specs.Nodes.{pairs_of}
 use Rattle.radix_node.specs.Pairs.{find, with_prefix}
+use Rattle.radix_node.specs.Paths.{Has}
 use Rattle.radix_node.specs.Shape.{HasShape}
 use Rattle.radix_node.specs.Watches.{Fires, TellTheSame, HoldsGet, HoldsSeek, WatchesHold, leaf_cell_or, get_watch, seek_watch}
 use Rattle.radix_node.specs.inner.Walk.{End, walk_tree, end_leaf, end_pairs}
 use Rattle.radix_node.proofs.LeafWatch.{leaf_with_end}
 use Rattle.radix_node.proofs.Lookup.{row_of_pair}
+use Rattle.radix_node.proofs.Members.{has_cell}
 use Rattle.radix_node.proofs.NearPlaces.{near_end_cell}
 use Rattle.radix_node.proofs.PrefixSeek.{with_prefix_plain}
 use Rattle.radix_node.proofs.TwoTrees.{end_cell, holds_at, walk_or_fires}
+use Rattle.radix_node.proofs.WalkedTree.{end_piece, leaf_found}
 use Rattle.radix_node.proofs.Walks.{get_end, scan_end}
 use Rattle.radix_node.proofs.WholeTree.{find_plain}
 
@@ -67,3 +70,19 @@ module _ (old new : CellTree) (s : HasShape (plain_of old)) (t : HasShape (plain
 
   pub watches_hold : WatchesHold old new
   watches_hold = record { get = holds_get; seek = holds_seek }
+
+-- ---- a watch is a cell of its tree
+
+pub seek_watch_has : (t : CellTree) → HasShape (plain_of t) → (prefix : Bytes) → Has (seek_watch prefix t) (cells_of t)
+seek_watch_has t s prefix =
+    subst (λ (c : Cell). Has c (cells_of t)) (sym (seek_watch_end t s prefix)) (has_cell (a_node (walk_tree prefix t).node) (pieces_of t) (end_piece t s prefix))
+
+pub get_watch_has : (t : CellTree) → HasShape (plain_of t) → (key : Bytes) → Has (get_watch key t) (cells_of t)
+get_watch_has t s key =
+    subst (λ (c : Cell). Has c (cells_of t)) (sym (get_watch_end t s key)) (by_leaf (end_leaf (walk_tree key t)) refl)
+  where
+    by_leaf : (o : Option CellLeaf) → end_leaf (walk_tree key t) ≡ o → Has (end_cell (walk_tree key t)) (cells_of t)
+    by_leaf None e =
+        subst (λ (o : Option CellLeaf). Has (leaf_cell_or (walk_tree key t).node.cell o) (cells_of t)) (sym e) (has_cell (a_node (walk_tree key t).node) (pieces_of t) (end_piece t s key))
+    by_leaf (Some l) e =
+        subst (λ (o : Option CellLeaf). Has (leaf_cell_or (walk_tree key t).node.cell o) (cells_of t)) (sym e) (has_cell (a_leaf l) (pieces_of t) (leaf_found t s key l e).1)

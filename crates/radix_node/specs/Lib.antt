@@ -3,6 +3,7 @@ pub mod Cells
 pub mod Edges
 pub mod Ids
 pub mod Left
+pub mod Lending
 pub mod Longest
 pub mod Node
 pub mod Nodes

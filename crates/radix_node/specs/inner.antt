@@ -1,4 +1,5 @@
 pub mod Descent
+pub mod Listed
 pub mod OwnLeft
 pub mod Seek
 pub mod Siblings

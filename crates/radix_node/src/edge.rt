@@ -1,6 +1,8 @@
 //! An edge of a node.
 ghost use Rattle.std.specs.Prelude.{◌≡◌, IfOk};
+ghost use Rattle.std.specs.Borrow.{sem};
 ghost use Rattle.radix_node.specs.CellNode.{cell_edge, cell_node, cell_ref};
+ghost use Rattle.radix_node.specs.Lending.{LendsRef};
 ghost use Rattle.radix_node.specs.Node.{plain_edge, plain_node, node_of};
 
 use crate::node::Node;
@@ -40,6 +42,15 @@ impl Edge {
         ensures cells { let e = cell_edge self.now in cell_node result.now ≡ e.node }
     {
         self.node.node()
+    }
+
+    /// The owner of the node, to be changed.
+    pub fn node_mut(&mut self) -> &mut NodeRef
+        ensures* writes_back { sem 𝓛 (LendsRef self.entry result) }
+        ensures node { let e = plain_edge self.old in node_of result.now ≡ e.node }
+        ensures cells { let e = cell_edge self.old in cell_ref result.now ≡ e.node }
+    {
+        &mut self.node
     }
 
     /// A second owner of the same node, at an edge of the same byte. It takes no memory.

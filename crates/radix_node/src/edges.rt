@@ -1,10 +1,12 @@
 //! The edges of a node.
 ghost use Rattle.std.specs.Prelude.{◌≡◌, ◌++◌, ◌∷◌, ◌+◌, ◌≤◌, ◌<◌, [], IfOk, IfErr, OnOk, OnErr};
 ghost use Rattle.std.specs.Prelude.{Some, Ok, Err, length, take, drop, map, option_map};
+ghost use Rattle.std.specs.Borrow.{sem};
 ghost use Rattle.std.specs.Slice.Iter.{iter_rest};
 ghost use Rattle.std.specs.List.{slice_get};
 ghost use Rattle.radix_node.specs.CellNode.{cell_edges, cell_put, led_node};
 ghost use Rattle.radix_node.specs.Edges.{EdgesRise, place_of, edge_put};
+ghost use Rattle.radix_node.specs.Lending.{LendsEdge};
 ghost use Rattle.radix_node.specs.Node.{nodes_in, edges_of, edge_node, edge_of, plain_edge};
 
 use crate::edge::Edge;
@@ -88,6 +90,31 @@ impl Edges {
             Ok(at) => Ok((at, &self.edges[at])),
             Err(at) => Err(at),
         }
+    }
+
+    /// The edge at a place, to be changed.
+    pub fn edge_mut(&mut self, at: usize) -> &mut Edge
+        requires { at < length (edges_of self.old) }
+        ensures* writes_back { sem 𝓛 (LendsEdge self.entry at result) }
+        ensures edge { slice_get (edges_of self.old) at ≡ Some (edge_node result.now) }
+        ensures cells { slice_get (cell_edges self.old) at ≡ Some (led_node result.now) }
+    {
+        &mut self.edges[at]
+    }
+
+    /// Puts an edge at a place, before those from there on. It takes memory where there is no room
+    /// for one edge more, and only for want of it, it is refused.
+    pub fn insert(&mut self, at: usize, edge: Edge) -> Result<(), AllocError>
+        requires { at ≤ length (edges_of self.old) }
+        ensures edges { OnOk result (edges_of self.new
+            ≡ take at (edges_of self.old) ++ edge_node edge ∷ drop at (edges_of self.old)) }
+        ensures cells { OnOk result (cell_edges self.new
+            ≡ take at (cell_edges self.old) ++ led_node edge ∷ drop at (cell_edges self.old)) }
+        ensures unchanged { OnErr result (edges_of self.new ≡ edges_of self.old) }
+        ensures unchanged_cells { OnErr result (cell_edges self.new ≡ cell_edges self.old) }
+    {
+        self.edges.insert(at, edge)?;
+        Ok(())
     }
 
     /// Puts an edge in the place of its label, and gives the one that was there. It takes memory

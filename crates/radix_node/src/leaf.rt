@@ -5,10 +5,11 @@ ghost use Rattle.std.specs.Arc.{arc_value};
 use mdb_datum::Row;
 use std::alloc::{AllocError, Global};
 use std::marker::Model;
+use std::mem;
 use std::sync::Arc;
 use watch_word::WatchCell;
 
-/// A key and the row under it, with a cell, shared and never changed.
+/// A key and the row under it, with a cell, shared, and then never changed.
 #[derive(Drop)]
 pub struct Leaf {
     key: Vec<u8>,
@@ -60,6 +61,15 @@ impl Leaf {
         ensures { let pair = self.now.pair in result.now ≡ pair.1 }
     {
         &self.row
+    }
+
+    /// Puts another row in the place of the one that is there, and gives that.
+    pub fn put_row(&mut self, row: Row) -> Row
+        ensures row { let pair = self.old.pair in result ≡ pair.1 }
+        ensures leaf { let pair = self.old.pair in
+            self.new ≡ record { cell = self.old.cell; pair = (pair.0, row) } }
+    {
+        mem::replace(&mut self.row, row)
     }
 
     /// The cell.

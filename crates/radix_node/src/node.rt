@@ -1,6 +1,7 @@
 //! Nodes.
 mod cells;
 mod copies;
+mod owned;
 
 ghost use Rattle.std.specs.Prelude.{◌≡◌, ◌==◌, ◌<◌, ◌^◌, IfOk, length, option_map, option_copied};
 ghost use Rattle.std.specs.List.{take_while, zip};
@@ -15,15 +16,14 @@ ghost use Rattle.radix_node.specs.Edges.{EdgesRise};
 use crate::edges::Edges;
 use crate::leaf::Leaf;
 use crate::node_ref::NodeRef;
-pub use cells::push_cell;
 use smallvec::SmallVec;
 use std::alloc::{AllocError, Global};
 use std::sync::Arc;
 use watch_word::WatchCell;
 
-/// A node of the tree, which never changes once it is made: its prefix, which are the bytes that
-/// come after the label of the edge to it, perhaps a leaf, the edges to the nodes under it, and a
-/// cell. A prefix of up to 16 bytes lies in the node itself.
+/// A node of the tree, which never changes once it has two owners: its prefix, which are the bytes
+/// that come after the label of the edge to it, perhaps a leaf, the edges to the nodes under it, and
+/// a cell. A prefix of up to 16 bytes lies in the node itself.
 #[cycle(node)]
 #[derive(Drop)]
 pub struct Node {

@@ -1,13 +1,15 @@
 //! Shared owners of nodes.
-ghost use Rattle.std.specs.Prelude.{◌≡◌, IfOk};
+ghost use Rattle.std.specs.Prelude.{◌≡◌, IfOk, IfSome};
+ghost use Rattle.std.specs.Borrow.{sem};
 ghost use Rattle.radix_node.specs.CellNode.{cell_node, cell_ref};
+ghost use Rattle.radix_node.specs.Lending.{LendsNode};
 ghost use Rattle.radix_node.specs.Node.{plain_node, node_of};
 
 use crate::node::Node;
 use std::alloc::{AllocError, Global};
 use std::sync::Arc;
 
-/// A shared owner of a node, which never changes.
+/// An owner of a node. A node that has other owners never changes.
 #[cycle(node)]
 #[derive(Drop)]
 pub struct NodeRef {
@@ -22,6 +24,15 @@ impl NodeRef {
         ensures cells { cell_node result.now ≡ cell_ref self.now }
     {
         &self.node
+    }
+
+    /// The node, to be changed, if this is its only owner.
+    pub fn get_mut(&mut self) -> Option<&mut Node>
+        ensures* writes_back { sem 𝓛 (LendsNode self.entry result) }
+        ensures node { IfSome result (λ n. plain_node n.now ≡ node_of self.old) }
+        ensures cells { IfSome result (λ n. cell_node n.now ≡ cell_ref self.old) }
+    {
+        Arc::get_mut(&mut self.node)
     }
 
     /// A second owner of the same node. It takes no memory. `AllocError` comes where the kit's

@@ -23,7 +23,8 @@ use std::alloc::{AllocError, Global};
 use std::marker::Model;
 use watch_word::Front;
 
-/// A map from keys to rows, in the byte order of the keys, as shared nodes. It never changes.
+/// A map from keys to rows, in the byte order of the keys, as shared nodes. It never
+/// changes; whoever owns one may take it apart by [`Tree::into_root`].
 /// Contracts see it as its nodes with their cells, `CellTree`; without the cells it is `plain_of`
 /// the tree, whose pairs are the map.
 #[derive(Drop)]
@@ -93,6 +94,18 @@ impl Tree {
         ensures apart { AreApart self.now }
     {
         self.root.node()
+    }
+
+    /// The root alone.
+    pub fn into_root(self) -> NodeRef
+        ensures root { below (node_of result) ≡ plain_of self }
+        ensures cells { tree_at (cell_ref result) ≡ self }
+        ensures rooted { let n = node_of result in n.prefix ≡ [] }
+        ensures shape { HasShape (plain_of self) }
+        ensures apart { AreApart self }
+    {
+        let Tree { root, len: _ } = self;
+        root
     }
 
     /// How many keys there are.

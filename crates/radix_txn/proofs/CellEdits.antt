@@ -7,7 +7,7 @@ use Rattle.radix_node.specs.Cells.{CellLeaf, CellNode, CellNodes, no_cells, Piec
 use Rattle.radix_node.specs.Left.{leave, leave_leaf}
 use Rattle.radix_txn.specs.inner.Pieces.{led, inside_of, inside, whole}
 use Rattle.radix_txn.specs.inner.Steps.{IsStep, IsNext}
-use Rattle.radix_txn.proofs.Steps.{at, SameBag, bag_is, bag_swap, bag_under, bag_then, bag_front, step_same, step_then, step_bag, step_from, step_beside, step_made, step_gone}
+use Rattle.radix_txn.proofs.Steps.{at, SameBag, bag_is, bag_swap, bag_under, bag_then, bag_front, step_same, step_then, step_bag, step_from, step_beside, step_made, step_gone, step_held}
 
 -- ---- nodes side by side
 
@@ -160,3 +160,20 @@ step_settled P first m leaf under n0 l0 begun id f g =
 pub step_nothing : (P : Cell → Type 0) (first : ℕ) (leaf : Option CellLeaf) (under : CellNodes) (n0 : ℕ) (l0 : List Cell) → first ≤ n0 → leaf ≡ None → under ≡ no_cells → IsStep P first (at (inside_of leaf under) n0 l0) (at (node_pieces (cells_in [])) n0 l0)
 step_nothing P first leaf under n0 l0 begun f g =
     subst (λ (zs : List Piece). IsStep P first (at zs n0 l0) (at [] n0 l0)) (λ i. inside_of (sym f i) (sym g i)) (step_same P first (at [] n0 l0) begun)
+
+-- ---- a node that keeps its cell
+
+-- with other pieces in it
+module _ (P : Cell → Type 0) (first : ℕ) (bytes : Bytes) (n m : CellNode) (loose : List Piece) (n0 n1 : ℕ) (l0 l1 : List Cell) (same : m.cell ≡ n.cell) (low : let c = n.cell in first ≤ c.id) where
+  pub step_kept : IsStep P first (at (loose ++ inside n) n0 l0) (at (inside m) n1 l1) → IsStep P first (at (loose ++ whole (led bytes n)) n0 l0) (at (whole (led bytes m)) n1 l1)
+  step_kept s =
+      let top = a_node (led bytes n) in
+      let new = inside m in
+      let to : SameBag (loose ++ whole (led bytes n)) ((loose ++ inside n) ++ top ∷ []) =
+      bag_then _ _ _ (bag_under loose (top ∷ inside n) (inside n ++ top ∷ []) (bag_swap (top ∷ []) (inside n))) (bag_is _ _ (sym (append_assoc loose (inside n) (top ∷ [])))) in
+      let begun = s.begun in
+      let later = s.later in
+      step_from P first _ ((loose ++ inside n) ++ top ∷ []) n0 l0 (at (whole (led bytes m)) n1 l1) to
+      (step_then P first
+      (step_bag P first (at ((loose ++ inside n) ++ top ∷ []) n0 l0) (at (new ++ top ∷ []) n1 l1) (step_beside P first (at (loose ++ inside n) n0 l0) (at new n1 l1) s (top ∷ [])) (top ∷ new) (bag_swap new (top ∷ [])))
+      (step_held P first top (a_node (led bytes m)) new n1 l1 (omega (arith, begun, later)) same low))

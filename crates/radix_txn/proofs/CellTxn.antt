@@ -1,20 +1,20 @@
 -- A transaction's trees, from write to write.
-use Rattle.std.proofs.Common.{◌≡◌, ◌+◌, ◌<◌, ◌≤◌, inl, inr, ◌∷◌, ◌∙◌, ℕ, Bool, true, false, cond, List, [], refl, sym, ap, subst, arith}
+use Rattle.std.proofs.Common.{◌≡◌, ◌+◌, ◌<◌, ◌≤◌, length, inl, inr, ◌∷◌, ◌∙◌, ℕ, Bool, true, false, cond, List, [], refl, sym, ap, subst, arith}
 use Rattle.watch_word.specs.Logs.{Cell, Log}
 use Rattle.std.specs.Prelude.{nat_eq}
 use Rattle.std.proofs.lemmas.Bool.{eqb-true, false_from_ne_true}
 use Rattle.radix_node.specs.Cells.{AreApart, AreBelow, AreOf, CellTree, Piece, a_node, cells_of, count, piece_cell, pieces_of, plain_of, root_of}
-use Rattle.radix_node.specs.Ids.{Counter}
+use Rattle.radix_node.specs.Ids.{Book, Counter}
 use Rattle.radix_node.specs.Shape.{HasShape}
-use Rattle.radix_node.specs.Watches.{WatchesHold}
-use Rattle.radix_txn.specs.Notice.{IsBetween, IsDrawn, IsNotice, IsOpened}
+use Rattle.radix_node.specs.Watches.{TellTheSame, WatchesHold}
+use Rattle.radix_txn.specs.Notice.{IsBetween, IsDrawn, IsNotice, IsOpened, IsTold}
 use Rattle.radix_node.specs.Paths.{Has}
 use Rattle.radix_node.proofs.Members.{cell_piece, has_cell}
 use Rattle.radix_node.proofs.OneBook.{all_are, each_is}
 use Rattle.radix_txn.specs.inner.Kept.{IsChanged, IsWritten}
 use Rattle.radix_txn.specs.inner.Steps.{IsNew, IsOnward, IsStep, Ledger, Steps, Tally, tally}
 use Rattle.radix_txn.proofs.Steps.{at, count_other, drawn_after, drawn_before, drawn_between, lt_or_le, step_same, step_then, step_weaker}
-use Rattle.radix_txn.proofs.TxnTrees.{counted, held, notice, opened}
+use Rattle.radix_txn.proofs.TxnTrees.{agree, counted, held, notice, opened}
 
 -- an id in the tree is below the next one
 below_next : (n : ℕ) (t : CellTree) (x : Piece) → AreBelow n t → Has x (pieces_of t) → (piece_cell x).id < n
@@ -34,7 +34,10 @@ rebased P first k n a t gone s up below = record {
   later = up;
   made = λ x h. elim (s.made x h) [
     | inl old ↦ inl old
-    | inr m ↦ inr (record { low = m.low; high = below_next n t x below h; holds = m.holds })
+    | inr more ↦ elim more [
+      | inl m ↦ inr (inl (record { low = m.low; high = below_next n t x below h; holds = m.holds }))
+      | inr k ↦ inr (inr k)
+    ]
   ];
   few = λ i. elim (lt_or_le i n) [
     | inr high ↦ let none = below i high in omega (arith, none)
@@ -49,6 +52,11 @@ rebased P first k n a t gone s up below = record {
   kept = s.kept;
   gone = s.gone;
 }
+
+-- the tree that a transaction began with is of one book
+one_book : (b : Bool) (first : ℕ) (start tree : CellTree) (gone : List Cell) (book : Book) → IsWritten b first start tree gone → AreOf book tree → (k : Book) × AreOf k start
+one_book true first start tree gone book w of = (w.book, w.of)
+one_book false first start tree gone book w of = (book, subst (AreOf book) (sym w.0) of)
 
 -- ids of a changed tree are at least the first one drawn
 pub first_low : (b : Bool) (first : ℕ) (start tree : CellTree) (gone : List Cell) (next : ℕ) → IsWritten b first start tree gone → AreBelow next tree → b ≡ true → first ≤ next
@@ -85,7 +93,10 @@ of_step t u a b step onward of = all_are b.log.book (cells_of u) each
         let x = cell_piece c (pieces_of u) h in
         elim (step.made x.0 x.1) [
           | inl old ↦ each_is a.log.book (cells_of t) of c (subst (λ (d : Cell). Has d (cells_of t)) x.2 (has_cell x.0 (pieces_of t) old)) ∙ same
-          | inr m ↦ ap (λ (d : Cell). d.book) (sym x.2) ∙ m.holds.0 ∙ same
+          | inr more ↦ elim more [
+            | inl m ↦ ap (λ (d : Cell). d.book) (sym x.2) ∙ m.holds.0 ∙ same
+            | inr k ↦ each_is a.log.book (cells_of t) of c (subst (λ (d : Cell). Has d (cells_of t)) x.2 k.there) ∙ same
+          ]
         ]
 
 -- a new cell was drawn in between
@@ -94,13 +105,16 @@ drawn_step t u a b step c h =
     let x = cell_piece c (pieces_of u) h in
     elim (step.made x.0 x.1) [
       | inl old ↦ inl (subst (λ (d : Cell). Has d (cells_of t)) x.2 (has_cell x.0 (pieces_of t) old))
-      | inr m ↦ inr (subst (λ (d : Cell). IsBetween a.log (record { book = a.log.book; next = a.next }) (record { book = b.log.book; next = b.next }) d) x.2
-          (record { low = m.low; high = m.high; book = m.holds.0; fired = m.holds.1 }))
+      | inr more ↦ elim more [
+        | inl m ↦ inr (subst (λ (d : Cell). IsBetween a.log (record { book = a.log.book; next = a.next }) (record { book = b.log.book; next = b.next }) d) x.2
+            (record { low = m.low; high = m.high; book = m.holds.0; fired = m.holds.1 }))
+        | inr k ↦ inl (subst (λ (d : Cell). Has d (cells_of t)) x.2 k.there)
+      ]
     ]
 
-module _ (b : Bool) (first : ℕ) (start tree new : CellTree) (gone : List Cell) (l d : Ledger) (w : IsWritten b first start tree gone) (below_start : AreBelow l.next start) (below_tree : AreBelow l.next tree) (is_first : l.first ≡ cond b first l.next) (is_left : l.left ≡ gone) (step : Steps (pieces_of tree) l (pieces_of new) d) (onward : IsOnward l d) where
+module _ (b : Bool) (first : ℕ) (start tree new : CellTree) (gone : List Cell) (l d : Ledger) (w : IsWritten b first start tree gone) (below_start : AreBelow l.next start) (below_tree : AreBelow l.next tree) (is_first : l.first ≡ cond b first l.next) (is_left : l.left ≡ gone) (step : Steps (pieces_of tree) l (pieces_of new) d) (onward : IsOnward l d) (one : (k : Book) × AreOf k start) where
   -- where it has ended
-  pub changed : l.next ≤ new.cell.id → IsChanged d.first start new d.left
+  pub changed : l.first ≤ new.cell.id → IsChanged d.first start new d.left
   changed fresh =
       let f = cond b first l.next in
       let at_first = begins b first start tree gone l.next w below_start below_tree in
@@ -114,7 +128,9 @@ module _ (b : Bool) (first : ℕ) (start tree new : CellTree) (gone : List Cell)
         below = at_first.below;
         next = d.next;
         step = all;
-        root = (let p = rest.begun in omega (arith, p, fresh));
+        root = (omega (arith, is_first, fresh));
+        book = one.0;
+        of = one.1;
       })
 
   pub below_new : AreBelow d.next new
@@ -135,16 +151,17 @@ pub record Ended (start tree new : CellTree) (l d : Ledger) : Type 0 where
   pub of : AreOf d.log.book new
   pub drawn : IsDrawn l.log (record { book = l.log.book; next = l.next }) (record { book = d.log.book; next = d.next }) tree new
 
-pub ended : (b : Bool) (first next : ℕ) (start tree held new : CellTree) (gone : List Cell) (log : Log) (l d : Ledger) → IsWritten b first start tree gone → AreBelow next start → AreBelow next tree → AreOf log.book tree → held ≡ tree → l ≡ (let w : Ledger = record { log = log; first = cond b first next; next = next; left = gone } in w) → Steps (pieces_of held) l (pieces_of new) d → IsOnward l d → l.next ≤ new.cell.id → Ended start tree new (let w : Ledger = record { log = log; first = cond b first next; next = next; left = gone } in w) d
+pub ended : (b : Bool) (first next : ℕ) (start tree held new : CellTree) (gone : List Cell) (log : Log) (l d : Ledger) → IsWritten b first start tree gone → AreBelow next start → AreBelow next tree → AreOf log.book tree → held ≡ tree → l ≡ (let w : Ledger = record { log = log; first = cond b first next; next = next; left = gone } in w) → Steps (pieces_of held) l (pieces_of new) d → IsOnward l d → l.first ≤ new.cell.id → Ended start tree new (let w : Ledger = record { log = log; first = cond b first next; next = next; left = gone } in w) d
 ended b first next start tree held new gone log l d w below_start below_tree of_tree same is step onward fresh =
     let begun : Ledger = record { log = log; first = cond b first next; next = next; left = gone } in
     let from_tree : Steps (pieces_of tree) l (pieces_of new) d = subst (λ (t : CellTree). Steps (pieces_of t) l (pieces_of new) d) same step in
     let from_begun : Steps (pieces_of tree) begun (pieces_of new) d = subst (λ (x : Ledger). Steps (pieces_of tree) x (pieces_of new) d) is from_tree in
     let more : IsOnward begun d = subst (λ (x : Ledger). IsOnward x d) is onward in
-    let high : next ≤ new.cell.id = subst (λ (x : Ledger). x.next ≤ new.cell.id) is fresh in
+    let one = one_book b first start tree gone log.book w of_tree in
+    let high : begun.first ≤ new.cell.id = subst (λ (x : Ledger). x.first ≤ new.cell.id) is fresh in
     record {
-      changed = changed b first start tree new gone begun d w below_start below_tree refl refl from_begun more high;
-      below = below_new b first start tree new gone begun d w below_start below_tree refl refl from_begun more;
+      changed = changed b first start tree new gone begun d w below_start below_tree refl refl from_begun more one high;
+      below = below_new b first start tree new gone begun d w below_start below_tree refl refl from_begun more one;
       below_start = (λ i h. let up = from_begun.later in below_start i (omega (arith, up, h)));
       of = of_step tree new begun d from_begun more of_tree;
       drawn = drawn_step tree new begun d from_begun;
@@ -202,12 +219,14 @@ above_all (c ∷ cs) =
 
 pub record Frozen (start tree : CellTree) (gone : List Cell) : Type 0 where
   pub notice : IsNotice gone start tree
+  pub same : TellTheSame start tree
   pub held : WatchesHold start tree
   pub opened : (first : ℕ) × AreBelow first start × IsOpened first start tree
 
 frozen_step : (P : Cell → Type 0) (first next : ℕ) (start tree : CellTree) (gone : List Cell) → IsStep P first (at (pieces_of start) first []) (at (pieces_of tree) next gone) → AreBelow first start → AreApart start → HasShape (plain_of start) → HasShape (plain_of tree) → Frozen start tree gone
 frozen_step P first next start tree gone step below apart s t = record {
   notice = notice P first next gone start tree step apart below;
+  same = agree P first next gone start tree step apart below;
   held = held P first next gone start tree step apart below s t;
   opened = (first, below, opened P first next gone start tree step apart below);
 }
@@ -221,6 +240,15 @@ frozen false first start tree gone w apart s t =
     (subst (λ (z : CellTree). IsStep Any n.0 (at (pieces_of start) n.0 []) (at (pieces_of z) n.0 gone)) w.0
     (subst (λ (z : List Cell). IsStep Any n.0 (at (pieces_of start) n.0 []) (at (pieces_of start) n.0 z)) (sym w.1) same))
     n.1 apart s t
+
+-- where cells have left, both trees tell of them
+pub told : (b : Bool) (first : ℕ) (start tree : CellTree) (gone : List Cell) → IsWritten b first start tree gone → AreApart start → HasShape (plain_of start) → HasShape (plain_of tree) → 0 < length gone → IsTold gone start tree
+told true first start tree gone w apart s t some =
+    let end = frozen true first start tree gone w apart s t in
+    record { notice = end.notice; same = end.same; book = w.book; of = w.of }
+told false first start tree gone w apart s t some =
+    let none : length gone ≡ 0 = ap (λ (cs : List Cell). length cs) w.1 in
+    absurd (omega (arith, none, some))
 
 pub below_more : (n m : ℕ) (t : CellTree) → n ≤ m → AreBelow n t → AreBelow m t
 below_more n m t up below i h = below i (omega (arith, up, h))

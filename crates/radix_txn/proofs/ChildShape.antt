@@ -9,9 +9,10 @@ use Rattle.radix_node.specs.Node.{PlainNode, nodes_in, below}
 use Rattle.radix_node.proofs.EdgeSearch.{rise_from_shape}
 use Rattle.radix_txn.specs.inner.Below.{IsShapedBelow}
 
--- what is under it has the shape, and there is a leaf at it or under it
+-- what is under it has the shape, it has a leaf or two edges, and there is a leaf at it or under it
 pub record IsChild (n : PlainNode) : Type 0 where
   pub under : IsShapedBelow n.under
+  pub branching : IsBranching n.leaf n.under
   pub occupied : 0 < length (pairs_of (below n))
 
 -- a node has a leaf, or there is one under it
@@ -33,7 +34,7 @@ edges_occupied leaf (node (b ∷ q) l under later) es s is h =
     omega (arith, inner, length-append (pairs_of_leaf leaf) (pairs_of_nodes (node (b ∷ q) l under later)), length-append (pairs_of_leaf l) (pairs_of_nodes under), length-append (pairs_of_leaf l) (pairs_of_nodes under ++ pairs_of_nodes later), length-append (pairs_of_nodes under) (pairs_of_nodes later))
 
 child_here : (path : List ℕ) (m n : PlainNode) (b : ℕ) (p : List ℕ) → m.prefix ≡ b ∷ p → IsShaped (path ++ b ∷ p) m.under → IsBranching m.leaf m.under → Some m ≡ Some n → IsChild n
-child_here path m n b p is s h e = let same : m ≡ n = cc in subst IsChild same (record { under = record { path = path ++ b ∷ p; shaped = s }; occupied = occupied_node (path ++ b ∷ p) (b ∷ p) m.leaf m.under s h })
+child_here path m n b p is s h e = let same : m ≡ n = cc in subst IsChild same (record { under = record { path = path ++ b ∷ p; shaped = s }; branching = h; occupied = occupied_node (path ++ b ∷ p) (b ∷ p) m.leaf m.under s h })
 
 child_of : (path q : List ℕ) (m : PlainNode) (es : List PlainNode) (at : ℕ) (n : PlainNode) → IsShaped path (node q m.leaf m.under (nodes_in es)) → slice_get (m ∷ es) at ≡ Some n → m.prefix ≡ q → ((at : ℕ) → IsShaped path (nodes_in es) → slice_get es at ≡ Some n → IsChild n) → IsChild n
 child_of path [] m es at n s e is later = absurd s

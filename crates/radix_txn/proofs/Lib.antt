@@ -33,4 +33,9 @@ pub mod TreeWrites
 pub mod WriteEnds
 pub mod Writes
 pub mod WrittenOnce
+pub mod PutSteps
+pub mod PutTree
 pub mod Results
+pub mod TakeSteps
+pub mod TakeTree
+pub mod TakeLent

@@ -3,7 +3,8 @@ use Rattle.std.proofs.Common.{◌≡◌, ◌+◌, ◌^◌, ◌<◌, ◌≤◌, �
 use Rattle.std.proofs.lemmas.List.{length-map}
 use Rattle.std.specs.List.{slice_get}
 use Rattle.mdb_datum.specs.Row.{Pair}
-use Rattle.radix_node.specs.Nodes.{Nodes}
+use Rattle.radix_node.specs.Nodes.{Nodes, no_nodes, node}
+use Rattle.radix_node.specs.Shape.{IsBranching, width}
 use Rattle.radix_node.specs.Node.{PlainNode, nodes_in, edges_of, edge_node}
 use Rattle.radix_node.specs.inner.Siblings.{nodes_list}
 use Rattle.radix_node.specs.declared.edges.Edges.{Edges, out-Edges}
@@ -19,6 +20,18 @@ settled_wide prefix (Some pair) es h = refl
 settled_wide prefix None [] h = absurd (omega arith)
 settled_wide prefix None (e ∷ []) h = absurd (omega arith)
 settled_wide prefix None (e ∷ f ∷ es) h = refl
+
+-- a node that branches as one of a shaped tree does stays as it is
+pub settled_branching : (prefix : List ℕ) (leaf : Option Pair) (under : Nodes) → IsBranching leaf under → settled_node prefix leaf under ≡ Some (record { prefix = prefix; leaf = leaf; under = under })
+settled_branching prefix (Some pair) under h = refl
+settled_branching prefix None no_nodes h = absurd (omega (arith, h))
+settled_branching prefix None (node q leaf under no_nodes) h = absurd (omega (arith, h))
+settled_branching prefix None (node q leaf under (node r leaf_2 under_2 rest)) h = refl
+
+-- and so does one with its leaf and as many edges
+pub branching_like : (leaf : Option Pair) (u v : Nodes) → width v ≡ width u → IsBranching leaf u → IsBranching leaf v
+branching_like (Some pair) u v same h = tt
+branching_like None u v same h = omega (arith, same, h)
 
 pub merged_one : (prefix : List ℕ) (es : List PlainNode) (n : PlainNode) → length es ≤ 1 → Some n ≡ slice_get es 0 → settled_node prefix None (nodes_in es) ≡ Some (record { prefix = prefix ++ n.prefix; leaf = n.leaf; under = n.under })
 merged_one prefix [] n le e = cc

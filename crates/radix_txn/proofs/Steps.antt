@@ -8,7 +8,7 @@ use Rattle.radix_node.specs.Left.{leave, leave_all}
 use Rattle.radix_node.specs.Paths.{Has}
 use Rattle.radix_node.proofs.Members.{has_cell, cell_piece}
 use Rattle.radix_node.proofs.Paths.{Has-left, Has-right, Has-split}
-use Rattle.radix_txn.specs.inner.Steps.{count_in, drawn, IsNew, IsNext, Ledger, IsOnward, Tally, IsMade, IsStep}
+use Rattle.radix_txn.specs.inner.Steps.{count_in, drawn, IsNew, IsNext, Ledger, IsOnward, Tally, IsHeld, IsMade, IsStep}
 
 -- ---- counts
 
@@ -70,14 +70,36 @@ step_same P first a h = record {
 }
 
 module _ (P : Cell → Type 0) (first : ℕ) {a b c : Tally} (s : IsStep P first a b) (t : IsStep P first b c) where
-  made_in_two : (x : Piece) → Has x c.pieces → Has x a.pieces ⊎ IsMade P a.next c.next x
+  -- a cell that is held was there, or was made
+  held_before : (x y : Piece) → Has y b.pieces → piece_cell y ≡ piece_cell x → first ≤ (piece_cell x).id → IsMade P a.next c.next x ⊎ IsHeld first a.pieces x
+  held_before x y there same low =
+      elim (s.made y there) [
+        | inl old ↦ inr (record { low = low; there = subst (λ (z : Cell). Has z (map piece_cell a.pieces)) same (has_cell y a.pieces old) })
+        | inr more ↦ elim more [
+          | inl m ↦
+              let from = m.low in
+              let high = m.high in
+              let up = t.later in
+              let id = ap (λ (z : Cell). z.id) same in
+              inl (record { low = omega (arith, from, id); high = omega (arith, high, up, id); holds = subst P same m.holds })
+          | inr k ↦ inr (record { low = low; there = subst (λ (z : Cell). Has z (map piece_cell a.pieces)) same k.there })
+        ]
+      ]
+
+  made_in_two : (x : Piece) → Has x c.pieces → Has x a.pieces ⊎ (IsMade P a.next c.next x ⊎ IsHeld first a.pieces x)
   made_in_two x h =
       elim (t.made x h) [
         | inl old ↦ elim (s.made x old) [
           | inl older ↦ inl older
-          | inr m ↦ let high = m.high in let up = t.later in inr (record { low = m.low; high = omega (arith, high, up); holds = m.holds })
+          | inr more ↦ elim more [
+            | inl m ↦ let high = m.high in let up = t.later in inr (inl (record { low = m.low; high = omega (arith, high, up); holds = m.holds }))
+            | inr k ↦ inr (inr k)
+          ]
         ]
-        | inr m ↦ let low = m.low in let up = s.later in inr (record { low = omega (arith, low, up); high = m.high; holds = m.holds })
+        | inr more ↦ elim more [
+          | inl m ↦ let low = m.low in let up = s.later in inr (inl (record { low = omega (arith, low, up); high = m.high; holds = m.holds }))
+          | inr k ↦ let w = cell_piece (piece_cell x) b.pieces k.there in inr (held_before x w.0 w.1 w.2 k.low)
+        ]
       ]
 
   gone_in_two : (d : Cell) → Has d c.left → Has d a.left ⊎ (Has d (map piece_cell a.pieces) × (d.id < first))
@@ -88,7 +110,13 @@ module _ (P : Cell → Type 0) (first : ℕ) {a b c : Tally} (s : IsStep P first
             let x = cell_piece d b.pieces w.0 in
             elim (s.made x.0 x.1) [
               | inl old ↦ inr (subst (λ (z : Cell). Has z (map piece_cell a.pieces)) x.2 (has_cell x.0 a.pieces old), w.1)
-              | inr m ↦ let from = m.low in let begun = s.begun in let same = ap (λ (z : Cell). z.id) x.2 in let low = w.1 in absurd (omega (arith, from, begun, same, low))
+              | inr more ↦
+                  let same = ap (λ (z : Cell). z.id) x.2 in
+                  let low = w.1 in
+                  elim more [
+                    | inl m ↦ let from = m.low in let begun = s.begun in absurd (omega (arith, from, begun, same, low))
+                    | inr k ↦ let high = k.low in absurd (omega (arith, high, same, low))
+                  ]
             ]
       ]
 
@@ -109,7 +137,10 @@ step_weaker P Q f first a b s = record {
   later = s.later;
   made = λ x h. elim (s.made x h) [
     | inl old ↦ inl old
-    | inr m ↦ inr (record { low = m.low; high = m.high; holds = f (piece_cell x) m.holds })
+    | inr more ↦ elim more [
+      | inl m ↦ inr (inl (record { low = m.low; high = m.high; holds = f (piece_cell x) m.holds }))
+      | inr k ↦ inr (inr k)
+    ]
   ];
   few = s.few;
   kept = s.kept;
@@ -189,7 +220,12 @@ step_beside P first a b s zs = record {
   made = λ x h. elim (Has-split x b.pieces zs h) [
     | inl n ↦ elim (s.made x n) [
       | inl old ↦ inl (Has-left x a.pieces zs old)
-      | inr m ↦ inr m
+      | inr more ↦ elim more [
+        | inl m ↦ inr (inl m)
+        | inr k ↦
+            let y = cell_piece (piece_cell x) a.pieces k.there in
+            inr (inr (record { low = k.low; there = subst (λ (z : Cell). Has z (map piece_cell (a.pieces ++ zs))) y.2 (has_cell y.0 (a.pieces ++ zs) (Has-left y.0 a.pieces zs y.1)) }))
+      ]
     ]
     | inr o ↦ inl (Has-right x a.pieces zs o)
   ];
@@ -211,7 +247,7 @@ module _ (P : Cell → Type 0) (first : ℕ) (x : Piece) (xs : List Piece) (n : 
     begun = begun;
     later = omega arith;
     made = λ y h. elim h [
-      | inl e ↦ let same : (piece_cell y).id ≡ n = ap (λ (z : Piece). (piece_cell z).id) e ∙ is in inr (record { low = omega (arith, same); high = omega (arith, same); holds = subst (λ (z : Piece). P (piece_cell z)) (sym e) marked.1 })
+      | inl e ↦ let same : (piece_cell y).id ≡ n = ap (λ (z : Piece). (piece_cell z).id) e ∙ is in inr (inl (record { low = omega (arith, same); high = omega (arith, same); holds = subst (λ (z : Piece). P (piece_cell z)) (sym e) marked.1 }))
       | inr old ↦ inl old
     ];
     few = λ i. elim (lt_or_le i n) [
@@ -257,6 +293,27 @@ module _ (P : Cell → Type 0) (first : ℕ) (x : Piece) (xs : List Piece) (n : 
           gone = λ c h. inl h;
         }
       ] refl
+
+-- ---- a piece that keeps its cell
+
+pub step_held : (P : Cell → Type 0) (first : ℕ) (x y : Piece) (xs : List Piece) (n : ℕ) (left : List Cell) → first ≤ n → piece_cell y ≡ piece_cell x → first ≤ (piece_cell x).id → IsStep P first (record { pieces = x ∷ xs; next = n; left = left }) (record { pieces = y ∷ xs; next = n; left = left })
+step_held P first x y xs n left begun same low = record {
+  begun = begun;
+  later = omega arith;
+  made = λ z h. elim h [
+    | inl e ↦
+        let is : piece_cell z ≡ piece_cell x = ap piece_cell e ∙ same in
+        let id = ap (λ (c : Cell). c.id) is in
+        inr (inr (record { low = omega (arith, id, low); there = inl is }))
+    | inr old ↦ inl (inr old)
+  ];
+  few = λ i. (let e = counts i in omega (arith, e));
+  kept = λ i h. ap (λ k. k + count i left) (counts i);
+  gone = λ c h. inl h;
+}
+  where
+    counts : (i : ℕ) → count_in i (y ∷ xs) ≡ count_in i (x ∷ xs)
+    counts i = ap (λ (c : Cell). count i (c ∷ map piece_cell xs)) same
 
 -- ---- the words of the lemmas on edits
 

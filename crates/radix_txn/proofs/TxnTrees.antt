@@ -62,7 +62,12 @@ module _ (P : Cell → Type 0) (first next : ℕ) (left : List Cell) (old new : 
   agree x y h g same =
       elim (step.made y g) [
         | inl k ↦ one_piece (piece_cell x).id (pieces_of old) (apart (piece_cell x).id) x y h k refl (sym same)
-        | inr m ↦ (let p = old_low x h in let q = m.low in absurd (omega (arith, p, q, same)))
+        | inr more ↦
+            let p = old_low x h in
+            elim more [
+              | inl m ↦ (let q = m.low in absurd (omega (arith, p, q, same)))
+              | inr k ↦ (let q = k.low in absurd (omega (arith, p, q, same)))
+            ]
       ]
 
   pub new_apart : AreApart new
@@ -91,7 +96,12 @@ module _ (P : Cell → Type 0) (first next : ℕ) (left : List Cell) (old new : 
       let x = cell_piece c (pieces_of new) h in
       elim (step.made x.0 x.1) [
         | inl k ↦ inl (subst (λ (d : Cell). Has d (cells_of old)) x.2 (has_cell x.0 (pieces_of old) k))
-        | inr m ↦ inr (let p = m.low in let q = ap (λ (d : Cell). d.id) x.2 in omega (arith, p, q))
+        | inr more ↦
+            let q = ap (λ (d : Cell). d.id) x.2 in
+            elim more [
+              | inl m ↦ inr (let p = m.low in omega (arith, p, q))
+              | inr k ↦ inr (let p = k.low in omega (arith, p, q))
+            ]
       ]
 
   -- ---- what has left
@@ -138,8 +148,22 @@ module _ (P : Cell → Type 0) (first next : ℕ) (left : List Cell) (old new : 
       let same = one_piece c.id (pieces_of old) (apart c.id) x.0 y.0 x.1 y.1 id (ap (λ (d : Cell). d.id) y.2 ∙ w.2) in
       subst (λ (d : Cell). Has d left) (sym y.2 ∙ ap piece_cell (sym same) ∙ x.2) w.1
 
+  left_once : (i : ℕ) → count i left ≤ 1
+  left_once i =
+      elim (lt_or_le i first) [
+        | inl low ↦ let p = step.kept i low in let q = apart i in omega (arith, p, q)
+        | inr high ↦ elim (lt_or_le 0 (count i left)) [
+          | inl some ↦
+              let w = there i left (omega (arith, some)) in
+              let low = (left_old w.0 w.1).1 in
+              let is = w.2 in
+              absurd (omega (arith, low, is, high))
+          | inr none ↦ omega (arith, none)
+        ]
+      ]
+
   pub notice : IsNotice left old new
-  notice c = (fires_of_left c, left_of_fires c)
+  notice = record { fires = λ c. (fires_of_left c, left_of_fires c); once = left_once }
 
   -- what is watched in the old tree fires, or is as it was
   pub held : HasShape (plain_of old) → HasShape (plain_of new) → WatchesHold old new

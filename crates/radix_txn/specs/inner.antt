@@ -1,10 +1,13 @@
 pub mod Below
 pub mod Edits
+pub mod Gone
 pub mod Kept
 pub mod Outside
 pub mod Pieces
+pub mod Put
 pub mod PutAt
 pub mod Remains
 pub mod Removal
 pub mod Steps
 pub mod Stored
+pub mod Told

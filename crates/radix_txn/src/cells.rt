@@ -1,5 +1,5 @@
 //! The cells that a write draws, and those that leave.
-ghost use Rattle.std.specs.Prelude.{◌≡◌, ◌≤◌, ◌<◌, ◌^◌, IfOk, OnOk, length};
+ghost use Rattle.std.specs.Prelude.{◌≡◌, ◌≤◌, ◌<◌, ◌^◌, true, IfOk, OnOk, length};
 ghost use Rattle.std.specs.Arc.{arc_value};
 ghost use Rattle.radix_node.specs.CellNode.{cell_node};
 ghost use Rattle.radix_node.specs.Left.{all_cells};
@@ -7,20 +7,22 @@ ghost use Rattle.radix_node.specs.Node.{below_prefix};
 ghost use Rattle.radix_node.specs.Nodes.{pairs_of};
 ghost use Rattle.radix_txn.specs.inner.Steps.{IsNextOf, leaf_left, many_left, one_drawn, one_left};
 
-use radix_node::{Ids, Node, push_cell};
+use radix_node::{Ids, Left, Node};
 use std::alloc::{AllocError, Global};
 use std::marker::Model;
 use std::sync::Arc;
 use watch_word::{Front, WatchCell};
 
-/// Where a write gets its cells, and the list of the old tree's cells that are gone. An id below
-/// `first` is one of the old tree's.
+/// Where a write gets its cells, and the old tree's cells that are gone. An id below
+/// `first` is one of the old tree's. A node or leaf
+/// with an id from `mark` on is the transaction's own, where it has one owner.
 #[derive(Drop)]
 pub struct Cells {
     pub front: Front,
     pub ids: Ids,
     pub first: u64,
-    pub left: Vec<Arc<WatchCell>>,
+    pub mark: u64,
+    pub left: Left,
 }
 
 impl Model for Cells {
@@ -34,13 +36,21 @@ impl Model for Cells {
       log = c.front;
       first = c.first;
       next = c.ids.next;
-      left = map arc_value c.left.items;
+      left = c.left;
     } };
 
-    ghost invariant = { λ c. (c.front.book ≡ c.ids.book) × (c.first ≤ c.ids.next) };
+    ghost invariant = { λ c.
+        (c.front.book ≡ c.ids.book) × (c.first ≤ c.ids.next) × (c.first ≤ c.mark) };
 }
 
 impl Cells {
+    /// Whether a node's cell is one that the transaction has drawn since its tree was last shared.
+    pub fn owns(&self, node: &Node) -> bool
+        ensures { result ≡ true → (let n = cell_node node.now in self.now.first ≤ n.cell.id) }
+    {
+        node.cell().id() >= self.mark
+    }
+
     /// A new cell.
     pub fn draw(&mut self, alloc: Global) -> Result<Arc<WatchCell>, AllocError>
         requires left { self.old.next < 2 ^ 63 }
@@ -56,7 +66,7 @@ impl Cells {
         ensures left { OnOk result (self.new ≡ one_left (arc_value cell.now) self.old) }
         ensures begun { self.old.first ≤ self.old.next }
     {
-        push_cell(self.first, cell, &mut self.left)
+        self.left.push(self.first, cell)
     }
 
     /// The cell of a node's leaf, if it has one, is in the tree no longer.

@@ -1,5 +1,8 @@
 //! The insert of a key.
-ghost use Rattle.std.specs.Prelude.{◌≡◌, ◌∷◌, [], ◌++◌, ◌<◌, ◌≤◌, ◌+◌, ◌^◌, None, Some, IfOk, OnOk};
+mod owned;
+
+ghost use Rattle.std.specs.Prelude.{◌≡◌, ◌∷◌, [], ◌++◌, ◌<◌, ◌≤◌, ◌+◌, ◌^◌, None, Some, IfOk};
+ghost use Rattle.std.specs.Prelude.{OnErr, OnOk};
 ghost use Rattle.std.specs.Prelude.{if◌then◌else◌, is_some, length, take, drop};
 ghost use Rattle.std.specs.Arc.{arc_value};
 ghost use Rattle.mdb_datum.specs.Bytes.{Bytes};
@@ -14,60 +17,104 @@ ghost use Rattle.radix_node.specs.Nodes.{common, pairs_of, part};
 ghost use Rattle.radix_node.specs.Pairs.{find, put};
 ghost use Rattle.radix_node.specs.Shape.{HasShape};
 ghost use Rattle.radix_node.specs.inner.Seek.{found, seek, seek_plain};
-ghost use Rattle.radix_node.specs.inner.Siblings.{cells_list, nodes_list};
+ghost use Rattle.radix_node.specs.inner.Siblings.{bare, cells_list, nodes_list};
 ghost use Rattle.radix_txn.specs.declared.target.Target.TheVariants.{Key};
 ghost use Rattle.radix_txn.specs.inner.Below.{IsShapedBelow, insert_below, leaf_node, over, row_in};
 ghost use Rattle.radix_txn.specs.inner.Outside.{AllIn, outside, outside_node, staying};
 ghost use Rattle.radix_txn.specs.inner.Pieces.{inside, led, whole};
+ghost use Rattle.radix_txn.specs.inner.Put.{IsPut};
 ghost use Rattle.radix_txn.specs.inner.PutAt.{grown_node};
 ghost use Rattle.radix_txn.specs.inner.Steps.{IsNextOf, IsOnward, Steps, one_drawn, one_left};
 
 use crate::cells::Cells;
 use crate::made;
 use mdb_datum::Row;
+use owned::put_at;
 use radix_node::{Edge, Edges, Leaf, Node, NodeRef, Tree};
 use std::alloc::{AllocError, Global};
 use std::sync::Arc;
 
-/// The tree with a row under a key, and the old row of that key. Beside want of memory it is
-/// refused where there are 2^64 - 1 keys already.
-pub fn tree_with(
-    tree: &Tree,
+/// A tree after a put, and the old row of the key, or why the tree is as it was.
+#[derive(Drop)]
+pub struct Put {
+    pub tree: Tree,
+    pub old: Result<Option<Row>, AllocError>,
+}
+
+/// The tree with a row under a key. It is changed in place as far as its nodes are the write's own
+/// and have no other owner. Beside want of memory it is refused where there are 2^64 - 1 keys
+/// already.
+pub fn tree_with(tree: Tree, key: &[u8], row: &Row, cells: &mut Cells) -> Put
+    requires left { cells.old.next + length key.now + 3 ≤ 2 ^ 63 }
+    requires below { AreBelow cells.old.next tree }
+
+    ensures pairs { OnOk result.old
+        (pairs_of (plain_of result.tree) ≡ put key.now row.now (pairs_of (plain_of tree))) }
+    ensures old { IfOk result.old (λ r. r ≡ find key.now (pairs_of (plain_of tree))) }
+
+    ensures cells { OnOk result.old
+        (Steps (pieces_of tree) cells.old (pieces_of result.tree) cells.new) }
+    ensures low { OnOk result.old (cells.old.first ≤ result.tree.cell.id) }
+    ensures stays { OnOk result.old (AllIn
+        (outside_node Key key.now (root_of tree)) (pieces_of result.tree)) }
+    ensures shapes { OnOk result.old
+        (HasShape (plain_of tree) × HasShape (plain_of result.tree)) }
+    ensures few { OnOk result.old (cells.new.next ≤ cells.old.next + length key.now + 3) }
+    ensures onward { OnOk result.old (IsOnward cells.old cells.new) }
+
+    ensures unchanged { OnErr result.old (result.tree ≡ tree) }
+{
+    let len = tree.len();
+    let mut root = tree.into_root();
+    match put_root(&mut root, len, key, row, cells) {
+        Ok(placed) => Put {
+            tree: Tree::of_root(root, placed.len),
+            old: Ok(placed.old),
+        },
+        Err(e) => Put {
+            tree: Tree::of_root(root, len),
+            old: Err(e),
+        },
+    }
+}
+
+/// How many keys there are after a put, and the old row of its key.
+#[derive(Drop)]
+struct Placed {
+    len: u64,
+    old: Option<Row>,
+}
+
+/// Puts a row under a key at the root.
+fn put_root(
+    root: &mut NodeRef,
+    len: u64,
     key: &[u8],
     row: &Row,
     cells: &mut Cells,
-) -> Result<(Tree, Option<Row>), AllocError>
+) -> Result<Placed, AllocError>
+    requires shape { let n = bare (cell_ref root.old) in IsShapedBelow n.under }
     requires left { cells.old.next + length key.now + 3 ≤ 2 ^ 63 }
-    requires below { AreBelow cells.old.next tree.now }
-
-    ensures pairs { IfOk result
-        (λ w. pairs_of (plain_of w.0) ≡ put key.now row.now (pairs_of (plain_of tree.now))) }
-    ensures old { IfOk result
-        (λ w. w.1 ≡ find key.now (pairs_of (plain_of tree.now))) }
-
-    ensures cells { IfOk result
-        (λ w. Steps (pieces_of tree.now) cells.old (pieces_of w.0) cells.new) }
-    ensures fresh { IfOk result (λ w. cells.old.next ≤ w.0.cell.id) }
-    ensures stays { IfOk result
-        (λ w. AllIn (outside_node Key key.now (root_of tree.now)) (pieces_of w.0)) }
-    ensures shapes { IfOk result (λ w. HasShape (plain_of tree.now) × HasShape (plain_of w.0)) }
-    ensures few { OnOk result (cells.new.next ≤ cells.old.next + length key.now + 3) }
-    ensures onward { OnOk result (IsOnward cells.old cells.new) }
+    ensures put { IfOk result (λ p. IsPut (key.now, row.now) key.now
+        (cell_ref root.old) (cell_ref root.new) p.old cells.old cells.new) }
+    ensures len { IfOk result (λ p. p.len ≡ (if is_some p.old then len else len + 1)) }
+    ensures unchanged { OnErr result (cell_ref root.new ≡ cell_ref root.old) }
 {
-    let root = tree.root();
-    let leaf = made::new_leaf(root, key, row, cells)?;
-    let Inserted { node, old } = insert(root, key, leaf, cells)?;
-    let len = len_after(tree.len(), &old)?;
-    Ok((Tree::of_root(node, len), old))
+    let more = len.checked_add(1).ok_or(AllocError)?;
+    let old = put_at(root, key, key, row, cells)?;
+    Ok(Placed {
+        len: len_after(len, more, &old),
+        old,
+    })
 }
 
-/// How many keys there are after an insert.
-fn len_after(len: u64, old: &Option<Row>) -> Result<u64, AllocError>
-    ensures { IfOk result (λ n. n ≡ (if is_some old.now then len else len + 1)) }
+/// How many keys there are after a put.
+fn len_after(len: u64, more: u64, old: &Option<Row>) -> u64
+    ensures { result ≡ (if is_some old.now then len else more) }
 {
     match old {
-        None => len.checked_add(1).ok_or(AllocError),
-        Some(_) => Ok(len),
+        None => more,
+        Some(_) => len,
     }
 }
 

@@ -144,7 +144,7 @@ impl Remains {
 
     /// A node, not the root, with what is left: none, where that is nothing, and merged with the
     /// node under it, where that is one edge.
-    fn settled(self, prefix: &[u8], cells: &mut Cells) -> Result<Option<NodeRef>, AllocError>
+    pub fn settled(self, prefix: &[u8], cells: &mut Cells) -> Result<Option<NodeRef>, AllocError>
         requires left { cells.old.next < 2 ^ 63 }
 
         ensures plain { let r = remains_of self in IfOk result

@@ -1,18 +1,21 @@
 //! Both deletes are one walk down: to the end of a key, or to the node that a prefix leads to.
+mod owned;
+
 ghost use Rattle.std.specs.Prelude.{◌≡◌, ◌<◌, ◌≤◌, ◌+◌, ◌++◌, ◌^◌, [], List, None, Some, true};
 ghost use Rattle.std.specs.Prelude.{false, IfOk, IfSome, IfNone, OnErr, OnOk, length, take, drop};
 ghost use Rattle.std.specs.Prelude.{option_to_list, IsNone, IsSome, IsSomeAnd};
 ghost use Rattle.std.specs.List.{slice_get};
 ghost use Rattle.mdb_datum.specs.Bytes.{Bytes};
-ghost use Rattle.radix_node.specs.CellNode.{cell_node, led_node};
+ghost use Rattle.radix_node.specs.CellNode.{cell_node, cell_ref, led_node};
 ghost use Rattle.radix_node.specs.Cells.{AreBelow, CellNode, cells_in, pieces_of, plain_of};
 ghost use Rattle.radix_node.specs.Cells.{root_of};
 ghost use Rattle.radix_node.specs.Node.{below, below_prefix, edge_node, nodes_in, plain_edge};
 ghost use Rattle.radix_node.specs.Node.{plain_node};
 ghost use Rattle.radix_node.specs.Nodes.{pairs_of};
 ghost use Rattle.radix_node.specs.Shape.{HasShape};
-ghost use Rattle.radix_node.specs.inner.Siblings.{cells_list, nodes_list};
+ghost use Rattle.radix_node.specs.inner.Siblings.{bare, cells_list, nodes_list};
 ghost use Rattle.radix_txn.specs.inner.Below.{IsShapedBelow, settled_node};
+ghost use Rattle.radix_txn.specs.inner.Gone.{HasNone, IsCut, IsLeft};
 ghost use Rattle.radix_txn.specs.inner.Outside.{AllIn, inner_pieces, outside_node};
 ghost use Rattle.radix_txn.specs.inner.Pieces.{led, whole};
 ghost use Rattle.radix_txn.specs.inner.Removal.{IsAbsent, IsMissing, IsRemoval, IsTaken, IsThere};
@@ -26,62 +29,117 @@ use crate::cells::Cells;
 use crate::remains::Remains;
 use crate::target::Target;
 use mdb_datum::Row;
-use radix_node::{Edge, Leaf, Node, Tree};
+use owned::{Gone, take_at};
+use radix_node::{Edge, Leaf, Node, NodeRef, Tree};
 use std::alloc::AllocError;
 
-/// A tree without some keys, the row of the key, where one key was to go, and how many went.
+/// A tree after a delete, and what went, if there was such a key, or why the tree is as it was.
 #[derive(Drop)]
 pub struct Taken {
     pub tree: Tree,
+    pub deleted: Result<Option<Deleted>, AllocError>,
+}
+
+/// The row of the key, where one key was to go, and how many keys went.
+#[derive(Drop)]
+pub struct Deleted {
     pub row: Option<Row>,
     pub count: u64,
 }
 
-/// The tree without the keys of a target; none where there is no such key. Only where there is one,
-/// it can want for memory.
-pub fn take(
-    tree: &Tree,
+/// The tree without the keys of a target. It is changed in place as far as its nodes are the
+/// write's own and have no other owner. Only where there is such a key, it can want for memory.
+pub fn take(tree: Tree, key: &[u8], target: Target, cells: &mut Cells) -> Taken
+    requires left { cells.old.next + length key.now + 1 ≤ 2 ^ 63 }
+    requires below { AreBelow cells.old.next tree }
+
+    ensures taken { IfOk result.deleted (λ o. IfSome o (λ d. IsTaken target key.now
+        (pairs_of (plain_of tree)) (pairs_of (plain_of result.tree)) d.row d.count)) }
+    ensures absent { IfOk result.deleted
+        (λ o. IfNone o (IsAbsent target key.now (pairs_of (plain_of tree)))) }
+
+    ensures cells { IfOk result.deleted (λ o. IfSome o
+        (λ d. Steps (pieces_of tree) cells.old (pieces_of result.tree) cells.new)) }
+    ensures low { IfOk result.deleted
+        (λ o. IfSome o (λ d. cells.old.first ≤ result.tree.cell.id)) }
+    ensures stays { IfOk result.deleted (λ o. IfSome o (λ d. AllIn
+        (outside_node target key.now (root_of tree)) (pieces_of result.tree))) }
+    ensures shapes { IfOk result.deleted (λ o. IfSome o
+        (λ d. HasShape (plain_of tree) × HasShape (plain_of result.tree))) }
+    ensures few { IfOk result.deleted (λ o. IfSome o
+        (λ d. cells.new.next ≤ cells.old.next + length key.now + 1)) }
+    ensures onward { IfOk result.deleted (λ o. IfSome o (λ d. IsOnward cells.old cells.new)) }
+    ensures still { IfOk result.deleted
+        (λ o. IfNone o ((result.tree ≡ tree) × (cells.new ≡ cells.old))) }
+
+    ensures unchanged { OnErr result.deleted (result.tree ≡ tree) }
+    ensures there { OnErr result.deleted (IsThere target key.now (pairs_of (plain_of tree))) }
+{
+    let len = tree.len();
+    let mut root = tree.into_root();
+    match take_root(&mut root, key, target, cells) {
+        Ok(Some(deleted)) => Taken {
+            tree: Tree::of_root(root, len - deleted.count),
+            deleted: Ok(Some(deleted)),
+        },
+        Ok(None) => Taken {
+            tree: Tree::of_root(root, len),
+            deleted: Ok(None),
+        },
+        Err(e) => Taken {
+            tree: Tree::of_root(root, len),
+            deleted: Err(e),
+        },
+    }
+}
+
+/// Takes out the keys of a target at the root.
+fn take_root(
+    root: &mut NodeRef,
     key: &[u8],
     target: Target,
     cells: &mut Cells,
-) -> Result<Option<Taken>, AllocError>
+) -> Result<Option<Deleted>, AllocError>
+    requires shape { let n = bare (cell_ref root.old) in IsShapedBelow n.under }
+    requires rooted { let n = cell_ref root.old in n.prefix ≡ [] }
+    requires few { let n = bare (cell_ref root.old) in length (pairs_of (below n)) < 2 ^ 64 }
     requires left { cells.old.next + length key.now + 1 ≤ 2 ^ 63 }
-    requires below { AreBelow cells.old.next tree.now }
-
-    ensures taken { IfOk result (λ o. IfSome o (λ t. IsTaken target key.now
-        (pairs_of (plain_of tree.now)) (pairs_of (plain_of t.tree)) t.row t.count)) }
-    ensures absent { IfOk result
-        (λ o. IfNone o (IsAbsent target key.now (pairs_of (plain_of tree.now)))) }
-
-    ensures cells { IfOk result (λ o. IfSome o
-        (λ t. Steps (pieces_of tree.now) cells.old (pieces_of t.tree) cells.new)) }
-    ensures fresh { IfOk result (λ o. IfSome o (λ t. cells.old.next ≤ t.tree.cell.id)) }
-    ensures stays { IfOk result (λ o. IfSome o (λ t. AllIn
-        (outside_node target key.now (root_of tree.now)) (pieces_of t.tree))) }
-    ensures shapes { IfOk result (λ o. IfSome o (λ t. HasShape (plain_of tree.now)
-        × HasShape (plain_of t.tree))) }
-    ensures still { IfOk result (λ o. IfNone o (cells.new ≡ cells.old)) }
-    ensures few { OnOk result (cells.new.next ≤ cells.old.next + length key.now + 1) }
-    ensures onward { OnOk result (IsOnward cells.old cells.new) }
-
-    ensures there { OnErr result (IsThere target key.now (pairs_of (plain_of tree.now))) }
+    ensures cut { IfOk result (λ o. IfSome o (λ d. IsCut target key.now
+        (cell_ref root.old) (cell_ref root.new) d.row d.count cells.old cells.new)) }
+    ensures missing { IfOk result (λ o. IfNone o (HasNone target key.now
+        (cell_ref root.old) (cell_ref root.new) cells.old cells.new)) }
+    ensures unchanged { OnErr result (cell_ref root.new ≡ cell_ref root.old) }
+    ensures there { let n = bare (cell_ref root.old) in
+        OnErr result (LosesPairs target key.now (below n)) }
 {
-    let len = tree.len();
-    let Some(removed) = remove(tree.root(), key, target, cells)? else {
-        return Ok(None);
-    };
+    match take_at(root, key, target, cells)? {
+        Gone::Missing => Ok(None),
+        Gone::Kept(deleted) => Ok(Some(deleted)),
+        Gone::Left(removed) => Ok(Some(new_root(root, removed, cells)?)),
+    }
+}
+
+/// Puts what the root is left with in its place.
+fn new_root(root: &mut NodeRef, removed: Removed, cells: &mut Cells) -> Result<Deleted, AllocError>
+    requires rooted { let n = cell_ref root.old in n.prefix ≡ [] }
+    requires left { cells.old.next < 2 ^ 63 }
+    ensures cut { (target : Target) (key : Bytes) (n : CellNode) (old : Ledger)
+        → IsLeft target key n (cell_ref root.old) removed old cells.old
+        → IfOk result (λ d. IsCut target key n (cell_ref root.new) d.row d.count old cells.new) }
+    ensures unchanged { OnErr result (cell_ref root.new ≡ cell_ref root.old) }
+{
     let Removed {
         remains,
         row,
         count,
     } = removed;
-    let tree = Tree::of_root(remains.root(cells)?, len - count);
-    Ok(Some(Taken { tree, row, count }))
+    *root = remains.root(cells)?;
+    Ok(Deleted { row, count })
 }
 
 /// What a node is left with, the row of the key, where one key was to go, and how many leaves went.
 #[derive(Drop)]
-struct Removed {
+pub struct Removed {
     remains: Remains,
     row: Option<Row>,
     count: u64,

@@ -3,6 +3,7 @@
 mod deep;
 mod look_ups;
 mod notices;
+mod owned;
 mod refused;
 mod run;
 mod written;

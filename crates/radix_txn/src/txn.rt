@@ -1,23 +1,22 @@
 //! Transactions on a tree.
 mod writes;
 
-ghost use Rattle.std.specs.Prelude.{◌≡◌, ℕ, false, IfOk, IsOkAnd, length, option_copied};
+ghost use Rattle.std.specs.Prelude.{◌≡◌, ◌<◌, ℕ, List, false, IfErr, IfOk, length, option_copied};
 ghost use Rattle.radix_node.specs.Cells.{AreBelow};
 ghost use Rattle.radix_node.specs.Pairs.{find};
 ghost use Rattle.radix_node.specs.Watches.{WatchesHold};
 ghost use Rattle.radix_txn.specs.Notice.{IsNotice, IsOpened};
 ghost use Rattle.radix_txn.specs.Txn.{txn_pairs};
+ghost use Rattle.watch_word.specs.Logs.{Cell};
 
 use crate::notice::Notice;
 use mdb_datum::Row;
-use radix_node::Tree;
+use radix_node::{Left, Tree};
 use std::alloc::AllocError;
 use std::marker::Model;
-use std::sync::Arc;
-use watch_word::WatchCell;
 
-/// A tree that is being changed: a map from keys to rows. Each write makes a new tree, and the one
-/// before it stays whole for whoever else owns it. Contracts see it as the tree that it began with,
+/// A tree that is being changed: a map from keys to rows. What others own of its nodes stays whole
+/// for them; its own nodes are changed in place. Contracts see it as the tree that it began with,
 /// its present one, and whether it is spoiled.
 #[derive(Drop)]
 pub struct TreeTxn {
@@ -33,8 +32,10 @@ pub(crate) struct State {
     changed: bool,
     /// The first id that was drawn, once something was changed.
     first: u64,
+    /// The first id of those drawn since the tree was last shared; none where none was drawn since.
+    mark: Option<u64>,
     /// The cells of the first tree that are gone.
-    left: Vec<Arc<WatchCell>>,
+    left: Left,
 }
 
 impl Model for TreeTxn {
@@ -58,13 +59,14 @@ impl TreeTxn {
         requires { tree ≡ start }
         ensures { result ≡ record { start = start; tree = tree; spoiled = false } }
     {
-        let left = Vec::new(tree.root().edges().allocator());
+        let left = Left::new(tree.root().edges().allocator());
         TreeTxn {
             start,
             state: State {
                 tree,
                 changed: false,
                 first: 0,
+                mark: None,
                 left,
             },
             spoiled: false,
@@ -101,24 +103,30 @@ impl TreeTxn {
         ensures tree { IfOk result (λ t. t ≡ self.old.tree) }
         ensures unchanged { self.new ≡ self.old }
     {
+        self.state.mark = None;
         self.state.tree.share()
     }
 
     /// The tree that the transaction ends with, and the notice of the cells that are gone. What is
     /// watched in the tree that it began with is in the notice, or it is as it was. It takes no
-    /// memory, and isn't refused.
+    /// memory. `AllocError` comes where more than 8,192 cells are gone and the kit's `Arc` refuses
+    /// one more owner of the root.
     pub fn freeze(self) -> Result<(Tree, Notice), AllocError>
         requires sound { self.spoiled ≡ false }
-        ensures tree { IsOkAnd result (λ r. r.0 ≡ self.tree) }
+        ensures tree { IfOk result (λ r. r.0 ≡ self.tree) }
         ensures notice { IfOk result (λ r. IsNotice r.1 self.start self.tree) }
         ensures held { IfOk result (λ r. WatchesHold self.start self.tree) }
         ensures opened { IfOk result (λ r. (first : ℕ) × AreBelow first self.start
             × IsOpened first self.start self.tree) }
+        ensures refused { IfErr result (λ _. (cells : List Cell)
+            × IsNotice cells self.start self.tree × (8192 < length cells)) }
     {
         // Brings the shapes of both trees, and that the first has no id twice, into the proof.
         let _ = self.start.root();
         let _ = self.state.tree.root();
-        let State { tree, left, .. } = self.state;
-        Ok((tree, Notice { cells: left }))
+        let TreeTxn { start, state, .. } = self;
+        let State { tree, left, .. } = state;
+        let notice = Notice::of(left, start, &tree)?;
+        Ok((tree, notice))
     }
 }

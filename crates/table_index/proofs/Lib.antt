@@ -25,6 +25,7 @@ pub mod RowCounts
 pub mod RowKeys
 pub mod StoredRows
 pub mod RowRemoval
+pub mod WalkedRows
 pub mod WatchedRows
 pub mod WatchedTables
 pub mod WholeWipe

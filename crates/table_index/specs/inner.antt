@@ -1,3 +1,4 @@
+pub mod Collected
 pub mod Drawn
 pub mod Held
 pub mod Keys

@@ -7,11 +7,12 @@ ghost use Rattle.radix_node.specs.Cells.{plain_of};
 ghost use Rattle.radix_node.specs.Nodes.{pairs_of};
 ghost use Rattle.table_index.specs.inner.Held.{AreSound, AreTrees, nodes_of, rows_held};
 
-use crate::answer::answer;
+use crate::answer::answer_of;
 use crate::lookup::{Target, lookup};
 use crate::question::{has_argument, is_prefix_name};
 use crate::table::Table;
 use crate::table_txn::TableTxn;
+use crate::walk::walk_at;
 use mdb_schema::{Answer, AskError, IndexDef, Query, TableDef};
 use radix_node::Tree;
 use radix_txn::TreeTxn;
@@ -86,7 +87,8 @@ fn answer_standing(
     answer_at(alloc, &tree, at, query)
 }
 
-/// What a question is answered from the tree of the index where it looks.
+/// What a question is answered from the tree of the index where it looks: the rows of the walk for
+/// it.
 pub(crate) fn answer_at(
     alloc: Global,
     tree: &Tree,
@@ -98,8 +100,8 @@ pub(crate) fn answer_at(
         at.now.key (pairs_of (plain_of tree.now)))
         (λ e. e ≡ Memory) }
 {
-    let exact = is_exact(at.index(), query);
-    Ok(answer(alloc, tree, query.ask(), exact, at.key())?)
+    let walk = walk_at(tree, at, query)?;
+    Ok(answer_of(alloc, query.ask(), walk)?)
 }
 
 /// Whether a question asks for the entry of a very key, and not for those that begin with it.

@@ -16,18 +16,18 @@ ghost use Rattle.table_index.specs.inner.Writes.{TreesWrote, IsCutAt};
 
 use crate::id_key::IdKey;
 use crate::ids_left::has_ids;
+use crate::listing::{Listing, under_key};
 use crate::stored::stored_id;
 use crate::tree_edit::delete_prefix;
 use crate::wipe_error::WipeError;
 use mdb_datum::Row;
 use mdb_schema::TableDef;
-use radix_iter::{Walk, ascend};
 use radix_node::Ids;
 use radix_txn::TreeTxn;
 use std::alloc::{AllocError, Global};
 use watch_word::Front;
 
-/// A walk over the rows that the index at a place lists under a key, once the keys that begin with
+/// The rows that the index at a place lists under a key, once the keys that begin with
 /// it are out of its tree. Where it lists no row nothing changes.
 pub(crate) fn cut_listed(
     alloc: Global,
@@ -37,7 +37,7 @@ pub(crate) fn cut_listed(
     ids: &mut Ids,
     place: usize,
     key: &[u8],
-) -> Result<Walk, WipeError>
+) -> Result<Listing, WipeError>
     requires place { place < length txns.old }
     requires short { length key.now ≤ 2048 }
     requires ready { AreReady front.now ids.old txns.old }
@@ -63,7 +63,7 @@ pub(crate) fn cut_listed(
     Ok(listed)
 }
 
-/// A walk over the rows that the index at a place lists under a key, if there are ids for them.
+/// The rows that the index at a place lists under a key, if there are ids for them.
 fn checked_walk(
     alloc: Global,
     def: &TableDef,
@@ -71,7 +71,7 @@ fn checked_walk(
     ids: &Ids,
     place: usize,
     key: &[u8],
-) -> Result<Walk, WipeError>
+) -> Result<Listing, WipeError>
     requires place { place < length txns.old }
     requires sound { AreSound txns.old }
     requires held { AreTrees def.now (nodes_of txns.old) }
@@ -91,13 +91,13 @@ fn checked_walk(
     }
 }
 
-/// A walk over the rows that the index at a place lists under a key.
+/// The rows that the index at a place lists under a key.
 fn walk_at(
     alloc: Global,
     txns: &mut [TreeTxn],
     place: usize,
     key: &[u8],
-) -> Result<Walk, AllocError>
+) -> Result<Listing, AllocError>
     requires place { place < length txns.old }
     requires sound { AreSound txns.old }
     ensures rows { IfOk result (λ w. w ≡ listed_from key.now (slice_get txns.old place)) }
@@ -105,7 +105,7 @@ fn walk_at(
 {
     let txn = &mut txns[place];
     let tree = txn.stand()?;
-    ascend(alloc, &tree, key)
+    under_key(alloc, &tree, key)
 }
 
 /// Takes the keys that begin with a key out of the tree at a place.
@@ -164,9 +164,9 @@ fn are_enough(
     Ok(has_ids(ids, rows))
 }
 
-/// How many rows a walk gives, each counted once. It takes memory for their `id` keys, and time in
+/// How many rows there are, each counted once. It takes memory for their `id` keys, and time in
 /// the square of their number.
-fn count_once(alloc: Global, def: &TableDef, listed: Walk) -> Result<usize, WipeError>
+fn count_once(alloc: Global, def: &TableDef, listed: Listing) -> Result<usize, WipeError>
     requires { (r : Fields) → Contains listed r → IsStored def.now r }
     ensures { MatchResult result
         (λ count. count ≡ length (once def.now listed)) (λ e. e ≡ Memory) }
@@ -176,11 +176,11 @@ fn count_once(alloc: Global, def: &TableDef, listed: Walk) -> Result<usize, Wipe
     Ok(seen.len())
 }
 
-/// Adds the `id` keys of the rows that a walk gives to an empty list, each once.
+/// Adds the `id` keys of these rows to an empty list, each once.
 fn count_each(
     alloc: Global,
     def: &TableDef,
-    mut listed: Walk,
+    mut listed: Listing,
     seen: &mut Vec<IdKey>,
 ) -> Result<(), WipeError>
     requires stored { (r : Fields) → Contains listed r → IsStored def.now r }
@@ -188,7 +188,7 @@ fn count_each(
     ensures { MatchResult result
         (λ _. length seen.new.items ≡ length (once def.now listed)) (λ e. e ≡ Memory) }
 {
-    'rows: while let Some(row) = listed.next()? {
+    'rows: while let Some(row) = listed.next() {
         count_row(alloc, def, &row, seen)?;
     }
     Ok(())

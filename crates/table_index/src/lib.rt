@@ -2,8 +2,8 @@
 //!
 //! A [`Table`] keeps one radix tree an index, and contracts see it as its rows, rising by `id` key:
 //! that each tree holds the index's entries of the rows is the type's invariant. It never changes;
-//! a [`TableTxn`] makes new ones by copied paths, whose nodes and leaves get new cells, and tells
-//! at its end which cells are gone. A write and a question take time in the length of the keys and
+//! a [`TableTxn`] makes new ones: it copies the shared nodes on the paths of its writes, with new
+//! cells, changes its own in place, and tells at its end which cells are gone. A write and a question take time in the length of the keys and
 //! the number of the row's keys, never in the number of rows; a list of rows, and a wipe, take time
 //! in the number of the entries listed.
 #![tactic(auto)]
@@ -18,6 +18,7 @@ mod full_key;
 mod id_key;
 mod ids_left;
 mod listed;
+mod listing;
 mod lookup;
 mod notices;
 mod put;
@@ -36,6 +37,7 @@ mod tests;
 mod tree_edit;
 mod trees;
 mod txn;
+mod walk;
 mod watched;
 mod wipe;
 mod wipe_error;

@@ -19,13 +19,13 @@ ghost use Rattle.table_index.specs.inner.Writes.{WroteRows};
 use crate::cut::cut_listed;
 use crate::edits::delete_each;
 use crate::id_key::IdKey;
+use crate::listing::Listing;
 use crate::refusal::of_stored;
 use crate::row_keys::{full_keys_of, id_place};
 use crate::stored::stored_id;
 use crate::wipe_error::WipeError;
 use mdb_datum::Row;
 use mdb_schema::{Rows, TableDef};
-use radix_iter::Walk;
 use radix_node::Ids;
 use radix_txn::TreeTxn;
 use std::alloc::Global;
@@ -82,7 +82,7 @@ fn move_next(
     front: &Front,
     ids: &mut Ids,
     cut: usize,
-    listed: &mut Walk,
+    listed: &mut Listing,
     gone: &mut Rows,
 ) -> Result<bool, WipeError>
     requires stored { (r : Fields) → Contains listed.old r → IsStored def.now r }
@@ -98,7 +98,7 @@ fn move_next(
         HaveDrawn front.now (ids_of_row there) ids.old ids.new txns.old txns.new }
     ensures written { OnOk result (WroteRows def.now listed.old txns.old txns.new) }
 {
-    match listed.next()? {
+    match listed.next() {
         Some(row) => {
             move_listed(alloc, def, txns, front, ids, cut, row, gone)?;
             Ok(true)

@@ -8,7 +8,8 @@ use crate::{
     Db, DeferredList, Pass, ReadTxn, Receipt, Snapshot, TxnAskError, TxnWipeError, TxnWriteError,
 };
 use mdb_datum::Row;
-use mdb_schema::{Answer, Ask, AskError, Query, WriteError};
+use mdb_schema::{Answer, Ask, AskError, Query, Rows, WriteError};
+use radix_iter::Walk;
 use std::alloc::{AllocError, Global};
 use std::sync::Wait;
 use std::test::Fail;
@@ -52,6 +53,7 @@ fn ask_word(error: AskError) -> &'static str {
         AskError::NoPrefixForm => "no-prefix-form",
         AskError::ArgKind => "arg-kind",
         AskError::ArgCount => "arg-count",
+        AskError::OutOfRange => "out-of-range",
         AskError::NoPrefixName => "no-prefix-name",
         AskError::NotUnique => "not-unique",
         _ => "memory",
@@ -148,9 +150,43 @@ pub fn is_kept(alloc: Global, kept: &Snapshot, question: &Question, expected: &s
     is_answered(alloc, kept.ask(&query_of(alloc, question)?), expected)
 }
 
+/// The rows of a walk, in a list.
+fn collected(alloc: Global, walk: &mut Walk<'_>) -> Result<Rows, AllocError> {
+    let mut rows = Rows::new(alloc);
+    while let Some(row) = walk.next()? {
+        rows.push(row)?;
+    }
+    Ok(rows)
+}
+
+/// The answer that the rows of a walk make: a row or none where the question's word asks for one.
+fn walked_answer(alloc: Global, ask: Ask, walk: &mut Walk<'_>) -> Result<Answer, AllocError> {
+    match ask {
+        Ask::First | Ask::Last | Ask::Longest => Ok(Answer::One(walk.next()?)),
+        _ => Ok(Answer::Many(collected(alloc, walk)?)),
+    }
+}
+
+/// What a read transaction answers a question one row at a time.
+fn walked(alloc: Global, read: &ReadTxn, query: &Query) -> Result<Answer, AskError> {
+    let mut walk = read.walk(query)?;
+    Ok(walked_answer(alloc, query.ask(), &mut walk)?)
+}
+
 /// Whether a read transaction answers a question so.
 pub fn is_read(alloc: Global, read: &ReadTxn, question: &Question, expected: &str) -> Told {
     is_answered(alloc, read.ask(&query_of(alloc, question)?), expected)
+}
+
+/// Whether a read transaction answers a question so one row at a time.
+fn is_walked(alloc: Global, read: &ReadTxn, question: &Question, expected: &str) -> Told {
+    let query = query_of(alloc, question)?;
+    is_answered(alloc, walked(alloc, read, &query), expected)
+}
+
+/// Whether a read transaction answers a question so, at once and one row at a time.
+fn is_told_twice(alloc: Global, read: &ReadTxn, asked: &Asked) -> Told {
+    Ok(is_read(alloc, read, &asked.0, asked.1)? && is_walked(alloc, read, &asked.0, asked.1)?)
 }
 
 /// Whether an item is deferred.
@@ -300,7 +336,7 @@ fn is_received(receipt: Option<Receipt<String>>, turn: &Turn) -> bool {
 /// Whether a read transaction on this commit answers each question so.
 fn are_read(alloc: Global, read: &ReadTxn, number: u64, questions: &[Asked]) -> Told {
     for asked in questions {
-        if !is_read(alloc, read, &asked.0, asked.1)? {
+        if !is_told_twice(alloc, read, asked)? {
             return Ok(false);
         }
     }
@@ -387,6 +423,8 @@ fn is_script<R: Wait>(rt: &R, alloc: Global, script: &'static [Turn]) -> Told {
 }
 
 const NO_USERS: Asked = ((Ask::Get, "users", "id", "[]"), "");
+
+const NO_MAILS: Asked = ((Ask::Get, "users", "mail", "[]"), "");
 
 const ANN: Asked = (
     (Ask::Get, "users", "id", "[]"),
@@ -592,6 +630,47 @@ static DEFERRED: [Turn; 1] = [Turn {
     questions: &[NO_USERS],
 }];
 
+/// Rows come in the order of their keys and against it, by prefixes and by bounds that are compared
+/// with whole keys: those of `x` and `y` are `00 ff 78 00` and `01 00 79 00`.
+static BOUNDED: [Turn; 1] = [Turn {
+    first: &[
+        Step::Insert(("users", r#"{"name":"y","age":256}"#, "inserted")),
+        Step::Insert(("users", r#"{"name":"xa","age":7}"#, "inserted")),
+        Step::Insert(("users", r#"{"name":"x","age":255}"#, "inserted")),
+    ],
+    kept: NO_MAILS,
+    next: &[],
+    commits: true,
+    items: &[],
+    number: 1,
+    questions: &[
+        (
+            (Ask::Get, "users", "id", "[]"),
+            "{\"age\":255,\"name\":\"x\"}\n{\"age\":7,\"name\":\"xa\"}\n{\"age\":256,\"name\":\"y\"}\n",
+        ),
+        (
+            (Ask::Get, "users", "id", r#"["x"]"#),
+            "{\"age\":255,\"name\":\"x\"}\n",
+        ),
+        (
+            (Ask::GetReverse, "users", "id_prefix", r#"["x"]"#),
+            "{\"age\":7,\"name\":\"xa\"}\n{\"age\":255,\"name\":\"x\"}\n",
+        ),
+        ((Ask::First, "users", "id", r#"["z"]"#), "none"),
+        (
+            (Ask::Lower, "users", "age", "[256]"),
+            "{\"age\":256,\"name\":\"y\"}\n",
+        ),
+        ((Ask::Lower, "users", "age", "[65536]"), "out-of-range"),
+        (
+            (Ask::ReverseLower, "users", "age", "[256]"),
+            "{\"age\":255,\"name\":\"x\"}\n{\"age\":7,\"name\":\"xa\"}\n",
+        ),
+        ((Ask::ReverseLower, "users", "age", "[]"), "arg-count"),
+        ((Ask::Longest, "users", "id_prefix", r#"["xab"]"#), "none"),
+    ],
+}];
+
 /// The script of a number.
 fn script_of(number: u32) -> &'static [Turn] {
     match number {
@@ -600,13 +679,14 @@ fn script_of(number: u32) -> &'static [Turn] {
         2 => &REFUSED,
         3 => &WIPED,
         4 => &ABORTED,
-        _ => &DEFERRED,
+        5 => &DEFERRED,
+        _ => &BOUNDED,
     }
 }
 
 #[test]
 fn transactions_are_answered(rt: HostRuntime) -> Result<(), Fail> {
-    for number in 0..6 {
+    for number in 0..7 {
         assert!(rt;
             is_script(&rt, rt.alloc(), script_of(number))?,
             "script {number}"

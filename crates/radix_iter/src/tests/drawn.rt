@@ -1,4 +1,4 @@
-//! Keys drawn from a fixed sequence.
+//! Keys drawn from a fixed sequence, keys beside others, and all keys of one byte.
 use super::built::Entry;
 use std::alloc::{AllocError, Global};
 
@@ -19,18 +19,18 @@ pub fn drawn_key(alloc: Global, seed: &mut u32) -> Result<Vec<u8>, AllocError> {
     Ok(key)
 }
 
-/// Drawn keys as they come, some of them more than once.
-fn drawn_keys(alloc: Global, seed: &mut u32) -> Result<Vec<Vec<u8>>, AllocError> {
+/// So many drawn keys as they come, some of them more than once.
+fn drawn_keys(alloc: Global, count: u8, seed: &mut u32) -> Result<Vec<Vec<u8>>, AllocError> {
     let mut keys = Vec::new(alloc);
-    for _ in 0..160 {
+    for _ in 0..count {
         keys.push(drawn_key(alloc, seed)?)?;
     }
     Ok(keys)
 }
 
-/// Entries of drawn keys, sorted.
-pub fn drawn_entries(alloc: Global, seed: &mut u32) -> Result<Vec<Entry>, AllocError> {
-    let mut keys = drawn_keys(alloc, seed)?;
+/// Entries of so many drawn keys, sorted, each key once.
+pub fn drawn_entries(alloc: Global, count: u8, seed: &mut u32) -> Result<Vec<Entry>, AllocError> {
+    let mut keys = drawn_keys(alloc, count, seed)?;
     keys.sort()?;
     keys.dedup();
     numbered(alloc, keys)
@@ -42,6 +42,36 @@ fn numbered(alloc: Global, keys: Vec<Vec<u8>>) -> Result<Vec<Entry>, AllocError>
     for key in keys {
         let number = entries.len();
         entries.push(Entry { key, number })?;
+    }
+    Ok(entries)
+}
+
+/// The first key after a key: one byte 00 more.
+pub fn key_after(alloc: Global, key: &[u8]) -> Result<Vec<u8>, AllocError> {
+    let mut after = Vec::from_slice(alloc, key)?;
+    after.push(0)?;
+    Ok(after)
+}
+
+/// A key before a key: without its last byte, if that is 00, and else with a lower one in its
+/// place.
+pub fn key_before(alloc: Global, key: &[u8]) -> Result<Vec<u8>, AllocError> {
+    let mut before = Vec::from_slice(alloc, key)?;
+    if let Some(lower) = before.pop().and_then(|last| last.checked_sub(1)) {
+        before.push(lower)?;
+    }
+    Ok(before)
+}
+
+/// The entries of all keys of one byte, each with the byte for its number.
+pub fn byte_entries(alloc: Global) -> Result<Vec<Entry>, AllocError> {
+    let mut entries = Vec::new(alloc);
+    for byte in 0..=255_u8 {
+        let key = Vec::from_slice(alloc, &[byte])?;
+        entries.push(Entry {
+            key,
+            number: usize::from(byte),
+        })?;
     }
     Ok(entries)
 }

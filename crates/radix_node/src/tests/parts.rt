@@ -5,7 +5,7 @@ ghost use Rattle.radix_node.specs.Node.{edges_of, nodes_in};
 
 use super::built::{bare, cell, edge, edges_by, forked, leaf, leafed, row};
 use super::{is_node, is_row, labels_are};
-use crate::{Edges, Node, NodeRef};
+use crate::{Edges, Left, Node, NodeRef};
 use mdb_datum::Row;
 use std::alloc::{AllocError, Global};
 use std::test::Fail;
@@ -211,7 +211,7 @@ static BOUNDS: [(u64, usize); 4] = [(6, 4), (5, 3), (3, 2), (1, 0)];
 
 /// Whether so many cells of a node are listed, where ids below a bound are.
 fn lists(node: &Node, below: u64, count: usize, alloc: Global) -> Result<bool, AllocError> {
-    let mut cells = Vec::new(alloc);
+    let mut cells = Left::new(alloc);
     node.push_cells(below, &mut cells)?;
     Ok(cells.len() == count)
 }

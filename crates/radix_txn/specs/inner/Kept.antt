@@ -1,8 +1,8 @@
 -- What is true of a transaction that isn't spoiled.
-use Rattle.std.specs.Prelude.{◌≡◌, ◌≤◌, ℕ, Bool, true, false, List, [], map}
-use Rattle.std.specs.Arc.{arc_value}
+use Rattle.std.specs.Prelude.{◌≡◌, ◌≤◌, ℕ, Bool, true, false, List, []}
 use Rattle.watch_word.specs.Logs.{Cell}
-use Rattle.radix_node.specs.Cells.{AreBelow, CellTree, pieces_of}
+use Rattle.radix_node.specs.Ids.{Book}
+use Rattle.radix_node.specs.Cells.{AreBelow, AreOf, CellTree, pieces_of}
 use Rattle.radix_txn.specs.declared.txn.TreeTxn.TheInside.{Inside}
 use Rattle.radix_txn.specs.inner.Steps.{IsStep}
 
@@ -14,6 +14,9 @@ pub record IsChanged (first : ℕ) (start tree : CellTree) (gone : List Cell) : 
       (record { pieces = pieces_of start; next = first; left = [] })
       (record { pieces = pieces_of tree; next = next; left = gone })
   pub root : first ≤ tree.cell.id
+  -- the old tree's cells are of one book
+  pub book : Book
+  pub of : AreOf book start
 
 -- nothing was written, or something was
 abbrev pub IsWritten : Bool → ℕ → CellTree → CellTree → List Cell → Type 0
@@ -23,4 +26,4 @@ IsWritten true first start tree gone = IsChanged first start tree gone
 abbrev pub IsKept : Inside → Type 0
 IsKept t =
     let s = t.state in
-    t.spoiled ≡ false → IsWritten s.changed s.first t.start s.tree (map arc_value s.left.items)
+    t.spoiled ≡ false → IsWritten s.changed s.first t.start s.tree s.left

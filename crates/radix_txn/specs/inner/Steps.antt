@@ -29,12 +29,17 @@ pub record IsMade (P : Cell → Type 0) (from to : ℕ) (x : Piece) : Type 0 whe
   pub high : (piece_cell x).id < to
   pub holds : P (piece_cell x)
 
+-- a piece that is changed in place: it keeps its cell, which isn't one of the old tree's
+pub record IsHeld (first : ℕ) (before : List Piece) (x : Piece) : Type 0 where
+  pub low : first ≤ (piece_cell x).id
+  pub there : Has (piece_cell x) (map piece_cell before)
+
 -- from one moment to a later one, with new cells of which P holds
 pub record IsStep (P : Cell → Type 0) (first : ℕ) (a b : Tally) : Type 0 where
   pub begun : first ≤ a.next
   pub later : a.next ≤ b.next
-  -- each piece was there or was made
-  pub made : (x : Piece) → Has x b.pieces → Has x a.pieces ⊎ IsMade P a.next b.next x
+  -- each piece was there, was made, or was changed in place
+  pub made : (x : Piece) → Has x b.pieces → Has x a.pieces ⊎ (IsMade P a.next b.next x ⊎ IsHeld first a.pieces x)
   -- no id comes twice that didn't before
   pub few : (i : ℕ) → count_in i b.pieces ≤ count_in i a.pieces + drawn a.next b.next i
   -- what isn't there any more of the old tree has left

@@ -1,5 +1,5 @@
-//! A tree as deep as keys are long: one key for each number of letters from none to 2,048. Each
-//! write copies its whole path, which is short where the longest key came first.
+//! A tree as deep as keys are long: one key for each number of letters from none to 2,048. The
+//! writes before the first tree is given change their path in place, and those after it copy it.
 use super::written::{Work, row};
 use mdb_datum::Row;
 use radix_node::Tree;
@@ -30,6 +30,14 @@ fn take_half(work: &mut Work) -> Result<bool, AllocError> {
     Ok(count == 1024 && work.txn().len() == 1024)
 }
 
+/// Takes out the deepest key and puts it again, with no tree given in between, and tells whether it
+/// was there.
+fn renew_deepest(work: &mut Work, row: &Row) -> Result<bool, AllocError> {
+    let was_there = take_deepest(work)?;
+    drop(work.put(&LETTERS, row)?);
+    Ok(was_there)
+}
+
 /// Takes out the deepest key, and then the 1,024 that have 1,024 letters or more.
 fn take_deep(work: &mut Work) -> Result<bool, AllocError> {
     Ok(take_deepest(work)? && take_half(work)?)
@@ -47,8 +55,9 @@ fn is_deep(tree: &Tree) -> bool {
 /// right.
 fn is_deep_run(work: &mut Work, row: &Row, longest_first: bool) -> Result<bool, AllocError> {
     put_all(work, row, longest_first)?;
+    let in_place = renew_deepest(work, row)?;
     let tree = work.stand()?;
-    Ok(take_deep(work)? && is_deep(&tree))
+    Ok(in_place && take_deep(work)? && is_deep(&tree))
 }
 
 /// The same in a new transaction. Both trees are dropped.

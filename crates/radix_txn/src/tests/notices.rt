@@ -32,12 +32,7 @@ static INSERTS: [Line; 10] = [
 
 /// Whether a notice has the cell of an id.
 fn has(notice: &Notice, id: u64) -> bool {
-    for at in 0..notice.len() {
-        if notice.cell(at).is_some_and(|cell| cell.id() == id) {
-            return true;
-        }
-    }
-    false
+    notice.cells().iter().any(|cell| cell.id() == id)
 }
 
 /// Whether a cell is in the notice exactly where the look-up finds another one now, which is said.
@@ -67,16 +62,16 @@ fn tells_each(old: &Tree, new: &Tree, notice: &Notice, watches: &[Told]) -> bool
 }
 
 /// Whether a transaction on a tree ends with a notice of these watches, and of so many cells.
-fn ends_so(work: Work, old: &Tree, watches: &[Told], count: usize) -> Result<bool, AllocError> {
+fn ends_so(work: Work, old: &Tree, watches: &[Told], count: u32) -> Result<bool, AllocError> {
     let (new, notice) = work.freeze()?;
-    Ok(tells_each(old, &new, &notice, watches) && notice.len() == count)
+    Ok(tells_each(old, &new, &notice, watches) && notice.listed() == Some(count))
 }
 
 /// A transaction on a tree, and the tree.
 type Begun = (Work, Tree);
 
 /// The same of a transaction with its tree.
-fn is_told_so(begun: Begun, watches: &[Told], count: usize) -> Result<bool, AllocError> {
+fn is_told_so(begun: Begun, watches: &[Told], count: u32) -> Result<bool, AllocError> {
     let (work, old) = begun;
     ends_so(work, &old, watches, count)
 }
@@ -235,7 +230,7 @@ fn come_and_go(alloc: Global, work: &mut Work) -> Result<(), AllocError> {
 /// Whether a transaction ends with a tree of two keys and a notice of four cells.
 fn ends_small(work: Work) -> Result<bool, AllocError> {
     let (new, notice) = work.freeze()?;
-    Ok(new.len() == 2 && notice.len() == 4)
+    Ok(new.len() == 2 && notice.listed() == Some(4))
 }
 
 /// Cells that come and go within one transaction are in no notice.

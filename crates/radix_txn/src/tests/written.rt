@@ -86,6 +86,11 @@ impl Work {
         &self.txn
     }
 
+    /// How many ids are left to draw.
+    pub fn left(&self) -> u64 {
+        self.ids.left()
+    }
+
     /// Whether a write of a key is in order.
     fn is_ready(&self, key: &[u8]) -> bool
         ensures { result ≡ true → (length key.now ≤ 2048) × (self.now.spoiled ≡ false) }

@@ -2,7 +2,6 @@
 ghost use Rattle.std.specs.Prelude.{◌≡◌, ◌∷◌, List, ◌+◌, ◌*◌, ◌≤◌, ◌<◌, ◌↔◌, ◌^◌, ℕ, IfOk, IfNone};
 ghost use Rattle.std.specs.Prelude.{IfSome, OnErr, OnOk, true, false, if◌then◌else◌, is_err};
 ghost use Rattle.std.specs.Prelude.{length, map, take};
-ghost use Rattle.std.specs.Arc.{arc_value};
 ghost use Rattle.std.specs.List.{All};
 ghost use Rattle.mdb_datum.specs.Bytes.{Bytes};
 ghost use Rattle.radix_node.specs.Cells.{AreBelow, AreOf, pieces_of, plain_of, root_of};
@@ -21,30 +20,24 @@ ghost use Rattle.radix_txn.specs.inner.Steps.{Ledger, Steps};
 ghost use Rattle.radix_txn.specs.Write.{IsShort, after_write, after_writes, all_keys, write_keys};
 
 use crate::cells::Cells;
-use crate::insert::tree_with;
-use crate::remove::{self, Taken};
+use crate::insert::{Put, tree_with};
+use crate::remove::{self, Deleted, Taken};
 use crate::target::Target;
 use crate::txn::{State, TreeTxn};
 use crate::write::Write;
 use mdb_datum::Row;
 use radix_node::tree_laws::paths_are_told_by_the_keys;
-use radix_node::{Ids, Tree};
+use radix_node::{Ids, Left, Tree};
 use std::alloc::AllocError;
 use std::mem;
 use watch_word::Front;
 
-/// The row of the key, where one key was to go, and how many keys went.
-#[derive(Drop)]
-struct Deleted {
-    row: Option<Row>,
-    count: u64,
-}
-
 impl TreeTxn {
     /// Puts a row under a key, and gives the old row, if there was one. It takes memory for a copy
-    /// of the key and of each node on its path, each with a new cell. It is refused for want of
-    /// memory, of room to count one more owner of a node or row, or where there are 2^64 - 1 keys
-    /// already, and then it spoils the transaction.
+    /// of each shared node on the key's path and for what is new there, each with a new cell; the
+    /// transaction's own nodes are changed in place, and a leaf of its own gets the row. It is
+    /// refused for want of memory, of room to count one more owner of a node or row, or where there
+    /// are 2^64 - 1 keys already, and then it spoils the transaction.
     pub fn insert(
         &mut self,
         front: &Front,
@@ -80,15 +73,16 @@ impl TreeTxn {
     {
         self.spoiled = true;
         let cells = begin(&self.start, &mut self.state, front, ids)?;
-        let old = put_with(&mut self.state, ids, key, row, cells)?;
+        let old = put_with(&self.start, &mut self.state, ids, key, row, cells)?;
         self.spoiled = false;
         Ok(old)
     }
 
     /// Takes out a key, and gives the old row; `None`, where the key isn't stored, and then nothing
-    /// is copied and no cell is made. Else it takes memory for a copy of each node on the key's
-    /// path, each with a new cell, and is refused only for want of it, or of room to count one more
-    /// owner of a node or row; that spoils the transaction.
+    /// is copied and no cell is made. Else it takes memory for a copy of each shared node on the
+    /// key's path, and for the node that loses its leaf or an edge, each with a new cell; the
+    /// transaction's own nodes above it are changed in place. It is refused only for want of memory,
+    /// or of room to count one more owner of a node or row; that spoils the transaction.
     pub fn delete(
         &mut self,
         front: &Front,
@@ -126,9 +120,9 @@ impl TreeTxn {
     }
 
     /// Takes out the keys that begin with a prefix, and says how many they were; 0, where there is
-    /// no such key, and then nothing is copied and no cell is made. Else it takes memory for a copy
-    /// of each node on the prefix's path, each with a new cell, and is refused as
-    /// [`TreeTxn::delete`] is. It takes time in the number of keys that go.
+    /// no such key, and then nothing is copied and no cell is made. Else it takes memory as
+    /// [`TreeTxn::delete`] does, on the prefix's path, and is refused as that is. It takes time in
+    /// the number of keys that go.
     pub fn delete_prefix(
         &mut self,
         front: &Front,
@@ -209,7 +203,7 @@ impl TreeTxn {
     {
         self.spoiled = true;
         let cells = begin(&self.start, &mut self.state, front, ids)?;
-        let taken = take_with(&mut self.state, ids, key, target, cells)?;
+        let taken = take_with(&self.start, &mut self.state, ids, key, target, cells)?;
         let Some(deleted) = taken else {
             self.spoiled = false;
             return Ok(Deleted {
@@ -348,7 +342,7 @@ fn begin(start: &Tree, state: &mut State, front: &Front, ids: &Ids) -> Result<Ce
       log = front.now;
       first = if state.old.changed then state.old.first else ids.now.next;
       next = ids.now.next;
-      left = map arc_value state.old.left.items;
+      left = state.old.left;
     }) }
     ensures shape { HasShape (plain_of start.now) }
 {
@@ -356,23 +350,34 @@ fn begin(start: &Tree, state: &mut State, front: &Front, ids: &Ids) -> Result<Ce
     let _ = start.root();
     let front = front.share();
     let ids = ids.share()?;
-    let first = if state.changed {
-        state.first
-    } else {
-        ids.next()
-    };
+    let next = ids.next();
+    let first = if state.changed { state.first } else { next };
     let alloc = state.tree.root().edges().allocator();
-    let left = mem::replace(&mut state.left, Vec::new(alloc));
+    let left = mem::replace(&mut state.left, Left::new(alloc));
     Ok(Cells {
         front,
         ids,
         first,
+        mark: own_from(state.mark, first, next),
         left,
     })
 }
 
+/// From which id on nodes are the transaction's own.
+fn own_from(mark: Option<u64>, first: u64, next: u64) -> u64
+    requires { first ≤ next }
+    ensures { first ≤ result }
+{
+    match mark {
+        None => next,
+        Some(mark) if first <= mark => mark,
+        Some(_) => first,
+    }
+}
+
 /// Puts a row under a key with new cells, and gives the old row.
 fn put_with(
+    start: &Tree,
     state: &mut State,
     ids: &mut Ids,
     key: &[u8],
@@ -390,10 +395,10 @@ fn put_with(
       log = cells.log;
       first = state.new.first;
       next = ids.new.next;
-      left = map arc_value state.new.left.items;
+      left = state.new.left;
     } in
         OnOk result (Steps (pieces_of state.old.tree) cells (pieces_of state.new.tree) drawn) }
-    ensures fresh { OnOk result (cells.next ≤ state.new.tree.cell.id) }
+    ensures fresh { OnOk result (cells.first ≤ state.new.tree.cell.id) }
     ensures stays { OnOk result (AllIn
         (outside_node Key key.now (root_of state.old.tree)) (pieces_of state.new.tree)) }
     ensures shapes { OnOk result
@@ -407,13 +412,24 @@ fn put_with(
     ensures ids { OnErr result (ids.new ≡ ids.old) }
 {
     let mut cells = cells;
-    let (tree, old) = tree_with(&state.tree, key, row, &mut cells)?;
-    settle(state, ids, tree, cells);
-    Ok(old)
+    // The first tree stands in for the present one, which is changed by its only owner.
+    let tree = mem::replace(&mut state.tree, start.share()?);
+    let Put { tree, old } = tree_with(tree, key, row, &mut cells);
+    match old {
+        Ok(old) => {
+            settle(state, ids, tree, cells);
+            Ok(old)
+        }
+        Err(e) => {
+            state.tree = tree;
+            Err(e)
+        }
+    }
 }
 
 /// Takes out the keys of a target with new cells, if there are any.
 fn take_with(
+    start: &Tree,
     state: &mut State,
     ids: &mut Ids,
     key: &[u8],
@@ -430,11 +446,11 @@ fn take_with(
       log = cells.log;
       first = state.new.first;
       next = ids.new.next;
-      left = map arc_value state.new.left.items;
+      left = state.new.left;
     } in
         IfOk result (λ o. IfSome o (λ d.
         Steps (pieces_of state.old.tree) cells (pieces_of state.new.tree) drawn)) }
-    ensures fresh { IfOk result (λ o. IfSome o (λ d. cells.next ≤ state.new.tree.cell.id)) }
+    ensures fresh { IfOk result (λ o. IfSome o (λ d. cells.first ≤ state.new.tree.cell.id)) }
     ensures stays { IfOk result (λ o. IfSome o (λ d. AllIn
         (outside_node target key.now (root_of state.old.tree)) (pieces_of state.new.tree))) }
     ensures shapes { IfOk result (λ o. IfSome o (λ d. HasShape (plain_of state.old.tree)
@@ -450,7 +466,7 @@ fn take_with(
     ensures still { IfOk result (λ o. IfNone o (state.new.changed ≡ state.old.changed)) }
     ensures first { IfOk result (λ o. IfNone o (state.new.first ≡ state.old.first)) }
     ensures gone { IfOk result
-        (λ o. IfNone o (map arc_value state.new.left.items ≡ cells.left)) }
+        (λ o. IfNone o (state.new.left ≡ cells.left)) }
     ensures ids { IfOk result (λ o. IfNone o (ids.new ≡ ids.old)) }
     ensures same { IfOk result (λ o. IfNone o (state.new.tree ≡ state.old.tree)) }
 
@@ -458,13 +474,24 @@ fn take_with(
     ensures undrawn { OnErr result (ids.new ≡ ids.old) }
 {
     let mut cells = cells;
-    let Some(taken) = remove::take(&state.tree, key, target, &mut cells)? else {
-        restore(state, cells);
-        return Ok(None);
-    };
-    let Taken { tree, row, count } = taken;
-    settle(state, ids, tree, cells);
-    Ok(Some(Deleted { row, count }))
+    // The first tree stands in for the present one, which is changed by its only owner.
+    let tree = mem::replace(&mut state.tree, start.share()?);
+    let Taken { tree, deleted } = remove::take(tree, key, target, &mut cells);
+    match deleted {
+        Ok(Some(deleted)) => {
+            settle(state, ids, tree, cells);
+            Ok(Some(deleted))
+        }
+        Ok(None) => {
+            state.tree = tree;
+            restore(state, cells);
+            Ok(None)
+        }
+        Err(e) => {
+            state.tree = tree;
+            Err(e)
+        }
+    }
 }
 
 /// What a write that changes nothing leaves.
@@ -472,7 +499,7 @@ fn restore(state: &mut State, cells: Cells)
     ensures tree { state.new.tree ≡ state.old.tree }
     ensures changed { state.new.changed ≡ state.old.changed }
     ensures first { state.new.first ≡ state.old.first }
-    ensures left { map arc_value state.new.left.items ≡ cells.left }
+    ensures left { state.new.left ≡ cells.left }
 {
     let Cells { left, .. } = cells;
     state.left = left;
@@ -483,18 +510,20 @@ fn settle(state: &mut State, ids: &mut Ids, tree: Tree, cells: Cells)
     ensures tree { state.new.tree ≡ tree }
     ensures changed { state.new.changed ≡ true }
     ensures first { state.new.first ≡ cells.first }
-    ensures left { map arc_value state.new.left.items ≡ cells.left }
+    ensures left { state.new.left ≡ cells.left }
     ensures ids { ids.new ≡ record { book = cells.log.book; next = cells.next } }
 {
     let Cells {
         front: _,
         ids: drawn,
         first,
+        mark,
         left,
     } = cells;
     *ids = drawn;
     state.tree = tree;
     state.changed = true;
     state.first = first;
+    state.mark = Some(mark);
     state.left = left;
 }

@@ -111,16 +111,19 @@ fn a_wipe_wants_ids_for_each_row_once(rt: HostRuntime) -> Result<(), Fail> {
 }
 
 /// Whether the notices of two indexes have so many cells.
-fn have(notices: &Notices, by_name: usize, by_tag: usize) -> bool {
+fn have(notices: &Notices, by_name: u32, by_tag: u32) -> bool {
     let (Some(name), Some(tag)) = (notices.get(0), notices.get(1)) else {
         return false;
     };
-    notices.len() == 2 && notices.get(2).is_none() && name.len() == by_name && tag.len() == by_tag
+    notices.len() == 2
+        && notices.get(2).is_none()
+        && name.listed() == Some(by_name)
+        && tag.listed() == Some(by_tag)
 }
 
 /// The text of a row, how many cells the notice of the names has after its put, and how many that
 /// of the tags.
-type Noticed = (&'static str, usize, usize);
+type Noticed = (&'static str, u32, u32);
 
 // In the tree of names the root goes, whose edges are `ann` and `bob`; a tag `d` is a new edge of
 // the root of the other, and a name with the first letters of another splits its node, which keeps

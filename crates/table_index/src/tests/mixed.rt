@@ -7,6 +7,7 @@ use super::{Told, begun, def_of, right};
 use crate::WipeError;
 use mdb_datum::Row;
 use mdb_schema::{Answer, AskError, Rows, WriteError};
+use radix_iter::Walk;
 use std::alloc::{AllocError, Global};
 use std::test::Fail;
 
@@ -47,6 +48,21 @@ fn lines_of(alloc: Global, answer: &Answer) -> Result<Vec<u8>, AllocError> {
 pub fn told(alloc: Global, table: &Base, question: &Question) -> Result<Vec<u8>, AskError> {
     let answer = table.ask(&question.query)?;
     Ok(lines_of(alloc, &answer)?)
+}
+
+/// The texts of the rows of a walk.
+fn lines_of_walk(alloc: Global, walk: &mut Walk<'_>) -> Result<Vec<u8>, AllocError> {
+    let mut text = Vec::new(alloc);
+    while let Some(row) = walk.next()? {
+        push_line(&row, &mut text)?;
+    }
+    Ok(text)
+}
+
+/// The texts of the rows that a table gives one at a time.
+fn walked(alloc: Global, table: &Base, question: &Question) -> Result<Vec<u8>, AskError> {
+    let mut walk = table.walk(&question.query)?;
+    Ok(lines_of_walk(alloc, &mut walk)?)
 }
 
 /// Whether both answer a question the same. Want of memory is no answer.
@@ -129,10 +145,22 @@ fn write_both(txn: &mut Work, plain: &mut PlainTable, alloc: Global, write: &Wri
     }
 }
 
-/// Whether a drawn question is answered alike.
+/// Whether a walk over a table gives the rows of the other's answer. Want of memory is no answer.
+fn is_walked_alike(alloc: Global, table: &Base, plain: &PlainTable, question: &Question) -> Told {
+    let walked = walked(alloc, table, question);
+    if walked == Err(AskError::Memory) {
+        return Err(AllocError);
+    }
+    Ok(walked == plain.ask(alloc, question))
+}
+
+/// Whether a drawn question is answered alike, at once and one row at a time.
 fn is_drawn_alike(alloc: Global, random: &mut Random, table: &Base, plain: &PlainTable) -> Told {
     let question = random.question(alloc)?;
-    is_answered_alike(alloc, table, plain, &question)
+    Ok(
+        is_answered_alike(alloc, table, plain, &question)?
+            && is_walked_alike(alloc, table, plain, &question)?,
+    )
 }
 
 /// Whether drawn questions are answered alike.

@@ -56,15 +56,8 @@ fn is_noticed(notices: &Notices, spot: &Spot) -> bool {
     let Some(notice) = notices.get(spot.index() as usize) else {
         return false;
     };
-    for at in 0..notice.len() {
-        let Some(cell) = notice.cell(at) else {
-            return false;
-        };
-        if cell.id() == spot.watch().id() {
-            return true;
-        }
-    }
-    false
+    let watched = spot.watch().id();
+    notice.cells().iter().any(|cell| cell.id() == watched)
 }
 
 /// Whether the cell of the same question is another one in a later table exactly where that is

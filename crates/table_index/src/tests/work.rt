@@ -4,6 +4,7 @@ ghost use Rattle.std.specs.Prelude.{◌≡◌, ◌+◌, ◌≤◌, ◌^◌};
 use crate::{Notices, Table, TableTxn, WipeError};
 use mdb_datum::Row;
 use mdb_schema::{Answer, AskError, Query, Rows, TableDef, WriteError};
+use radix_iter::Walk;
 use radix_node::Ids;
 use std::alloc::{AllocError, Global};
 use std::marker::Model;
@@ -67,6 +68,11 @@ impl Base {
     /// The answer to a question.
     pub fn ask(&self, query: &Query) -> Result<Answer, AskError> {
         self.table.ask(query)
+    }
+
+    /// A walk over the rows of the answer to a question.
+    pub fn walk(&self, query: &Query) -> Result<Walk<'_>, AskError> {
+        self.table.walk(query)
     }
 
     /// A change of the table.

@@ -1,76 +1,68 @@
 -- The new root is the tree with the pair put.
-use Rattle.std.proofs.Common.{◌≡◌, ◌+◌, ◌∙◌, [], is_some, cond, sym, ap, subst, arith}
-use Rattle.std.specs.Arc.{arc_value}
-use Rattle.radix_node.specs.CellNode.{cell_node, cell_ref, tree_at}
-use Rattle.radix_node.specs.Cells.{CellLeaf, CellTree, plain_of}
-use Rattle.radix_node.specs.Node.{PlainNode, leaf_pair, node_of, plain_node}
+use Rattle.std.proofs.Common.{◌≡◌, ◌+◌, ◌∙◌, is_some, cond, length, refl, sym, ap, subst}
+use Rattle.radix_node.specs.CellNode.{cell_ref, tree_at}
+use Rattle.radix_node.specs.Node.{PlainNode, below, node_of}
 use Rattle.radix_node.specs.Nodes.{Plain, pairs_of}
 use Rattle.radix_node.specs.Shape.{HasShape}
-use Rattle.radix_node.specs.inner.Seek.{seek_plain}
-use Rattle.radix_node.proofs.CellLevels.{bare_ref, same_prefix}
-use Rattle.radix_txn.specs.inner.Below.{IsShapedBelow, row_in}
-use Rattle.radix_txn.specs.inner.Steps.{IsNextOf, Ledger}
-use Rattle.radix_txn.proofs.CellTreeSteps.{apart_step, tree_insert_step}
-use Rattle.radix_txn.specs.declared.target.Target.TheVariants.{Key}
-use Rattle.radix_txn.proofs.EditStays.{tree_stays}
-use Rattle.radix_txn.proofs.ChildShape.{shaped_root}
-use Rattle.radix_txn.proofs.TreeWrites.{found_row, inserted_pairs, inserted_shape, inserted_count}
+use Rattle.radix_node.specs.inner.Siblings.{bare}
+use Rattle.radix_node.proofs.CellLevels.{bare_ref}
+use Rattle.radix_txn.proofs.PutTree.{put_apart, put_count, put_found, put_pairs, put_shape, put_stays, put_steps}
 use Rattle.radix_txn.proofs.insert.tree_with.Goals as goal
-
-pub insert-requires : goal.insert-requires
-insert-requires c = record {
-  shape = subst (λ (t : Plain). IsShapedBelow t.nodes) (sym c.root-root.ensures.root) (shaped_root (plain_of c.args.tree.now) c.root-root.ensures.shape);
-  left = (let drawn = ap (λ (l : Ledger). l.next) c.in_ok-leaf.ensures.drawn in omega (arith, drawn, c.requires.left));
-}
 
 pub of_root-requires-clause-shape : goal.of_root-requires-clause-shape
 of_root-requires-clause-shape c =
-    inserted_shape c.args.key.now c.args.row.now (plain_of c.args.tree.now) c.root-root.ensures.shape (node_of c.in_ok-node.field-0.node) (plain_node c.root-root.result.now) (leaf_pair c.in_ok-leaf.leaf) c.root-root.ensures.root (ap (λ (l : CellLeaf). l.pair) c.in_ok-leaf.ensures.leaf.2) c.in_ok-node.ensures.node
+    let r = c.into_root-root in
+    let rooted = ap (λ (p : PlainNode). p.prefix) (bare_ref r.result) ∙ r.ensures.rooted in
+    subst (λ (p : PlainNode). HasShape (below p)) (bare_ref c.put_root.new.root)
+    (put_shape c.args.tree (cell_ref r.result) r.ensures.cells r.ensures.shape c.args.key.now c.args.row.now (cell_ref c.put_root.new.root) c.in-Ok.placed.old c.args.cells.now c.put_root.new.cells rooted c.in-Ok.ensures.put)
 
 pub of_root-requires-clause-counted : goal.of_root-requires-clause-counted
 of_root-requires-clause-counted c =
-    let old = c.in_ok-node.ensures.old ∙ ap (λ (z : Plain). row_in (seek_plain c.args.key.now z)) c.root-root.ensures.root ∙ found_row c.args.key.now (plain_of c.args.tree.now) c.root-root.ensures.shape in
-    c.in_ok-len.ensures ∙ (λ i. cond (is_some c.in_ok-node.field-0.old) (c.len.ensures i) (c.len.ensures i + 1))
-    ∙ sym (inserted_count c.args.key.now c.args.row.now (plain_of c.args.tree.now) c.root-root.ensures.shape (node_of c.in_ok-node.field-0.node) (plain_node c.root-root.result.now) (leaf_pair c.in_ok-leaf.leaf) c.root-root.ensures.root (ap (λ (l : CellLeaf). l.pair) c.in_ok-leaf.ensures.leaf.2) c.in_ok-node.ensures.node c.in_ok-node.field-0.old old)
+    let r = c.into_root-root in
+    let rooted = ap (λ (p : PlainNode). p.prefix) (bare_ref r.result) ∙ r.ensures.rooted in
+    c.in-Ok.ensures.len ∙ (λ i. cond (is_some c.in-Ok.placed.old) (c.len-len.ensures i) (c.len-len.ensures i + 1))
+    ∙ sym (put_count c.args.tree (cell_ref r.result) r.ensures.cells r.ensures.shape c.args.key.now c.args.row.now (cell_ref c.put_root.new.root) c.in-Ok.placed.old c.args.cells.now c.put_root.new.cells rooted c.in-Ok.ensures.put)
+    ∙ ap (λ (p : PlainNode). length (pairs_of (below p))) (bare_ref c.put_root.new.root)
 
 pub of_root-requires-clause-apart : goal.of_root-requires-clause-apart
 of_root-requires-clause-apart c =
-    let n = cell_node c.root-root.result.now in
-    let r = cell_ref c.in_ok-node.field-0.node in
-    let none : n.prefix ≡ [] = sym (same_prefix c.root-root.result.now) ∙ c.root-root.ensures.rooted in
-    let none_2 : r.prefix ≡ [] = ap (λ (m : PlainNode). m.prefix) (bare_ref c.in_ok-node.field-0.node ∙ c.in_ok-node.ensures.node) ∙ c.root-root.ensures.rooted in
-    let step = tree_insert_step c.args.tree.now (tree_at r) n r (arc_value c.in_ok-leaf.leaf) c.args.cells.now c.new_leaf.new.cells c.insert.new.cells c.root-root.ensures.cells none (ap tree_at (let same : r ≡ r = λ i. r in same)) none_2 c.in_ok-leaf.ensures.begun (subst (λ (l : CellLeaf). IsNextOf c.args.cells.now l.cell) (sym c.in_ok-leaf.ensures.leaf.2) c.in_ok-leaf.ensures.leaf.1) c.in_ok-leaf.ensures.drawn c.in_ok-node.ensures.cells in
-    apart_step c.args.tree.now (tree_at r) c.args.cells.now c.insert.new.cells step c.root-root.ensures.apart c.requires.below
+    let r = c.into_root-root in
+    let rooted = ap (λ (p : PlainNode). p.prefix) (bare_ref r.result) ∙ r.ensures.rooted in
+    put_apart c.args.tree (cell_ref r.result) r.ensures.cells r.ensures.shape c.args.key.now c.args.row.now (cell_ref c.put_root.new.root) c.in-Ok.placed.old c.args.cells.now c.put_root.new.cells rooted c.in-Ok.ensures.put (tree_at (cell_ref c.put_root.new.root)) refl r.ensures.apart c.requires.below
 
-pub returns-clause-pairs : goal.returns-clause-pairs
-returns-clause-pairs c =
-    ap pairs_of c.of_root.ensures.plain
-    ∙ inserted_pairs c.args.key.now c.args.row.now (plain_of c.args.tree.now) c.root-root.ensures.shape (node_of c.in_ok-node.field-0.node) (plain_node c.root-root.result.now) (leaf_pair c.in_ok-leaf.leaf) c.root-root.ensures.root (ap (λ (l : CellLeaf). l.pair) c.in_ok-leaf.ensures.leaf.2) c.in_ok-node.ensures.node
+pub of_root-requires-in-Err-clause-shape : goal.of_root-requires-in-Err-clause-shape
+of_root-requires-in-Err-clause-shape c =
+    let r = c.into_root-root in
+    let same : node_of c.put_root.new.root ≡ node_of r.result = sym (bare_ref c.put_root.new.root) ∙ ap bare c.in-Err.ensures.unchanged ∙ bare_ref r.result in
+    subst HasShape (sym (ap below same ∙ r.ensures.root)) r.ensures.shape
 
-pub returns-clause-old : goal.returns-clause-old
-returns-clause-old c = c.in_ok-node.ensures.old ∙ ap (λ (z : Plain). row_in (seek_plain c.args.key.now z)) c.root-root.ensures.root ∙ found_row c.args.key.now (plain_of c.args.tree.now) c.root-root.ensures.shape
+pub of_root-requires-in-Err-clause-counted : goal.of_root-requires-in-Err-clause-counted
+of_root-requires-in-Err-clause-counted c =
+    let r = c.into_root-root in
+    let same : node_of c.put_root.new.root ≡ node_of r.result = sym (bare_ref c.put_root.new.root) ∙ ap bare c.in-Err.ensures.unchanged ∙ bare_ref r.result in
+    c.len-len.ensures ∙ ap (λ (p : Plain). length (pairs_of p)) (sym (ap below same ∙ r.ensures.root))
 
-pub returns-clause-cells : goal.returns-clause-cells
-returns-clause-cells c =
-    let n = cell_node c.root-root.result.now in
-    let r = cell_ref c.in_ok-node.field-0.node in
-    let none : n.prefix ≡ [] = sym (same_prefix c.root-root.result.now) ∙ c.root-root.ensures.rooted in
-    let none_2 : r.prefix ≡ [] = ap (λ (m : PlainNode). m.prefix) (bare_ref c.in_ok-node.field-0.node ∙ c.in_ok-node.ensures.node) ∙ c.root-root.ensures.rooted in
-    tree_insert_step c.args.tree.now c.of_root.result n r (arc_value c.in_ok-leaf.leaf) c.args.cells.now c.new_leaf.new.cells c.insert.new.cells c.root-root.ensures.cells none (sym c.of_root.ensures.tree) none_2 c.in_ok-leaf.ensures.begun (subst (λ (l : CellLeaf). IsNextOf c.args.cells.now l.cell) (sym c.in_ok-leaf.ensures.leaf.2) c.in_ok-leaf.ensures.leaf.1) c.in_ok-leaf.ensures.drawn c.in_ok-node.ensures.cells
+pub returns-in-Ok-clause-pairs : goal.returns-in-Ok-clause-pairs
+returns-in-Ok-clause-pairs c =
+    let r = c.into_root-root in
+    let rooted = ap (λ (p : PlainNode). p.prefix) (bare_ref r.result) ∙ r.ensures.rooted in
+    ap pairs_of c.of_root.ensures.plain ∙ ap (λ (p : PlainNode). pairs_of (below p)) (sym (bare_ref c.put_root.new.root))
+    ∙ put_pairs c.args.tree (cell_ref r.result) r.ensures.cells r.ensures.shape c.args.key.now c.args.row.now (cell_ref c.put_root.new.root) c.in-Ok.placed.old c.args.cells.now c.put_root.new.cells rooted c.in-Ok.ensures.put
 
-pub returns-clause-fresh : goal.returns-clause-fresh
-returns-clause-fresh c =
-    let drawn = ap (λ (l : Ledger). l.next) c.in_ok-leaf.ensures.drawn in
-    let root : c.of_root.result.cell.id ≡ (cell_ref c.in_ok-node.field-0.node).cell.id = ap (λ (t : CellTree). t.cell.id) c.of_root.ensures.tree in
-    omega (arith, drawn, c.in_ok-node.ensures.fresh, root)
+pub returns-in-Ok-clause-old : goal.returns-in-Ok-clause-old
+returns-in-Ok-clause-old c =
+    let r = c.into_root-root in
+    let rooted = ap (λ (p : PlainNode). p.prefix) (bare_ref r.result) ∙ r.ensures.rooted in
+    put_found c.args.tree (cell_ref r.result) r.ensures.cells r.ensures.shape c.args.key.now c.args.row.now (cell_ref c.put_root.new.root) c.in-Ok.placed.old c.args.cells.now c.put_root.new.cells rooted c.in-Ok.ensures.put
 
-pub returns-clause-stays : goal.returns-clause-stays
-returns-clause-stays c =
-    tree_stays Key c.args.key.now c.args.tree.now c.of_root.result (cell_node c.root-root.result.now) (cell_ref c.in_ok-node.field-0.node) c.root-root.ensures.cells (sym c.of_root.ensures.tree) c.in_ok-node.ensures.stays
+pub returns-in-Ok-clause-cells : goal.returns-in-Ok-clause-cells
+returns-in-Ok-clause-cells c =
+    let r = c.into_root-root in
+    let rooted = ap (λ (p : PlainNode). p.prefix) (bare_ref r.result) ∙ r.ensures.rooted in
+    put_steps c.args.tree (cell_ref r.result) r.ensures.cells r.ensures.shape c.args.key.now c.args.row.now (cell_ref c.put_root.new.root) c.in-Ok.placed.old c.args.cells.now c.put_root.new.cells rooted c.in-Ok.ensures.put c.of_root.result (sym c.of_root.ensures.tree)
 
-pub returns-clause-shapes : goal.returns-clause-shapes
-returns-clause-shapes c = (
-  c.root-root.ensures.shape,
-  subst HasShape (sym c.of_root.ensures.plain)
-      (inserted_shape c.args.key.now c.args.row.now (plain_of c.args.tree.now) c.root-root.ensures.shape (node_of c.in_ok-node.field-0.node) (plain_node c.root-root.result.now) (leaf_pair c.in_ok-leaf.leaf) c.root-root.ensures.root (ap (λ (l : CellLeaf). l.pair) c.in_ok-leaf.ensures.leaf.2) c.in_ok-node.ensures.node),
-)
+pub returns-in-Ok-clause-stays : goal.returns-in-Ok-clause-stays
+returns-in-Ok-clause-stays c =
+    let r = c.into_root-root in
+    let rooted = ap (λ (p : PlainNode). p.prefix) (bare_ref r.result) ∙ r.ensures.rooted in
+    put_stays c.args.tree (cell_ref r.result) r.ensures.cells r.ensures.shape c.args.key.now c.args.row.now (cell_ref c.put_root.new.root) c.in-Ok.placed.old c.args.cells.now c.put_root.new.cells rooted c.in-Ok.ensures.put c.of_root.result (sym c.of_root.ensures.tree)

@@ -15,7 +15,7 @@ returns-in-None-clause-drawn c =
 
 pub returns-in_ok-move_listed-in-Some-clause-written : goal.returns-in_ok-move_listed-in-Some-clause-written
 returns-in_ok-move_listed-in-Some-clause-written c =
-    first_wrote c.args.def.now c.args.listed.now c.in-Some.row (sym c.in_ok-row.ensures.next ∙ c.in-Some.is) c.args.txns.now c.move_listed.new.txns c.in_ok-move_listed-in-Some.ensures.written
+    first_wrote c.args.def.now c.args.listed.now c.in-Some.row (sym c.next.ensures.next ∙ c.in-Some.is) c.args.txns.now c.move_listed.new.txns c.in_ok-move_listed-in-Some.ensures.written
 
 pub returns-in-None-clause-written : goal.returns-in-None-clause-written
 returns-in-None-clause-written c = trees_none (InIndex (IsKeyOf c.args.def.now c.args.listed.now) c.args.def.now.indexes) c.args.txns.now

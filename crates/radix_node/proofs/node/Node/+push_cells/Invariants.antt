@@ -1,5 +1,4 @@
-use Rattle.std.proofs.Common.{◌≡◌, ◌<◌, ◌+◌, ◌^◌, length, map, drop}
-use Rattle.std.specs.Arc.{arc_value}
+use Rattle.std.proofs.Common.{◌≡◌, ◌<◌, ◌+◌, ◌^◌, length, drop}
 use Rattle.radix_node.specs.CellNode.{cell_node}
 use Rattle.radix_node.specs.Left.{all_cells, leave_all}
 use Rattle.radix_node.specs.Node.{below_prefix}
@@ -12,5 +11,5 @@ use Rattle.radix_node.proofs.node.Node.+push_cells.Given as goal
 -- what stands under these edges make up all leaves
 abbrev pub invariant-loop-edge : goal.invariant-loop-edge
 invariant-loop-edge l =
-    (leave_all l.first (cells_under (drop l.edge-index l.edge-items)) (map arc_value l.into.items) ≡ leave_all l.first (all_cells (cell_node l.self)) (map arc_value l.fn.into.items))
+    (leave_all l.first (cells_under (drop l.edge-index l.edge-items)) l.into ≡ leave_all l.first (all_cells (cell_node l.self)) l.fn.into)
     × (length (pairs_of (below_prefix l.self)) < 2 ^ 64 → l.count + count_under (drop l.edge-index l.edge-items) ≡ length (pairs_of (below_prefix l.self)))

@@ -1,6 +1,5 @@
 -- The transaction has the new tree, and the cells that have left.
-use Rattle.std.proofs.Common.{refl, ◌∙◌, map, sym, ap, subst, cond}
-use Rattle.std.specs.Arc.{arc_value}
+use Rattle.std.proofs.Common.{refl, ◌∙◌, sym, ap, subst, cond}
 use Rattle.radix_node.specs.Cells.{AreBelow, AreOf}
 use Rattle.radix_node.specs.Ids.{Counter}
 use Rattle.radix_txn.specs.Kept.{AreWritten}
@@ -15,7 +14,7 @@ begin-requires-clause-begun c =
     let s = c.self.inside.state in
     let kept = c.self.invariant (ap (λ (t : Txn). t.spoiled) c.self.view_is ∙ c.requires.sound) in
     let below : AreBelow c.args.ids.now.next s.tree = subst (AreBelow c.args.ids.now.next) (sym (ap (λ (t : Txn). t.tree) c.self.view_is)) c.requires.below in
-    first_low s.changed s.first c.self.inside.start s.tree (map arc_value s.left.items) c.args.ids.now.next kept below
+    first_low s.changed s.first c.self.inside.start s.tree s.left c.args.ids.now.next kept below
 
 pub invariant_of-self-2 : goal.invariant_of-self-2
 invariant_of-self-2 c sound =
@@ -26,9 +25,9 @@ invariant_of-self-2 c sound =
     let below_start : AreBelow c.args.ids.now.next c.self.inside.start = subst (AreBelow c.args.ids.now.next) (sym (ap (λ (t : Txn). t.start) c.self.view_is)) c.requires.below_start in
     let w = c.put_with.new.state in
     let l = c.in_ok-cells.cells in
-    let d : Ledger = record { log = l.log; first = w.first; next = c.put_with.new.ids.next; left = map arc_value w.left.items } in
+    let d : Ledger = record { log = l.log; first = w.first; next = c.put_with.new.ids.next; left = w.left } in
     let onward : IsOnward l d = record { log = refl; first = c.in_ok-old.ensures.first } in
-    let end = ended s.changed s.first c.args.ids.now.next c.self.inside.start s.tree _ w.tree (map arc_value s.left.items) c.args.front.now l d kept below_start below of c.in_ok-cells.ensures.tree c.in_ok-cells.ensures.ledger c.in_ok-old.ensures.cells onward c.in_ok-old.ensures.fresh in
+    let end = ended s.changed s.first c.args.ids.now.next c.self.inside.start s.tree _ w.tree s.left c.args.front.now l d kept below_start below of c.in_ok-cells.ensures.tree c.in_ok-cells.ensures.ledger c.in_ok-old.ensures.cells onward c.in_ok-old.ensures.fresh in
     kept_new _ _ c.self.inside.start _ w.tree _ d c.in_ok-old.ensures.changed refl refl refl end.changed
 
 pub returns-clause-below : goal.returns-clause-below
@@ -40,9 +39,9 @@ returns-clause-below c =
     let below_start : AreBelow c.args.ids.now.next c.self.inside.start = subst (AreBelow c.args.ids.now.next) (sym (ap (λ (t : Txn). t.start) c.self.view_is)) c.requires.below_start in
     let w = c.put_with.new.state in
     let l = c.in_ok-cells.cells in
-    let d : Ledger = record { log = l.log; first = w.first; next = c.put_with.new.ids.next; left = map arc_value w.left.items } in
+    let d : Ledger = record { log = l.log; first = w.first; next = c.put_with.new.ids.next; left = w.left } in
     let onward : IsOnward l d = record { log = refl; first = c.in_ok-old.ensures.first } in
-    let end = ended s.changed s.first c.args.ids.now.next c.self.inside.start s.tree _ w.tree (map arc_value s.left.items) c.args.front.now l d kept below_start below of c.in_ok-cells.ensures.tree c.in_ok-cells.ensures.ledger c.in_ok-old.ensures.cells onward c.in_ok-old.ensures.fresh in
+    let end = ended s.changed s.first c.args.ids.now.next c.self.inside.start s.tree _ w.tree s.left c.args.front.now l d kept below_start below of c.in_ok-cells.ensures.tree c.in_ok-cells.ensures.ledger c.in_ok-old.ensures.cells onward c.in_ok-old.ensures.fresh in
     end.below
 
 pub returns-clause-of : goal.returns-clause-of
@@ -54,9 +53,9 @@ returns-clause-of c =
     let below_start : AreBelow c.args.ids.now.next c.self.inside.start = subst (AreBelow c.args.ids.now.next) (sym (ap (λ (t : Txn). t.start) c.self.view_is)) c.requires.below_start in
     let w = c.put_with.new.state in
     let l = c.in_ok-cells.cells in
-    let d : Ledger = record { log = l.log; first = w.first; next = c.put_with.new.ids.next; left = map arc_value w.left.items } in
+    let d : Ledger = record { log = l.log; first = w.first; next = c.put_with.new.ids.next; left = w.left } in
     let onward : IsOnward l d = record { log = refl; first = c.in_ok-old.ensures.first } in
-    let end = ended s.changed s.first c.args.ids.now.next c.self.inside.start s.tree _ w.tree (map arc_value s.left.items) c.args.front.now l d kept below_start below of c.in_ok-cells.ensures.tree c.in_ok-cells.ensures.ledger c.in_ok-old.ensures.cells onward c.in_ok-old.ensures.fresh in
+    let end = ended s.changed s.first c.args.ids.now.next c.self.inside.start s.tree _ w.tree s.left c.args.front.now l d kept below_start below of c.in_ok-cells.ensures.tree c.in_ok-cells.ensures.ledger c.in_ok-old.ensures.cells onward c.in_ok-old.ensures.fresh in
     subst (λ k. AreOf k w.tree) (sym c.in_ok-old.ensures.book) end.of
 
 pub returns-clause-below_start : goal.returns-clause-below_start
@@ -68,9 +67,9 @@ returns-clause-below_start c =
     let below_start : AreBelow c.args.ids.now.next c.self.inside.start = subst (AreBelow c.args.ids.now.next) (sym (ap (λ (t : Txn). t.start) c.self.view_is)) c.requires.below_start in
     let w = c.put_with.new.state in
     let l = c.in_ok-cells.cells in
-    let d : Ledger = record { log = l.log; first = w.first; next = c.put_with.new.ids.next; left = map arc_value w.left.items } in
+    let d : Ledger = record { log = l.log; first = w.first; next = c.put_with.new.ids.next; left = w.left } in
     let onward : IsOnward l d = record { log = refl; first = c.in_ok-old.ensures.first } in
-    let end = ended s.changed s.first c.args.ids.now.next c.self.inside.start s.tree _ w.tree (map arc_value s.left.items) c.args.front.now l d kept below_start below of c.in_ok-cells.ensures.tree c.in_ok-cells.ensures.ledger c.in_ok-old.ensures.cells onward c.in_ok-old.ensures.fresh in
+    let end = ended s.changed s.first c.args.ids.now.next c.self.inside.start s.tree _ w.tree s.left c.args.front.now l d kept below_start below of c.in_ok-cells.ensures.tree c.in_ok-cells.ensures.ledger c.in_ok-old.ensures.cells onward c.in_ok-old.ensures.fresh in
     end.below_start
 
 -- ---- the cells that are drawn
@@ -84,12 +83,12 @@ returns-clause-drawn c =
     let below_start : AreBelow c.args.ids.now.next c.self.inside.start = subst (AreBelow c.args.ids.now.next) (sym (ap (λ (t : Txn). t.start) c.self.view_is)) c.requires.below_start in
     let w = c.put_with.new.state in
     let l = c.in_ok-cells.cells in
-    let d : Ledger = record { log = l.log; first = w.first; next = c.put_with.new.ids.next; left = map arc_value w.left.items } in
+    let d : Ledger = record { log = l.log; first = w.first; next = c.put_with.new.ids.next; left = w.left } in
     let onward : IsOnward l d = record { log = refl; first = c.in_ok-old.ensures.first } in
-    let end = ended s.changed s.first c.args.ids.now.next c.self.inside.start s.tree _ w.tree (map arc_value s.left.items) c.args.front.now l d kept below_start below of c.in_ok-cells.ensures.tree c.in_ok-cells.ensures.ledger c.in_ok-old.ensures.cells onward c.in_ok-old.ensures.fresh in
+    let end = ended s.changed s.first c.args.ids.now.next c.self.inside.start s.tree _ w.tree s.left c.args.front.now l d kept below_start below of c.in_ok-cells.ensures.tree c.in_ok-cells.ensures.ledger c.in_ok-old.ensures.cells onward c.in_ok-old.ensures.fresh in
     let ids = c.args.ids.now in
     let drawn = ap (λ k. let n : Counter = record { book = k; next = d.next } in n) c.in_ok-old.ensures.book in
-    drawn_ends c.args.front.now ids c.put_with.new.ids c.self.inside.start s.tree c.args.self.now.tree w.tree w.tree (cond s.changed s.first ids.next) (map arc_value s.left.items) d (ap (λ (t : Txn). t.tree) c.self.view_is) refl c.requires.book drawn end
+    drawn_ends c.args.front.now ids c.put_with.new.ids c.self.inside.start s.tree c.args.self.now.tree w.tree w.tree (cond s.changed s.first ids.next) s.left d (ap (λ (t : Txn). t.tree) c.self.view_is) refl c.requires.book drawn end
 
 pub returns-in_err-cells-clause-drawn : goal.returns-in_err-cells-clause-drawn
 returns-in_err-cells-clause-drawn c = none_drawn _ _ _ _ _ (c.in_err-cells.ensures.tree ∙ ap (λ (t : Txn). t.tree) c.self.view_is)

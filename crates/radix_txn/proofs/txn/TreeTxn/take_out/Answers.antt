@@ -1,6 +1,5 @@
 -- The transaction has the tree that is left, and the cells that have left.
-use Rattle.std.proofs.Common.{refl, ◌≡◌, ◌≤◌, ◌∙◌, true, map, sym, ap, subst, IfNone, IfSome, cond}
-use Rattle.std.specs.Arc.{arc_value}
+use Rattle.std.proofs.Common.{refl, ◌≡◌, ◌≤◌, ◌∙◌, true, sym, ap, subst, IfNone, IfSome, cond}
 use Rattle.radix_node.specs.Cells.{AreBelow, AreOf, pieces_of, plain_of, root_of}
 use Rattle.radix_node.specs.Ids.{Counter}
 use Rattle.radix_node.specs.Nodes.{pairs_of}
@@ -9,7 +8,7 @@ use Rattle.radix_txn.specs.Kept.{AreWritten}
 use Rattle.radix_txn.specs.Txn.{Txn, txn_pairs}
 use Rattle.radix_txn.specs.inner.Outside.{AllIn, outside_node}
 use Rattle.radix_txn.specs.inner.Removal.{IsAbsent, IsTaken, taken_keys}
-use Rattle.radix_txn.specs.declared.txn.writes.Deleted.{Deleted}
+use Rattle.radix_txn.specs.declared.remove.Deleted.{Deleted}
 use Rattle.radix_txn.specs.inner.Steps.{IsOnward, Ledger, Steps}
 use Rattle.radix_txn.proofs.CellTxn.{drawn_ends, ended, first_low, kept_new, none_drawn}
 use Rattle.radix_txn.proofs.WriteEnds.{absent_ends, taken_ends, takes_some}
@@ -20,7 +19,7 @@ begin-requires-clause-begun c =
     let s = c.self.inside.state in
     let kept = c.self.invariant (ap (λ (t : Txn). t.spoiled) c.self.view_is ∙ c.requires.sound) in
     let below : AreBelow c.args.ids.now.next s.tree = subst (AreBelow c.args.ids.now.next) (sym (ap (λ (t : Txn). t.tree) c.self.view_is)) c.requires.below in
-    first_low s.changed s.first c.self.inside.start s.tree (map arc_value s.left.items) c.args.ids.now.next kept below
+    first_low s.changed s.first c.self.inside.start s.tree s.left c.args.ids.now.next kept below
 
 pub invariant_of-self-2 : goal.invariant_of-self-2
 invariant_of-self-2 c sound =
@@ -31,11 +30,11 @@ invariant_of-self-2 c sound =
     let below_start : AreBelow c.args.ids.now.next c.self.inside.start = subst (AreBelow c.args.ids.now.next) (sym (ap (λ (t : Txn). t.start) c.self.view_is)) c.requires.below_start in
     let w = c.take_with.new.state in
     let l = c.in_ok-cells.cells in
-    let d : Ledger = record { log = l.log; first = w.first; next = c.take_with.new.ids.next; left = map arc_value w.left.items } in
+    let d : Ledger = record { log = l.log; first = w.first; next = c.take_with.new.ids.next; left = w.left } in
     let step = subst (λ o. IfSome o (λ (t : Deleted). Steps (pieces_of c.begin.new.state.tree) l (pieces_of w.tree) d)) c.in-Some.is c.in_ok-taken.ensures.cells in
-    let fresh = subst (λ o. IfSome o (λ (t : Deleted). l.next ≤ w.tree.cell.id)) c.in-Some.is c.in_ok-taken.ensures.fresh in
+    let fresh = subst (λ o. IfSome o (λ (t : Deleted). l.first ≤ w.tree.cell.id)) c.in-Some.is c.in_ok-taken.ensures.fresh in
     let onward : IsOnward l d = record { log = refl; first = subst (λ o. IfSome o (λ (t : Deleted). w.first ≡ l.first)) c.in-Some.is c.in_ok-taken.ensures.began } in
-    let end = ended s.changed s.first c.args.ids.now.next c.self.inside.start s.tree _ w.tree (map arc_value s.left.items) c.args.front.now l d kept below_start below of c.in_ok-cells.ensures.tree c.in_ok-cells.ensures.ledger step onward fresh in
+    let end = ended s.changed s.first c.args.ids.now.next c.self.inside.start s.tree _ w.tree s.left c.args.front.now l d kept below_start below of c.in_ok-cells.ensures.tree c.in_ok-cells.ensures.ledger step onward fresh in
     let changed = subst (λ o. IfSome o (λ (t : Deleted). w.changed ≡ true)) c.in-Some.is c.in_ok-taken.ensures.changed in
     kept_new _ _ c.self.inside.start _ w.tree _ d changed refl refl refl end.changed
 
@@ -48,11 +47,11 @@ returns-clause-below c =
     let below_start : AreBelow c.args.ids.now.next c.self.inside.start = subst (AreBelow c.args.ids.now.next) (sym (ap (λ (t : Txn). t.start) c.self.view_is)) c.requires.below_start in
     let w = c.take_with.new.state in
     let l = c.in_ok-cells.cells in
-    let d : Ledger = record { log = l.log; first = w.first; next = c.take_with.new.ids.next; left = map arc_value w.left.items } in
+    let d : Ledger = record { log = l.log; first = w.first; next = c.take_with.new.ids.next; left = w.left } in
     let step = subst (λ o. IfSome o (λ (t : Deleted). Steps (pieces_of c.begin.new.state.tree) l (pieces_of w.tree) d)) c.in-Some.is c.in_ok-taken.ensures.cells in
-    let fresh = subst (λ o. IfSome o (λ (t : Deleted). l.next ≤ w.tree.cell.id)) c.in-Some.is c.in_ok-taken.ensures.fresh in
+    let fresh = subst (λ o. IfSome o (λ (t : Deleted). l.first ≤ w.tree.cell.id)) c.in-Some.is c.in_ok-taken.ensures.fresh in
     let onward : IsOnward l d = record { log = refl; first = subst (λ o. IfSome o (λ (t : Deleted). w.first ≡ l.first)) c.in-Some.is c.in_ok-taken.ensures.began } in
-    let end = ended s.changed s.first c.args.ids.now.next c.self.inside.start s.tree _ w.tree (map arc_value s.left.items) c.args.front.now l d kept below_start below of c.in_ok-cells.ensures.tree c.in_ok-cells.ensures.ledger step onward fresh in
+    let end = ended s.changed s.first c.args.ids.now.next c.self.inside.start s.tree _ w.tree s.left c.args.front.now l d kept below_start below of c.in_ok-cells.ensures.tree c.in_ok-cells.ensures.ledger step onward fresh in
     end.below
 
 pub returns-clause-of : goal.returns-clause-of
@@ -64,11 +63,11 @@ returns-clause-of c =
     let below_start : AreBelow c.args.ids.now.next c.self.inside.start = subst (AreBelow c.args.ids.now.next) (sym (ap (λ (t : Txn). t.start) c.self.view_is)) c.requires.below_start in
     let w = c.take_with.new.state in
     let l = c.in_ok-cells.cells in
-    let d : Ledger = record { log = l.log; first = w.first; next = c.take_with.new.ids.next; left = map arc_value w.left.items } in
+    let d : Ledger = record { log = l.log; first = w.first; next = c.take_with.new.ids.next; left = w.left } in
     let step = subst (λ o. IfSome o (λ (t : Deleted). Steps (pieces_of c.begin.new.state.tree) l (pieces_of w.tree) d)) c.in-Some.is c.in_ok-taken.ensures.cells in
-    let fresh = subst (λ o. IfSome o (λ (t : Deleted). l.next ≤ w.tree.cell.id)) c.in-Some.is c.in_ok-taken.ensures.fresh in
+    let fresh = subst (λ o. IfSome o (λ (t : Deleted). l.first ≤ w.tree.cell.id)) c.in-Some.is c.in_ok-taken.ensures.fresh in
     let onward : IsOnward l d = record { log = refl; first = subst (λ o. IfSome o (λ (t : Deleted). w.first ≡ l.first)) c.in-Some.is c.in_ok-taken.ensures.began } in
-    let end = ended s.changed s.first c.args.ids.now.next c.self.inside.start s.tree _ w.tree (map arc_value s.left.items) c.args.front.now l d kept below_start below of c.in_ok-cells.ensures.tree c.in_ok-cells.ensures.ledger step onward fresh in
+    let end = ended s.changed s.first c.args.ids.now.next c.self.inside.start s.tree _ w.tree s.left c.args.front.now l d kept below_start below of c.in_ok-cells.ensures.tree c.in_ok-cells.ensures.ledger step onward fresh in
     let book = subst (λ o. IfSome o (λ (t : Deleted). c.take_with.new.ids.book ≡ l.log.book)) c.in-Some.is c.in_ok-taken.ensures.book in
     subst (λ k. AreOf k w.tree) (sym book) end.of
 
@@ -81,11 +80,11 @@ returns-clause-below_start c =
     let below_start : AreBelow c.args.ids.now.next c.self.inside.start = subst (AreBelow c.args.ids.now.next) (sym (ap (λ (t : Txn). t.start) c.self.view_is)) c.requires.below_start in
     let w = c.take_with.new.state in
     let l = c.in_ok-cells.cells in
-    let d : Ledger = record { log = l.log; first = w.first; next = c.take_with.new.ids.next; left = map arc_value w.left.items } in
+    let d : Ledger = record { log = l.log; first = w.first; next = c.take_with.new.ids.next; left = w.left } in
     let step = subst (λ o. IfSome o (λ (t : Deleted). Steps (pieces_of c.begin.new.state.tree) l (pieces_of w.tree) d)) c.in-Some.is c.in_ok-taken.ensures.cells in
-    let fresh = subst (λ o. IfSome o (λ (t : Deleted). l.next ≤ w.tree.cell.id)) c.in-Some.is c.in_ok-taken.ensures.fresh in
+    let fresh = subst (λ o. IfSome o (λ (t : Deleted). l.first ≤ w.tree.cell.id)) c.in-Some.is c.in_ok-taken.ensures.fresh in
     let onward : IsOnward l d = record { log = refl; first = subst (λ o. IfSome o (λ (t : Deleted). w.first ≡ l.first)) c.in-Some.is c.in_ok-taken.ensures.began } in
-    let end = ended s.changed s.first c.args.ids.now.next c.self.inside.start s.tree _ w.tree (map arc_value s.left.items) c.args.front.now l d kept below_start below of c.in_ok-cells.ensures.tree c.in_ok-cells.ensures.ledger step onward fresh in
+    let end = ended s.changed s.first c.args.ids.now.next c.self.inside.start s.tree _ w.tree s.left c.args.front.now l d kept below_start below of c.in_ok-cells.ensures.tree c.in_ok-cells.ensures.ledger step onward fresh in
     end.below_start
 
 -- ---- the cells that are drawn
@@ -99,15 +98,15 @@ returns-clause-drawn c =
     let below_start : AreBelow c.args.ids.now.next c.self.inside.start = subst (AreBelow c.args.ids.now.next) (sym (ap (λ (t : Txn). t.start) c.self.view_is)) c.requires.below_start in
     let w = c.take_with.new.state in
     let l = c.in_ok-cells.cells in
-    let d : Ledger = record { log = l.log; first = w.first; next = c.take_with.new.ids.next; left = map arc_value w.left.items } in
+    let d : Ledger = record { log = l.log; first = w.first; next = c.take_with.new.ids.next; left = w.left } in
     let step = subst (λ o. IfSome o (λ (t : Deleted). Steps (pieces_of c.begin.new.state.tree) l (pieces_of w.tree) d)) c.in-Some.is c.in_ok-taken.ensures.cells in
-    let fresh = subst (λ o. IfSome o (λ (t : Deleted). l.next ≤ w.tree.cell.id)) c.in-Some.is c.in_ok-taken.ensures.fresh in
+    let fresh = subst (λ o. IfSome o (λ (t : Deleted). l.first ≤ w.tree.cell.id)) c.in-Some.is c.in_ok-taken.ensures.fresh in
     let onward : IsOnward l d = record { log = refl; first = subst (λ o. IfSome o (λ (t : Deleted). w.first ≡ l.first)) c.in-Some.is c.in_ok-taken.ensures.began } in
-    let end = ended s.changed s.first c.args.ids.now.next c.self.inside.start s.tree _ w.tree (map arc_value s.left.items) c.args.front.now l d kept below_start below of c.in_ok-cells.ensures.tree c.in_ok-cells.ensures.ledger step onward fresh in
+    let end = ended s.changed s.first c.args.ids.now.next c.self.inside.start s.tree _ w.tree s.left c.args.front.now l d kept below_start below of c.in_ok-cells.ensures.tree c.in_ok-cells.ensures.ledger step onward fresh in
     let book = subst (λ o. IfSome o (λ (t : Deleted). c.take_with.new.ids.book ≡ l.log.book)) c.in-Some.is c.in_ok-taken.ensures.book in
     let ids = c.args.ids.now in
     let drawn = ap (λ k. let n : Counter = record { book = k; next = d.next } in n) book in
-    drawn_ends c.args.front.now ids c.take_with.new.ids c.self.inside.start s.tree c.args.self.now.tree w.tree w.tree (cond s.changed s.first ids.next) (map arc_value s.left.items) d (ap (λ (t : Txn). t.tree) c.self.view_is) refl c.requires.book drawn end
+    drawn_ends c.args.front.now ids c.take_with.new.ids c.self.inside.start s.tree c.args.self.now.tree w.tree w.tree (cond s.changed s.first ids.next) s.left d (ap (λ (t : Txn). t.tree) c.self.view_is) refl c.requires.book drawn end
 
 pub returns-in_err-cells-clause-drawn : goal.returns-in_err-cells-clause-drawn
 returns-in_err-cells-clause-drawn c = none_drawn _ _ _ _ _ (c.in_err-cells.ensures.tree ∙ ap (λ (t : Txn). t.tree) c.self.view_is)

@@ -1,0 +1,34 @@
+-- A walk is refused as the question is, and else gives the rows of its answer.
+use Rattle.std.proofs.Common.{◌≡◌, ◌∙◌, ℕ, List, Ok, ap, get_or, refl, subst, sym, MatchResult}
+use Rattle.std.proofs.Math.ListN.{get_or-map}
+use Rattle.mdb_datum.specs.Row.{Pair}
+use Rattle.mdb_schema.specs.Answer.{answer, is_exact}
+use Rattle.mdb_schema.specs.Entries.{entries}
+use Rattle.mdb_schema.specs.declared.ask_error.AskError.TheVariants.{Memory}
+use Rattle.radix_node.specs.Cells.{plain_of}
+use Rattle.table_index.specs.Table.{TableRows}
+use Rattle.table_index.specs.Walks.{answer_rows}
+use Rattle.table_index.specs.inner.Held.{plains, rows_held}
+use Rattle.table_index.proofs.AskedRows.{answered, pairs_there, refused}
+use Rattle.table_index.proofs.WalkedRows.{walk_refused, walked}
+use Rattle.table_index.proofs.table.Table.walk.Goals as goal
+
+pub returns-in-Err : goal.returns-in-Err
+returns-in-Err c =
+    walk_refused _ c.in-Err.error
+    (refused c.self.inside.def (plains c.self.inside.trees.items) (c.args.self.now.schema, c.args.self.now.rows) (ap (λ (t : TableRows). (t.schema, t.rows)) c.self.view_is) c.ask.result c.args.query.now c.ask.ensures c.in-Err.error c.in-Err.ensures.answers)
+
+pub returns-in-Ok : goal.returns-in-Ok
+returns-in-Ok c =
+    let t = c.self.inside.def in
+    let trees = c.self.inside.trees.items in
+    let q = c.args.query.now in
+    let at = c.in-Ok.at in
+    let read = c.index.result.now in
+    let is : read ≡ get_or trees at.place read = c.index.ensures ∙ ap (λ (place : ℕ). get_or trees place read) c.place.ensures in
+    let plain : plain_of read ≡ get_or (plains trees) at.place (plain_of read) = ap plain_of is ∙ sym (get_or-map plain_of trees at.place read) in
+    let pairs = pairs_there t (plains trees) c.self.invariant at.place at.index c.in-Ok.ensures.there (plain_of read) plain in
+    let made = answer q.ask (is_exact at.index q) at.key (entries t at.index (rows_held t (plains trees))) in
+    walked _ made c.walk_at.result
+    (answered t (plains trees) (c.args.self.now.schema, c.args.self.now.rows) (ap (λ (x : TableRows). (x.schema, x.rows)) c.self.view_is) c.ask.result q c.ask.ensures at (Ok made) c.in-Ok.ensures.answers refl)
+    (subst (λ (es : List Pair). MatchResult c.walk_at.result (λ rows. rows ≡ answer_rows (answer q.ask (is_exact at.index q) at.key es)) (λ e. e ≡ Memory)) pairs c.walk_at.ensures)
