@@ -1,12 +1,13 @@
 //! A database as a library: it is created, written, read, watched, waited for and closed.
 //!
-//! One caller reads and watches, and another writes; in a larger program each has a thread. All
-//! texts stand here. So one that is refused counts as want of memory.
+//! Two callers write at the same time, each on a thread of its own. Then one of them reads and
+//! watches, and the other writes. All texts stand here. So one that is refused counts as want of
+//! memory.
 #![tactic(auto)]
 
-ghost use Rattle.std.specs.Prelude.{◌≡◌, [], IfOk};
+ghost use Rattle.std.specs.Prelude.{◌≡◌, [], IfOk, Some};
 ghost use Rattle.mem_txn.specs.Checked.{IsHeldBy};
-ghost use Rattle.mem_txn.specs.Database.{Caller, reading_of};
+ghost use Rattle.mem_txn.specs.Database.{Caller, IsOf, reading_of};
 ghost use Rattle.mem_txn.specs.inner.CallerOf.{IsCaller};
 ghost use Rattle.mem_txn.specs.Transactions.{changes_of};
 ghost use Rattle.watch_set.specs.Members.{AreHeldBy, watches_of};
@@ -18,6 +19,7 @@ use mem_txn::{BeginRefused, CommitRefused, Committed, Db, Held, Pass, Passes, Re
 use std::alloc::{AllocError, Global};
 use std::io;
 use std::sync::Wait;
+use std::thread::{Threads, join_mut};
 use watch_set::{WatchSet, Woken};
 
 const SCHEMA: &str = r#"{"memdb":1,"tables":{"books":{"indexes":{
@@ -25,6 +27,8 @@ const SCHEMA: &str = r#"{"memdb":1,"tables":{"books":{"indexes":{
     "id":{"unique":true,"indexer":{"kind":"text","field":"isbn"}}}}}}"#;
 
 const AUSTEN: &str = r#"{"isbn":"0141439513","author":"Austen"}"#;
+
+const BRONTE: &str = r#"{"isbn":"0141439556","author":"Bronte"}"#;
 
 const ELIOT: &str = r#"{"isbn":"0141439540","author":"Eliot"}"#;
 
@@ -54,10 +58,10 @@ fn main(rt: HostRuntime) -> io::Result<()> {
 
 /// Creates a database, uses it, and closes it. What went wrong in between is looked at when both
 /// passes are back.
-fn run<R: Wait>(rt: &R, alloc: Global) -> Result<Seen, AllocError> {
-    let (db, passes, mut reader, writer) = create(alloc)?;
-    let (writer, used) = use_both(rt, alloc, &db, &mut reader, writer);
-    let last = close(rt, db, passes, reader, writer);
+fn run<R: Threads + Wait + Sync>(rt: &R, alloc: Global) -> Result<Seen, AllocError> {
+    let (db, passes, one, two) = create(alloc)?;
+    let (one, two, used) = use_both(rt, alloc, &db, one, two);
+    let last = close(rt, db, passes, one, two);
     let (before, woken) = used?;
     let at_end = count(alloc, &last)?;
     Ok(Seen {
@@ -69,14 +73,14 @@ fn run<R: Wait>(rt: &R, alloc: Global) -> Result<Seen, AllocError> {
 
 /// A database, the list of its passes, which is empty then, and the passes of two callers.
 fn create(alloc: Global) -> Result<(Db, Passes, Pass, Pass), AllocError>
-    ensures reader { IfOk result (λ made. IsCaller made.0 1 made.2) }
-    ensures writer { IfOk result (λ made. IsCaller made.0 2 made.3) }
+    ensures one { IfOk result (λ made. IsCaller made.0 1 made.2) }
+    ensures two { IfOk result (λ made. IsCaller made.0 2 made.3) }
     ensures both { IfOk result (λ made. made.0.callers ≡ 2) }
     ensures rest { IfOk result (λ made. made.1 ≡ record { passes = []; made = 2 }) }
 {
     let (db, mut passes) = Db::create(alloc, schema_of(alloc)?, 2)?;
     match (passes.take(), passes.take()) {
-        (Some(reader), Some(writer)) => Ok((db, passes, reader, writer)),
+        (Some(one), Some(two)) => Ok((db, passes, one, two)),
         _ => unreachable!(),
     }
 }
@@ -93,31 +97,88 @@ fn close<R: Wait>(rt: &R, db: Db, mut passes: Passes, one: Pass, two: Pass) -> R
     db.close(rt, passes)
 }
 
-/// Writes a row, and then watches and waits while another is written. A pass that is owned can't be
-/// dropped, so it is given back beside the outcome, and there is no `?` while one is held.
-fn use_both<R: Wait>(
+/// Writes on two threads, and then watches and waits while another row is written. A pass that is
+/// owned can't be dropped, so both are given back beside the outcome, and there is no `?` while one
+/// is held.
+fn use_both<R: Threads + Wait + Sync>(
     rt: &R,
     alloc: Global,
     db: &Db,
-    reader: &mut Pass,
-    writer: Pass,
-) -> (Pass, Result<(usize, Woken), AllocError>)
-    requires reader { IsCaller db.now 1 reader.old }
-    requires writer { IsCaller db.now 2 writer }
-    ensures reader { IsCaller db.now 1 reader.new }
-    ensures writer { IsCaller db.now 2 result.0 }
+    one: Pass,
+    two: Pass,
+) -> (Pass, Pass, Result<(usize, Woken), AllocError>)
+    requires one { IsCaller db.now 1 one }
+    requires two { IsCaller db.now 2 two }
+    ensures one { IsCaller db.now 1 result.0 }
+    ensures two { IsCaller db.now 2 result.1 }
 {
-    let (writer, austen) = insert(rt, alloc, db, writer, AUSTEN);
-    if austen.is_err() {
-        return (writer, Err(AllocError));
-    }
-    match watch(rt, alloc, db, reader) {
-        Ok(watched) => write_and_wait(rt, alloc, db, reader, writer, &watched),
-        Err(AllocError) => (writer, Err(AllocError)),
+    let mut one = Some(one);
+    let mut two = Some(two);
+    let begun = insert_both(rt, alloc, db, &mut one, &mut two);
+    match (one, two) {
+        (Some(mut one), Some(two)) => {
+            let (two, used) = match begun {
+                Ok(()) => watch_and_wait(rt, alloc, db, &mut one, two),
+                Err(AllocError) => (two, Err(AllocError)),
+            };
+            (one, two, used)
+        }
+        _ => unreachable!(),
     }
 }
 
-/// The row, as a commit of the writer.
+/// A row of each caller, put in on a thread of the caller's own. A thread borrows a pass in an
+/// `Option`: it takes the pass out, and puts back the one that it is given in the end.
+fn insert_both<R: Threads + Wait + Sync>(
+    rt: &R,
+    alloc: Global,
+    db: &Db,
+    one: &mut Option<Pass>,
+    two: &mut Option<Pass>,
+) -> Result<(), AllocError>
+    requires one { (p : Caller) × (one.old ≡ Some p) × IsCaller db.now 1 p }
+    requires two { (p : Caller) × (two.old ≡ Some p) × IsCaller db.now 2 p }
+    ensures one { (p : Caller) × (one.new ≡ Some p) × IsCaller db.now 1 p }
+    ensures two { (p : Caller) × (two.new ≡ Some p) × IsCaller db.now 2 p }
+{
+    let (first, second) = join_mut(
+        rt,
+        &mut || -> Result<(), AllocError>
+            requires { (p : Caller) × (one.now ≡ Some p) × IsCaller db.now 1 p }
+            ensures { (p : Caller) × (one.exit.now ≡ Some p) × IsCaller db.entry.now 1 p }
+        { insert_lent(rt, alloc, db, one, AUSTEN) },
+        &mut || -> Result<(), AllocError>
+            requires { (p : Caller) × (two.now ≡ Some p) × IsCaller db.now 2 p }
+            ensures { (p : Caller) × (two.exit.now ≡ Some p) × IsCaller db.entry.now 2 p }
+        { insert_lent(rt, alloc, db, two, BRONTE) },
+    );
+    first.and(second)
+}
+
+/// The row, as a commit of the caller whose pass is lent.
+fn insert_lent<R: Wait>(
+    rt: &R,
+    alloc: Global,
+    db: &Db,
+    lent: &mut Option<Pass>,
+    text: &str,
+) -> Result<(), AllocError>
+    requires { (p : Caller) × (lent.old ≡ Some p) × IsOf db.now p }
+    ensures { (p : Caller) → lent.old ≡ Some p
+        → (q : Caller) × (lent.new ≡ Some q) × IsCaller db.now p.number q }
+{
+    let Some(pass) = lent.take() else {
+        unreachable!();
+    };
+    let (pass, told) = insert(rt, alloc, db, pass, text);
+    let gone = lent.replace(pass);
+    let None = gone else {
+        unreachable!();
+    };
+    told
+}
+
+/// The row, as a commit of a caller.
 fn insert<R: Wait>(
     rt: &R,
     alloc: Global,
@@ -125,8 +186,8 @@ fn insert<R: Wait>(
     pass: Pass,
     text: &str,
 ) -> (Pass, Result<(), AllocError>)
-    requires own { IsCaller db.now 2 pass }
-    ensures { IsCaller db.now 2 result.0 }
+    requires own { IsOf db.now pass }
+    ensures { IsCaller db.now pass.number result.0 }
 {
     let mut txn = match db.write(rt, pass) {
         Ok(txn) => txn,
@@ -149,14 +210,33 @@ fn insert_row(alloc: Global, txn: &mut WriteTxn<u8>, text: &str) -> Result<(), A
     }
 }
 
-/// Commits the writer's transaction. Its receipt has the number of the commit.
+/// Commits a transaction. Its receipt has the number of the commit.
 fn commit<R: Wait>(rt: &R, db: &Db, txn: WriteTxn<u8>) -> (Pass, Result<(), AllocError>)
-    requires own { IsCaller db.now 2 (changes_of txn).caller }
-    ensures { IsCaller db.now 2 result.0 }
+    requires own { let caller = (changes_of txn).caller in IsOf db.now caller }
+    ensures { let caller = (changes_of txn).caller in IsCaller db.now caller.number result.0 }
 {
     match txn.commit(rt, db) {
         Ok(Committed { pass, receipt: _ }) => (pass, Ok(())),
         Err(CommitRefused { pass, cause: _ }) => (pass, Err(AllocError)),
+    }
+}
+
+/// Watches for a row, and waits while it is written.
+fn watch_and_wait<R: Wait>(
+    rt: &R,
+    alloc: Global,
+    db: &Db,
+    reader: &mut Pass,
+    writer: Pass,
+) -> (Pass, Result<(usize, Woken), AllocError>)
+    requires reader { IsCaller db.now 1 reader.old }
+    requires writer { IsCaller db.now 2 writer }
+    ensures reader { IsCaller db.now 1 reader.new }
+    ensures writer { IsCaller db.now 2 result.0 }
+{
+    match watch(rt, alloc, db, reader) {
+        Ok(watched) => write_and_wait(rt, alloc, db, reader, writer, &watched),
+        Err(AllocError) => (writer, Err(AllocError)),
     }
 }
 
