@@ -109,6 +109,7 @@ impl<V: Version> Shared<V> {
             table,
             callers: _,
             sleepers,
+            waits: _,
         } = self;
         let Some(first) = passes.take() else {
             unreachable!()

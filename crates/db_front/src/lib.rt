@@ -17,6 +17,10 @@
 //! and `finish` each of them once more, so the cost of a commit grows with the number of callers. A
 //! turn is held to share the value and its log or to change them, and never while values are made.
 //!
+//! Who waits for something to change announces it by `next_commit`, looks, and sleeps by
+//! [`NextCommit::wait`] where it found nothing; `finish` wakes all that sleep so. `end_waits` wakes
+//! them for good, for nobody may be left to commit.
+//!
 //! A look costs a fixed number of atomic steps, where it needn't wait. A caller that finds a turn
 //! taken looks at it for a short while, and then sleeps until it is given back. A call that takes a
 //! runtime may wait for another caller, and its clauses hold if it returns. That a caller is ever
@@ -44,6 +48,7 @@ mod shown;
 mod tests;
 mod turns;
 mod version;
+mod waits;
 
 pub use make::make_shared;
 pub use pass::Pass;
@@ -51,3 +56,4 @@ pub use passes::Passes;
 pub use shared::Shared;
 pub use shown::{Ready, Shown};
 pub use version::Version;
+pub use waits::NextCommit;

@@ -16,6 +16,7 @@ use crate::plays::Hand;
 use crate::shared::Shared;
 use crate::turns::Sleepers;
 use crate::version::Version;
+use crate::waits::Waits;
 use atomic_table::Table;
 use std::alloc::{AllocError, Global};
 use std::sync::Arc;
@@ -198,6 +199,7 @@ pub fn make_shared<V: Version>(
             table,
             callers: callers as u64,
             sleepers: Sleepers::none(),
+            waits: Waits::none(),
         },
         passes,
     ))

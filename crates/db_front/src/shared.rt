@@ -12,6 +12,7 @@ use crate::pass::Pass;
 use crate::shown::{Ready, Shown};
 use crate::turns::{Sleepers, leave_turn, see, see_begun, take_turn, try_turn};
 use crate::version::Version;
+use crate::waits::{NextCommit, Waits};
 use std::alloc::AllocError;
 use std::marker::Model;
 use std::sync::{Arc, Wait};
@@ -24,6 +25,7 @@ pub struct Shared<V: Version> {
     pub(crate) table: BoardTable<V>,
     pub(crate) callers: u64,
     pub(crate) sleepers: Sleepers,
+    pub(crate) waits: Waits,
 }
 
 impl<V: Version> Model for Shared<V> {
@@ -162,8 +164,9 @@ impl<V: Version> Shared<V> {
         count
     }
 
-    /// Shows the log in each slot, then the finished number, and gives the writer's turn back. It
-    /// takes no memory, and may wait while another caller looks.
+    /// Shows the log in each slot, then the finished number, gives the writer's turn back, and wakes
+    /// all that sleep until a commit is finished. It takes no memory, and may wait while another
+    /// caller looks.
     pub fn finish<R: Wait>(&self, rt: &R, pass: &mut Pass<V>, log: Front)
         requires own { pass.old.table ≡ self.now.table }
         requires published { pass.old.stage ≡ 2 }
@@ -181,6 +184,7 @@ impl<V: Version> Shared<V> {
             pass.last,
             log,
         );
+        self.waits.wake();
     }
 
     /// Gives the writer's turn back without a commit. It takes no memory and waits for nobody.
@@ -190,5 +194,17 @@ impl<V: Version> Shared<V> {
         ensures { pass.new ≡ record pass.old { stage = 0 } }
     {
         leave_turn(&self.table.shared, &self.sleepers, &mut pass.place);
+    }
+
+    /// Announces that the caller may sleep until the next commit is finished; `None` once waits have
+    /// been ended. A caller that then looks, finds nothing and sleeps misses no commit: each was
+    /// finished before that look, or it wakes the caller. It takes no memory.
+    pub fn next_commit(&self) -> Option<NextCommit<'_>> {
+        self.waits.announce()
+    }
+
+    /// Ends all waits for a commit, also those that are announced later. It takes no memory.
+    pub fn end_waits(&self) {
+        self.waits.end();
     }
 }

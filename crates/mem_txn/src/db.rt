@@ -12,7 +12,7 @@ use crate::passes::Passes;
 use crate::read_txn::ReadTxn;
 use crate::version::Version;
 use crate::view::View;
-use db_front::{Shared, Shown, make_shared};
+use db_front::{NextCommit, Shared, Shown, make_shared};
 use mdb_schema::Schema;
 use radix_node::Ids;
 use std::alloc::{AllocError, Global};
@@ -75,6 +75,19 @@ impl Db {
     {
         let Shown { value, .. } = self.shared.look(rt, &mut pass.token)?;
         Ok(ReadTxn::of(value))
+    }
+
+    /// Announces that the caller may sleep until the next commit is finished; `None` once waits have
+    /// been ended. A caller that then checks, finds nothing and sleeps by [`NextCommit::wait`] misses
+    /// no commit. It takes no memory.
+    pub fn next_commit(&self) -> Option<NextCommit<'_>> {
+        self.shared.next_commit()
+    }
+
+    /// Ends the waits of all callers, now and from now on, as where nobody is left to make the commit
+    /// that they wait for. It takes no memory.
+    pub fn end_waits(&self) {
+        self.shared.end_waits();
     }
 
     /// The state after all commits, when all passes are back. It takes no memory.

@@ -1,5 +1,5 @@
 //! The sessions of all clients: their beginning, their run side by side, and their end.
-ghost use Rattle.std.specs.Prelude.{◌≡◌, ◌+◌, ◌++◌, ◌≤◌, [], OnOk, length, vec_capacity};
+ghost use Rattle.std.specs.Prelude.{◌≡◌, ◌+◌, ◌++◌, ◌≤◌, ◌∷◌, [], OnOk, length, vec_capacity};
 ghost use Rattle.std.specs.Thread.{IsSync};
 ghost use Rattle.mem_txn.specs.Database.{AreOf};
 ghost use Rattle.memdb.specs.inner.Sessions.{AreLater, AreReady, HaveAnswered, begun, callers_back};
@@ -52,12 +52,31 @@ pub fn run_all<R: Threads + Wait + Sync, G: Gate + Sync>(
 {
     match sessions {
         [] => Ok(()),
-        [session] => session.run(rt, db, gate),
+        [session] => run_one(rt, db, gate, session),
         sessions => {
             let (front, back) = sessions.split_at_mut(sessions.len() / 2);
             run_both(rt, db, gate, front, back)
         }
     }
+}
+
+/// Carries out a session. Where it finds no memory, the waits of all sessions are ended, for nobody
+/// may be left to make the commit that they wait for.
+fn run_one<R: Wait, G: Gate>(
+    rt: &R,
+    db: &Db,
+    gate: &G,
+    session: &mut Session,
+) -> Result<(), AllocError>
+    requires ready { AreReady db.now (session.old ∷ []) }
+    ensures answered { OnOk result (HaveAnswered (session.old ∷ []) (session.new ∷ [])) }
+    ensures later { AreLater (session.old ∷ []) (session.new ∷ []) }
+{
+    let told = session.run(rt, db, gate);
+    if told.is_err() {
+        db.end_waits();
+    }
+    told
 }
 
 /// Carries out two lists of sessions side by side.

@@ -146,8 +146,9 @@ impl WatchSet {
         }
     }
 
-    /// Looks again and again, until a member has fired or what cancels has. It may wait for ever,
-    /// and uses its processor meanwhile. It is refused as a look is.
+    /// Looks, and sleeps until another commit is finished, until a member has fired or what cancels
+    /// has. It may wait for ever. It is refused as a look is, and where the waits of the database
+    /// have been ended by [`Db::end_waits`].
     pub fn wait<R: Wait>(
         &self,
         rt: &R,
@@ -167,8 +168,13 @@ impl WatchSet {
         ensures tries { pass.new.tries ≡ pass.old.tries }
     {
         for _ in rt.forever() {
+            let next = db.next_commit();
             if let Some(woken) = self.look_once(rt, db, pass, until).transpose() {
                 return woken;
+            }
+            match next {
+                Some(next) => next.wait(rt),
+                None => return Err(AllocError),
             }
         }
         unreachable!()

@@ -463,3 +463,39 @@ fn a_set_is_woken_by_its_first_member_that_fired(rt: HostRuntime) -> Result<(), 
     assert!(rt; is_right(&rt, rt.alloc())?);
     Ok(())
 }
+
+/// Whether a wait by a set is refused, once waits have been ended.
+fn is_refused<R: Wait>(rt: &R, db: &Db, pass: &mut Pass, set: &WatchSet) -> bool
+    requires own { IsCaller db.now 1 pass.old }
+    requires held { AreHeldBy pass.old (watches_of set.now) }
+    ensures { IsCaller db.now 1 pass.new }
+{
+    db.end_waits();
+    set.len() != 0 && set.wait(rt, db, pass, None).is_err()
+}
+
+/// The same of a set of what is watched after the last commit, which stays quiet.
+fn is_refused_now<R: Wait>(rt: &R, alloc: Global, db: &Db, one: &mut Pass) -> Told
+    requires own { IsCaller db.now 1 one.old }
+    ensures { IsCaller db.now 1 one.new }
+{
+    match watched_now(rt, alloc, db, one) {
+        Ok(watched) => Ok(is_refused(rt, db, one, &watched.s)),
+        Err(AllocError) => Err(AllocError),
+    }
+}
+
+/// The same behind the first commit of a new database.
+fn are_ended<R: Wait>(rt: &R, alloc: Global) -> Told {
+    let (db, passes, mut one, two) = pair(alloc)?;
+    let (two, ann) = insert(rt, alloc, &db, two, &INSERT_ANN);
+    let told = is_refused_now(rt, alloc, &db, &mut one);
+    drop(closed(rt, db, passes, one, two));
+    ann.and(told)
+}
+
+#[test]
+fn a_wait_is_refused_once_waits_are_ended(rt: HostRuntime) -> Result<(), Fail> {
+    assert!(rt; are_ended(&rt, rt.alloc())?);
+    Ok(())
+}

@@ -14,6 +14,11 @@ returns-in-Some-transpose-clause-seen g c =
     seen_after c.args.pass.now c.loop.pass c.look_once.new.pass c.loop.invariant.seen
     (checked_seen c.loop.pass c.look_once.new.pass c.args.self.now (option_copied c.args.until) c.requires.some c.look_once.ensures.seen)
 
+pub returns-in-None-next-clause-seen : goal.returns-in-None-next-clause-seen
+returns-in-None-next-clause-seen g c =
+    seen_after c.args.pass.now c.loop.pass c.look_once.new.pass c.loop.invariant.seen
+    (checked_seen c.loop.pass c.look_once.new.pass c.args.self.now (option_copied c.args.until) c.requires.some c.look_once.ensures.seen)
+
 pub loop-preserved : goal.loop-preserved
 loop-preserved g c =
     let seen = checked_seen c.loop.pass c.look_once.new.pass c.args.self.now (option_copied c.args.until) c.requires.some c.look_once.ensures.seen in
