@@ -144,7 +144,7 @@ pub(crate) fn commit<V: Version, R: Wait>(
     let None = gone else { unreachable!() };
     let count = board.fetch_add::<Commit>(place, COUNT, 1);
     board.store::<Back>(place, turn, 0);
-    wake(board, &sleepers.shown, turn);
+    wake(board, sleepers, turn);
     lay_others(rt, board, sleepers, place, callers, spare);
     drop(value);
     count + 1
@@ -172,7 +172,7 @@ fn renew<V: Version, R: Wait>(
     let gone = board.exchange(place, turn, Some(Card { value, log }));
     let None = gone else { unreachable!() };
     board.store::<Renew>(place, turn, 0);
-    wake(board, &sleepers.shown, turn);
+    wake(board, sleepers, turn);
     drop(spent);
 }
 

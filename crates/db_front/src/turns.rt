@@ -16,58 +16,110 @@ use std::hint::spin_loop;
 use std::sync::Wait;
 use std::sync::atomic::AtomicU64;
 use std::sync::atomic::Ordering::SeqCst;
+use std::time::Duration;
 
-/// How many callers sleep until a turn is given back.
+/// Those who sleep until a turn is given back. What writers change lies apart from what every look
+/// loads.
 #[derive(Drop)]
 pub(crate) struct Sleepers {
-    /// Those who wait for the writer's turn.
-    pub(crate) writers: AtomicU64,
-    /// Those who wait for a shown turn.
+    /// How many wait for a shown turn.
     pub(crate) shown: AtomicU64,
+    before: [u64; 8],
+    /// How many wait for the writer's turn.
+    writers: AtomicU64,
+    /// 1 from when one of these is woken until one of them is awake, else 0.
+    called: AtomicU64,
+    behind: [u64; 8],
 }
 
 impl Sleepers {
     /// Nobody sleeps.
     pub(crate) fn none() -> Sleepers {
         Sleepers {
-            writers: AtomicU64::new(0),
             shown: AtomicU64::new(0),
+            before: [0; 8],
+            writers: AtomicU64::new(0),
+            called: AtomicU64::new(0),
+            behind: [0; 8],
         }
     }
 }
 
-/// How often a caller looks at a turn that is taken before it sleeps: a turn at the slot is short.
-const LOOKS: u32 = 100;
+/// How often a caller looks at a shown turn that is taken before it sleeps. Such a turn is short, but
+/// a commit of many callers takes one for each.
+const LOOKS: u32 = 1000;
 
-/// Returns when the turn may be free: looks at it for a short while, and then sleeps until it is
-/// given back.
-fn rest<V: Version, R: Wait>(
+/// The same of the writer's turn, which lasts as long as a transaction: a caller that looks on for
+/// it would only slow down the one that has it.
+const WRITER_LOOKS: u32 = 100;
+
+/// Whether the turn is seen to change in so many looks.
+fn is_seen_to_change<V: Version>(board: &Board<V>, turn: usize, found: u64, looks: u32) -> bool
+    requires { turn < board.now.table_id.words }
+{
+    for _ in 0..looks {
+        if board.peek(turn) != found {
+            return true;
+        }
+        spin_loop();
+    }
+    false
+}
+
+/// Returns when the shown turn may be free: looks at it for a short while, and then sleeps until it
+/// is given back.
+fn rest<V: Version, R: Wait>(rt: &R, board: &Board<V>, sleepers: &Sleepers, turn: usize, found: u64)
+    requires { turn < board.now.table_id.words }
+{
+    if is_seen_to_change(board, turn, found, LOOKS) {
+        return;
+    }
+    sleepers.shown.fetch_add(1, SeqCst);
+    // A park compares the low 32 bits of the word.
+    board.park(rt, turn, (found % 4294967296) as u32);
+    sleepers.shown.fetch_sub(1, SeqCst);
+}
+
+/// The same of the writer's turn. A caller that was called just before it slept isn't called again,
+/// so it sleeps for a millisecond at most.
+fn rest_for_writer<V: Version, R: Wait>(
     rt: &R,
     board: &Board<V>,
-    sleepers: &AtomicU64,
+    sleepers: &Sleepers,
     turn: usize,
     found: u64,
 )
     requires { turn < board.now.table_id.words }
 {
-    for _ in 0..LOOKS {
-        if board.peek(turn) != found {
-            return;
-        }
-        spin_loop();
+    if is_seen_to_change(board, turn, found, WRITER_LOOKS) {
+        return;
     }
-    sleepers.fetch_add(1, SeqCst);
-    // A park compares the low 32 bits of the word.
-    board.park(rt, turn, (found % 4294967296) as u32);
-    sleepers.fetch_sub(1, SeqCst);
+    sleepers.writers.fetch_add(1, SeqCst);
+    // Whoever was called last may have been awake already.
+    sleepers.called.store(0, SeqCst);
+    let limit = Duration::from_millis(1);
+    board.park_timeout(rt, turn, (found % 4294967296) as u32, limit);
+    sleepers.called.store(0, SeqCst);
+    sleepers.writers.fetch_sub(1, SeqCst);
 }
 
-/// Wakes a caller that sleeps until the turn is given back. A caller counts itself before it
+/// Wakes a caller that sleeps until the shown turn is given back. A caller counts itself before it
 /// sleeps, and doesn't sleep where the turn was given back meanwhile, so none is missed.
-pub(crate) fn wake<V: Version>(board: &Board<V>, sleepers: &AtomicU64, turn: usize)
+pub(crate) fn wake<V: Version>(board: &Board<V>, sleepers: &Sleepers, turn: usize)
     requires { turn < board.now.table_id.words }
 {
-    if sleepers.load(SeqCst) != 0 {
+    if sleepers.shown.load(SeqCst) != 0 {
+        board.wake_one(turn);
+    }
+}
+
+/// Wakes a caller that sleeps until the writer's turn is given back, if none is on its way already:
+/// a wake costs as much as a short transaction.
+fn wake_writer<V: Version>(board: &Board<V>, sleepers: &Sleepers, turn: usize)
+    requires { turn < board.now.table_id.words }
+{
+    if sleepers.writers.load(SeqCst) != 0 && sleepers.called.load(SeqCst) == 0 {
+        sleepers.called.store(1, SeqCst);
         board.wake_one(turn);
     }
 }
@@ -92,7 +144,7 @@ pub(crate) fn take_shown<V: Version, R: Wait>(
         if found == 0 {
             return;
         }
-        rest(rt, board, &sleepers.shown, turn, found);
+        rest(rt, board, sleepers, turn, found);
     }
     unreachable!()
 }
@@ -139,7 +191,7 @@ pub(crate) fn give<V: Version>(
     let gone = board.exchange(place, turn, Some(card));
     let None = gone else { unreachable!() };
     board.store::<Back>(place, turn, 0);
-    wake(board, &sleepers.shown, turn);
+    wake(board, sleepers, turn);
 }
 
 /// Looks into the caller's own slot: the number of commits, the number of finished ones, and what lies there.
@@ -214,7 +266,7 @@ pub(crate) fn take_turn<V: Version, R: Wait>(
         if found == 0 {
             return;
         }
-        rest(rt, board, &sleepers.writers, WRITER, found);
+        rest_for_writer(rt, board, sleepers, WRITER, found);
     }
     unreachable!()
 }
@@ -240,5 +292,5 @@ pub(crate) fn leave_turn<V: Version>(board: &Board<V>, sleepers: &Sleepers, plac
     ensures left { place.new.me ≡ (record place.old.me.0 { stage = 0 }, place.old.me.1) }
 {
     board.store::<Leave>(place, WRITER, 0);
-    wake(board, &sleepers.writers, WRITER);
+    wake_writer(board, sleepers, WRITER);
 }

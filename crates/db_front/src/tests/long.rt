@@ -71,10 +71,10 @@ impl Four {
     }
 }
 
-/// Whether a fifth of a second is over.
+/// Whether two seconds are over.
 fn is_over<C: Clock>(clock: &C, start: Instant) -> bool {
     match start.elapsed(clock) {
-        Ok(passed) => passed >= Duration::from_millis(200),
+        Ok(passed) => passed >= Duration::from_millis(2000),
         Err(_) => true,
     }
 }
