@@ -96,6 +96,14 @@ impl TreeTxn {
         self.state.tree.get(key)
     }
 
+    /// The present tree, to be looked at. Unlike [`TreeTxn::stand`] it leaves the transaction's own
+    /// nodes its own, so that later writes still change them in place.
+    pub fn tree(&self) -> &Tree
+        ensures { result.now ≡ self.now.tree }
+    {
+        &self.state.tree
+    }
+
     /// The present tree, which later writes don't change. It takes no memory. `AllocError` comes
     /// where the kit's `Arc` refuses one more owner of the root.
     pub fn stand(&mut self) -> Result<Tree, AllocError>

@@ -1,8 +1,9 @@
 -- The first place at which a look-up tells that a key is taken is that of the first index that
 -- another row doesn't leave free.
 use Rattle.std.proofs.Common.{◌≡◌, ◌∙◌, ◌<◌, ◌≤◌, ◌+◌, ℕ, List, [], ◌∷◌, map, drop, length, get_or, Bool, true, false, not, cond, Option, Some, None, Ok, Err, Contains, refl, sym, ap, subst}
-use Rattle.std.specs.Prelude.{if◌then◌else◌}
+use Rattle.std.specs.Prelude.{if◌then◌else◌, is_some}
 use Rattle.std.specs.List.{list_any, enumerate_from, zip}
+use Rattle.std.proofs.Math.Bool.{and_comm}
 use Rattle.std.proofs.lemmas.List.{drop_more, drop_all, get_or-map, length-map}
 use Rattle.mdb_datum.specs.Row.{Fields, Pair}
 use Rattle.mdb_encode.specs.Bytes.{Bytes}
@@ -10,12 +11,13 @@ use Rattle.mdb_schema.specs.Entries.{entries}
 use Rattle.mdb_schema.specs.Schema.{IndexSchema, TableSchema}
 use Rattle.mdb_schema.specs.State.{AreLawfulRows, id_key, full_keys, row_at}
 use Rattle.mdb_schema.specs.Tests.{◌>>=◌, passed, each}
-use Rattle.mdb_schema.specs.Write.{Tested, Placed, indexes_of, key_taken, is_taken_by, leaves_free}
+use Rattle.mdb_schema.specs.Write.{Tested, Placed, is_among, indexes_of, key_taken, is_taken_by, leaves_free}
 use Rattle.mdb_schema.specs.inner.Edits.{full_keys_of}
 use Rattle.mdb_schema.proofs.EntriesOfRows.{apart_in}
 use Rattle.mdb_schema.proofs.FreeKeys.{is_taken_by-stored}
 use Rattle.mdb_schema.proofs.Membership.{Contains-first, Contains-later}
 use Rattle.mdb_schema.proofs.PassedTests.{goes_on}
+use Rattle.radix_node.specs.Pairs.{find}
 use Rattle.radix_txn.specs.Txn.{Txn, txn_pairs}
 use Rattle.table_index.specs.inner.PutKeys.{first_taken, has_taken, keys_of_each}
 use Rattle.table_index.specs.inner.TreeEdits.{NewAndOld}
@@ -67,7 +69,9 @@ module _ (t : TableSchema) (row : Fields) (rows : List Fields) (lawful : AreLawf
 
   -- the look-ups in an index tell whether it is left free
   looked_up : (i : IndexSchema) → Contains t.indexes i → list_any (is_taken_by t i (id_key t row) (full_keys t i row)) rows ≡ has_taken (new_and_old i) (entries_in i)
-  looked_up i within = is_taken_by-stored t i rows (apart_in t i rows lawful within) (id_key t row) lawful.rising (full_keys t i row)
+  looked_up i within =
+      is_taken_by-stored t i rows (apart_in t i rows lawful within) (id_key t row) lawful.rising (full_keys t i row)
+      ∙ (λ j. list_any (λ k. and_comm (is_some (find k (entries_in i))) (not (is_among (new_and_old i).1 k)) j) (full_keys t i row))
 
   -- these indexes are left free, or the first that isn't has this place
   abbrev pub TellsFree : List Placed → Option ℕ → Type 0

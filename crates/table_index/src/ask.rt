@@ -5,7 +5,7 @@ ghost use Rattle.mdb_schema.specs.Refusals.{AnswersAsk};
 ghost use Rattle.mdb_schema.specs.declared.ask_error.AskError.TheVariants.{Memory};
 ghost use Rattle.radix_node.specs.Cells.{plain_of};
 ghost use Rattle.radix_node.specs.Nodes.{pairs_of};
-ghost use Rattle.table_index.specs.inner.Held.{AreSound, AreTrees, nodes_of, rows_held};
+ghost use Rattle.table_index.specs.inner.Held.{AreTrees, nodes_of, rows_held};
 
 use crate::answer::answer_of;
 use crate::lookup::{Target, lookup};
@@ -43,48 +43,29 @@ impl TableTxn {
         ensures unchanged { self.new ≡ self.old }
     {
         let alloc = *self.trees.allocator();
-        ask_standing(alloc, &self.def, &mut self.trees, query)
+        ask_present(alloc, &self.def, &self.trees, query)
     }
 }
 
 /// What a question is answered from the present tree of the index where it looks.
-fn ask_standing(
+fn ask_present(
     alloc: Global,
     def: &TableDef,
-    txns: &mut [TreeTxn],
+    txns: &[TreeTxn],
     query: &Query,
 ) -> Result<Answer, AskError>
-    requires sound { AreSound txns.old }
-    requires held { AreTrees def.now (nodes_of txns.old) }
-    ensures answers { AnswersAsk
-        (ask_rows def.now (rows_held def.now (nodes_of txns.old)) query.now) result }
-    ensures unchanged { txns.new ≡ txns.old }
+    requires { AreTrees def.now (nodes_of txns.now) }
+    ensures { AnswersAsk
+        (ask_rows def.now (rows_held def.now (nodes_of txns.now)) query.now) result }
 {
     match lookup(alloc, def, query.ask(), query) {
+        // It isn't a tree that is given: the transaction's own nodes stay its own.
         Ok(at) => {
-            let txn = &mut txns[at.place()];
-            answer_standing(alloc, txn, &at, query)
+            let txn = &txns[at.place()];
+            answer_at(alloc, txn.tree(), &at, query)
         }
         Err(error) => Err(error),
     }
-}
-
-/// What a question is answered from the present tree of a transaction.
-fn answer_standing(
-    alloc: Global,
-    txn: &mut TreeTxn,
-    at: &Target<'_>,
-    query: &Query,
-) -> Result<Answer, AskError>
-    requires sound { txn.old.spoiled ≡ false }
-    ensures answers { MatchResult result
-        (λ a. a ≡ answer query.now.ask (is_exact at.now.index query.now)
-        at.now.key (pairs_of (plain_of txn.old.tree)))
-        (λ e. e ≡ Memory) }
-    ensures unchanged { txn.new ≡ txn.old }
-{
-    let tree = txn.stand()?;
-    answer_at(alloc, &tree, at, query)
 }
 
 /// What a question is answered from the tree of the index where it looks: the rows of the walk for

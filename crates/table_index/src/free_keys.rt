@@ -14,7 +14,8 @@ fn has_taken(txn: &TreeTxn, keys: &[FullKey], old: &FullKeys) -> bool
     ensures { result ≡ has_taken (keys.now, old.now) (txn_pairs txn.now) }
 {
     for key in keys {
-        if txn.get(key.bytes()).is_some() && !old.contains(key) {
+        // A key of the row that is replaced is free, and wants no look-up.
+        if !old.contains(key) && txn.get(key.bytes()).is_some() {
             return true;
         }
     }
@@ -22,7 +23,7 @@ fn has_taken(txn: &TreeTxn, keys: &[FullKey], old: &FullKeys) -> bool
 }
 
 /// The place of the first tree that holds one of the full keys at its place, where that is none of
-/// the old ones there. It takes no memory, and one look-up a key.
+/// the old ones there. It takes no memory, and one look-up for each key that isn't an old one.
 pub(crate) fn first_taken(txns: &[TreeTxn], keys: &[FullKeys], old: &[FullKeys]) -> Option<usize>
     requires sound { AreSound txns.now }
     requires all_keys { length keys.now ≡ length txns.now }

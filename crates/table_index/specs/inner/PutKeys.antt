@@ -11,7 +11,7 @@ use Rattle.table_index.specs.inner.TreeEdits.{NewAndOld}
 
 -- a tree holds one of the new keys that is none of the old ones
 abbrev pub has_taken : NewAndOld → List Pair → Bool
-has_taken ks es = list_any (λ k. is_some (find k es) && not (is_among ks.1 k)) ks.0
+has_taken ks es = list_any (λ k. not (is_among ks.1 k) && is_some (find k es)) ks.0
 
 -- the place of the first tree that does, where the first has this place
 abbrev pub first_taken : ℕ → List NewAndOld → List (List Pair) → Option ℕ

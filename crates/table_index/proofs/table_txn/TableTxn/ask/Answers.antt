@@ -6,13 +6,13 @@ use Rattle.table_index.specs.Table.{TableChange}
 use Rattle.table_index.specs.inner.Held.{AreTrees, nodes_of, rows_held}
 use Rattle.table_index.proofs.table_txn.TableTxn.ask.Goals as goal
 
-pub ask_standing-requires-clause-held : goal.ask_standing-requires-clause-held
-ask_standing-requires-clause-held c =
+pub ask_present-requires : goal.ask_present-requires
+ask_present-requires c =
     let sound : c.self.inside.spoiled ≡ false = ap (λ (t : TableChange). t.spoiled) c.self.view_is ∙ c.requires.sound in
-    subst (λ (txns : List Txn). AreTrees c.self.inside.def (nodes_of txns)) (sym c.deref_mut.ensures.value) (c.self.invariant.trees sound)
+    subst (λ (txns : List Txn). AreTrees c.self.inside.def (nodes_of txns)) (sym c.deref.ensures.value) (c.self.invariant.trees sound)
 
 pub returns-clause-answers : goal.returns-clause-answers
 returns-clause-answers c =
     let query = c.args.query.now in
-    subst (λ (t : TableChange). AnswersAsk (ask_rows t.schema t.rows query) c.ask_standing.result) c.self.view_is
-    (subst (λ (txns : List Txn). AnswersAsk (ask_rows c.self.inside.def (rows_held c.self.inside.def (nodes_of txns)) query) c.ask_standing.result) c.deref_mut.ensures.value c.ask_standing.ensures.answers)
+    subst (λ (t : TableChange). AnswersAsk (ask_rows t.schema t.rows query) c.ask_present.result) c.self.view_is
+    (subst (λ (txns : List Txn). AnswersAsk (ask_rows c.self.inside.def (rows_held c.self.inside.def (nodes_of txns)) query) c.ask_present.result) c.deref.ensures.value c.ask_present.ensures)
