@@ -36,9 +36,9 @@ impl TableTxn {
     /// are left. It takes memory for the keys of the row and of the one that it replaces, and for
     /// copied nodes, each with a new cell, and is refused for want of it, of room to count one more
     /// owner of a node or row, or of room to count one more key of an index; that spoils the
-    /// change. It takes time in the lengths of the keys, with one look-up a key, and compares the
-    /// old keys of an index with the new ones, at most 256 with 256. No key is written but the full
-    /// keys of the row and of the one that it replaces.
+    /// change. It takes time in the lengths of the keys, with a look-up for each new key that the
+    /// replaced row hasn't, and compares the old keys of an index with the new ones, at most 256
+    /// with 256. No key is written but the full keys of the row and of the one that it replaces.
     pub fn put(&mut self, front: &Front, ids: &mut Ids, row: &Row) -> Result<bool, WriteError>
         requires sound { self.old.spoiled ≡ false }
         requires book { front.now.book ≡ ids.old.book }

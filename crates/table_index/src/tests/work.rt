@@ -115,6 +115,11 @@ impl Work {
         self.txn.spoiled()
     }
 
+    /// How many ids are left to draw.
+    pub fn left(&self) -> u64 {
+        self.ids.left()
+    }
+
     /// What the schema says of the table.
     pub fn def(&self) -> &TableDef {
         &self.txn.def
