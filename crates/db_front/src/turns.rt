@@ -11,11 +11,12 @@ use crate::board::{Board, COUNT, DONE, Place, WRITER, turn_of};
 use crate::card::Card;
 use crate::plays::{Back, Count, Leave, Note, Take, Try};
 use crate::version::Version;
+use crossbeam_utils::CachePadded;
 use std::alloc::AllocError;
 use std::hint::spin_loop;
 use std::sync::Wait;
-use std::sync::atomic::AtomicU64;
 use std::sync::atomic::Ordering::SeqCst;
+use std::sync::atomic::{AtomicBool, AtomicU64};
 use std::time::Duration;
 
 /// Those who sleep until a turn is given back. What writers change lies apart from what every look
@@ -23,13 +24,16 @@ use std::time::Duration;
 #[derive(Drop)]
 pub(crate) struct Sleepers {
     /// How many wait for a shown turn.
-    pub(crate) shown: AtomicU64,
-    before: [u64; 8],
-    /// How many wait for the writer's turn.
-    writers: AtomicU64,
-    /// 1 from when one of these is woken until one of them is awake, else 0.
-    called: AtomicU64,
-    behind: [u64; 8],
+    shown: AtomicU64,
+    writers: CachePadded<SleepingWriters>,
+}
+
+/// Those who sleep until the writer's turn is given back.
+#[derive(Drop)]
+struct SleepingWriters {
+    count: AtomicU64,
+    /// Whether one of them was woken, and none has been awake since.
+    called: AtomicBool,
 }
 
 impl Sleepers {
@@ -37,10 +41,10 @@ impl Sleepers {
     pub(crate) fn none() -> Sleepers {
         Sleepers {
             shown: AtomicU64::new(0),
-            before: [0; 8],
-            writers: AtomicU64::new(0),
-            called: AtomicU64::new(0),
-            behind: [0; 8],
+            writers: CachePadded::new(SleepingWriters {
+                count: AtomicU64::new(0),
+                called: AtomicBool::new(false),
+            }),
         }
     }
 }
@@ -81,26 +85,26 @@ fn rest<V: Version, R: Wait>(rt: &R, board: &Board<V>, sleepers: &Sleepers, turn
 }
 
 /// The same of the writer's turn. A caller that was called just before it slept isn't called again,
-/// so it sleeps for a millisecond at most.
+/// so it sleeps for a limited time.
 fn rest_for_writer<V: Version, R: Wait>(
     rt: &R,
     board: &Board<V>,
     sleepers: &Sleepers,
-    turn: usize,
     found: u64,
+    limit: Duration,
 )
-    requires { turn < board.now.table_id.words }
+    requires { WRITER < board.now.table_id.words }
 {
-    if is_seen_to_change(board, turn, found, WRITER_LOOKS) {
+    if is_seen_to_change(board, WRITER, found, WRITER_LOOKS) {
         return;
     }
-    sleepers.writers.fetch_add(1, SeqCst);
+    let writers: &SleepingWriters = &sleepers.writers;
+    writers.count.fetch_add(1, SeqCst);
     // Whoever was called last may have been awake already.
-    sleepers.called.store(0, SeqCst);
-    let limit = Duration::from_millis(1);
-    board.park_timeout(rt, turn, (found % 4294967296) as u32, limit);
-    sleepers.called.store(0, SeqCst);
-    sleepers.writers.fetch_sub(1, SeqCst);
+    writers.called.store(false, SeqCst);
+    board.park_timeout(rt, WRITER, (found % 4294967296) as u32, limit);
+    writers.called.store(false, SeqCst);
+    writers.count.fetch_sub(1, SeqCst);
 }
 
 /// Wakes a caller that sleeps until the shown turn is given back. A caller counts itself before it
@@ -115,12 +119,13 @@ pub(crate) fn wake<V: Version>(board: &Board<V>, sleepers: &Sleepers, turn: usiz
 
 /// Wakes a caller that sleeps until the writer's turn is given back, if none is on its way already:
 /// a wake costs as much as a short transaction.
-fn wake_writer<V: Version>(board: &Board<V>, sleepers: &Sleepers, turn: usize)
-    requires { turn < board.now.table_id.words }
+fn wake_writer<V: Version>(board: &Board<V>, sleepers: &Sleepers)
+    requires { WRITER < board.now.table_id.words }
 {
-    if sleepers.writers.load(SeqCst) != 0 && sleepers.called.load(SeqCst) == 0 {
-        sleepers.called.store(1, SeqCst);
-        board.wake_one(turn);
+    let writers: &SleepingWriters = &sleepers.writers;
+    if writers.count.load(SeqCst) != 0 && !writers.called.load(SeqCst) {
+        writers.called.store(true, SeqCst);
+        board.wake_one(WRITER);
     }
 }
 
@@ -261,12 +266,15 @@ pub(crate) fn take_turn<V: Version, R: Wait>(
     ensures seat { IsSame place.old place.new }
     ensures began { Began place.old place.new }
 {
+    // Each sleep may last twice as long as the one before it.
+    let mut limit = Duration::from_millis(1);
     for _ in rt.forever() {
         let found = board.compare_exchange::<Try>(place, WRITER, 0, number);
         if found == 0 {
             return;
         }
-        rest_for_writer(rt, board, sleepers, WRITER, found);
+        rest_for_writer(rt, board, sleepers, found, limit);
+        limit = limit.saturating_mul(2);
     }
     unreachable!()
 }
@@ -292,5 +300,5 @@ pub(crate) fn leave_turn<V: Version>(board: &Board<V>, sleepers: &Sleepers, plac
     ensures left { place.new.me ≡ (record place.old.me.0 { stage = 0 }, place.old.me.1) }
 {
     board.store::<Leave>(place, WRITER, 0);
-    wake_writer(board, sleepers, WRITER);
+    wake_writer(board, sleepers);
 }
