@@ -1,10 +1,12 @@
 //! The worked trees are those of the words `foo`, `football`, `fool` and `foot`, each ended by a
 //! byte 00, as the shape asks. A row tells its number.
 mod deep;
+mod drawn;
 mod look_ups;
 mod notices;
 mod owned;
 mod refused;
+mod refused_in_place;
 mod run;
 mod written;
 

@@ -88,3 +88,27 @@ fn a_transaction_may_stand_a_thousand_times(rt: HostRuntime) -> Result<(), Fail>
     assert!(rt; may_stand_often(rt.alloc())?);
     Ok(())
 }
+
+/// Whether the put of a key draws ids after a tree was given, of which nothing is kept: it was put
+/// before, so the nodes on its path were the transaction's own, and have one owner again.
+fn draws_after_stand(work: &mut Work, row: &Row) -> Result<bool, AllocError> {
+    drop(work.put(b"foo\0", row)?);
+    drop(work.stand()?);
+    let drawn = drawn_by_put(work, b"foo\0", row)?;
+    Ok(drawn > 0)
+}
+
+/// The same in a new transaction.
+fn stand_ends_ownership(alloc: Global) -> Result<bool, AllocError> {
+    let row = row(alloc, 1)?;
+    let mut work = Work::new(alloc)?;
+    draws_after_stand(&mut work, &row)
+}
+
+// No clause says where the mark is: with one that stays where it was while a tree is given, all
+// proofs pass, and this test fails.
+#[test]
+fn what_was_given_is_the_transactions_own_no_longer(rt: HostRuntime) -> Result<(), Fail> {
+    assert!(rt; stand_ends_ownership(rt.alloc())?);
+    Ok(())
+}

@@ -7,18 +7,18 @@ use std::alloc::{AllocError, Global};
 use std::collections::BTreeMap;
 use std::test::Fail;
 
-type Plain = BTreeMap<Vec<u8>, u64>;
+pub type Plain = BTreeMap<Vec<u8>, u64>;
 
 /// The letters of keys.
 static LETTERS: [u8; 4] = [0, b'a', b'b', 255];
 
 /// Numbers by Marsaglia's shifts, the same in each run.
 #[derive(Drop)]
-struct Random(u64);
+pub struct Random(pub u64);
 
 impl Random {
     /// A number below a bound.
-    fn below(&mut self, bound: u64) -> u64
+    pub fn below(&mut self, bound: u64) -> u64
         requires { 0 < bound }
         ensures { result < bound }
     {
@@ -31,7 +31,7 @@ impl Random {
     }
 
     /// A key of few letters, so that keys come again and begin with each other.
-    fn key(&mut self, alloc: Global, most: u64) -> Result<Vec<u8>, AllocError>
+    pub fn key(&mut self, alloc: Global, most: u64) -> Result<Vec<u8>, AllocError>
         requires { most < 100 }
     {
         let mut key = Vec::new(alloc);
@@ -45,7 +45,7 @@ impl Random {
 // Each write is made on both, and tells whether both answered the same.
 
 /// Whether a row is the one of a number, where there is a number.
-fn is_same_row(row: Option<&Row>, number: Option<u64>) -> bool {
+pub fn is_same_row(row: Option<&Row>, number: Option<u64>) -> bool {
     match number {
         Some(number) => is_row(row, number),
         None => row.is_none(),
@@ -64,7 +64,7 @@ fn put_gives(
 }
 
 /// Puts a key with a number.
-fn put_both(
+pub fn put_both(
     work: &mut Work,
     plain: &mut Plain,
     key: &Vec<u8>,
@@ -75,13 +75,17 @@ fn put_both(
 }
 
 /// Takes out a key.
-fn take_both(work: &mut Work, plain: &mut Plain, key: &Vec<u8>) -> Result<bool, AllocError> {
+pub fn take_both(work: &mut Work, plain: &mut Plain, key: &Vec<u8>) -> Result<bool, AllocError> {
     let old = work.take(key)?;
     Ok(is_same_row(old.as_ref(), plain.remove(key)))
 }
 
 /// Takes out the keys that begin with a prefix.
-fn take_all_both(work: &mut Work, plain: &mut Plain, prefix: &[u8]) -> Result<bool, AllocError> {
+pub fn take_all_both(
+    work: &mut Work,
+    plain: &mut Plain,
+    prefix: &[u8],
+) -> Result<bool, AllocError> {
     let before = plain.len() as u64;
     plain.retain(|key, _| !key.starts_with(prefix));
     let gone = work.take_all(prefix)?;
@@ -106,7 +110,7 @@ fn write_both(
 }
 
 /// Whether the tree has as many keys as the map, and each with its number.
-fn is_same(work: &Work, plain: &Plain) -> bool {
+pub fn is_same(work: &Work, plain: &Plain) -> bool {
     let txn = work.txn();
     if txn.spoiled() || txn.len() != plain.len() as u64 {
         return false;

@@ -10,6 +10,7 @@ use mdb_datum::{Datum, Row, read_doc};
 use radix_node::{Edges, Ids, Tree};
 use std::alloc::{AllocError, Global};
 use std::marker::Model;
+use std::mem;
 use watch_word::{Front, open_book};
 
 /// The row that a text is. Another text counts as want of memory, which ends a test.
@@ -148,13 +149,17 @@ impl Work {
         Ok(())
     }
 
+    /// The present tree and the notice, which end the transaction; a new one on the tree follows it.
+    pub fn follow(&mut self) -> Result<(Tree, Notice), AllocError> {
+        let next = next_txn(&mut self.txn)?;
+        let ended = mem::replace(&mut self.txn, next);
+        ended_by(ended)
+    }
+
     /// The present tree and the notice, which end the transaction.
     pub fn freeze(self) -> Result<(Tree, Notice), AllocError> {
         let Work { txn, .. } = self;
-        if txn.spoiled() {
-            return Err(AllocError);
-        }
-        txn.freeze()
+        ended_by(txn)
     }
 }
 
@@ -182,6 +187,14 @@ fn next_txn(txn: &mut TreeTxn) -> Result<TreeTxn, AllocError>
         return Err(AllocError);
     }
     txn.stand()?.txn()
+}
+
+/// The tree and the notice that a transaction ends with.
+fn ended_by(txn: TreeTxn) -> Result<(Tree, Notice), AllocError> {
+    if txn.spoiled() {
+        return Err(AllocError);
+    }
+    txn.freeze()
 }
 
 /// A transaction with these keys put in turn, each with its place for its number.
