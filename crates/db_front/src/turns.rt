@@ -32,7 +32,7 @@ pub(crate) struct Sleepers {
 #[derive(Drop)]
 struct SleepingWriters {
     count: AtomicU64,
-    /// Whether one of them was woken, and none has been awake since.
+    /// Whether one of them was woken, and none since has got the turn or gone back to sleep.
     called: AtomicBool,
 }
 
@@ -45,6 +45,13 @@ impl Sleepers {
                 count: AtomicU64::new(0),
                 called: AtomicBool::new(false),
             }),
+        }
+    }
+
+    /// Lets another sleeper be called, where one that slept has got the writer's turn.
+    fn let_call(&self, slept: bool) {
+        if slept {
+            self.writers.called.store(false, SeqCst);
         }
     }
 }
@@ -84,27 +91,27 @@ fn rest<V: Version, R: Wait>(rt: &R, board: &Board<V>, sleepers: &Sleepers, turn
     sleepers.shown.fetch_sub(1, SeqCst);
 }
 
-/// The same of the writer's turn. A caller that was called just before it slept isn't called again,
-/// so it sleeps for a limited time.
+/// The same of the writer's turn; says whether it slept. A caller that was called just before it
+/// slept isn't called again, so it sleeps for a limited time.
 fn rest_for_writer<V: Version, R: Wait>(
     rt: &R,
     board: &Board<V>,
     sleepers: &Sleepers,
     found: u64,
     limit: Duration,
-)
+) -> bool
     requires { WRITER < board.now.table_id.words }
 {
     if is_seen_to_change(board, WRITER, found, WRITER_LOOKS) {
-        return;
+        return false;
     }
     let writers: &SleepingWriters = &sleepers.writers;
     writers.count.fetch_add(1, SeqCst);
     // Whoever was called last may have been awake already.
     writers.called.store(false, SeqCst);
     board.park_timeout(rt, WRITER, (found % 4294967296) as u32, limit);
-    writers.called.store(false, SeqCst);
     writers.count.fetch_sub(1, SeqCst);
+    true
 }
 
 /// Wakes a caller that sleeps until the shown turn is given back. A caller counts itself before it
@@ -268,12 +275,14 @@ pub(crate) fn take_turn<V: Version, R: Wait>(
 {
     // Each sleep may last twice as long as the one before it.
     let mut limit = Duration::from_millis(1);
+    let mut slept = false;
     for _ in rt.forever() {
         let found = board.compare_exchange::<Try>(place, WRITER, 0, number);
         if found == 0 {
+            sleepers.let_call(slept);
             return;
         }
-        rest_for_writer(rt, board, sleepers, found, limit);
+        slept = rest_for_writer(rt, board, sleepers, found, limit) || slept;
         limit = limit.saturating_mul(2);
     }
     unreachable!()
