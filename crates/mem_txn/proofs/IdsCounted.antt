@@ -1,11 +1,13 @@
 -- The ids of a transaction, write after write: whose cells have them, and how many were drawn.
-use Rattle.std.proofs.Common.{◌≡◌, ◌∙◌, ◌+◌, ◌*◌, ◌^◌, ◌++◌, ◌<◌, ◌≤◌, ℕ, List, All, [], ◌∷◌, get_or, length, map, set, sym, ap, subst, arith}
+use Rattle.std.proofs.Common.{◌≡◌, ◌∙◌, ◌+◌, ◌*◌, ◌^◌, ◌++◌, ◌<◌, ◌≤◌, ℕ, false, List, All, [], ◌∷◌, get_or, length, map, set, sym, ap, subst, arith}
 use Rattle.std.proofs.lemmas.List.{length-append}
 use Rattle.std.proofs.lemmas.List.Elements.{All-cons, All-head, All-map, All-nil, All-set, All-tail}
 use Rattle.mdb_schema.specs.Write.{Write}
 use Rattle.radix_node.specs.Cells.{CellTree}
 use Rattle.radix_node.specs.Ids.{Book, Counter}
-use Rattle.table_index.specs.Table.{AreAllBelow, AreAllOf, TableRows, TableChange}
+use Rattle.watch_word.specs.Logs.{Log}
+use Rattle.table_index.specs.Drawn.{HasDrawnCells, MayBeWritten}
+use Rattle.table_index.specs.Table.{AreAllOf, TableRows, TableChange}
 use Rattle.mem_txn.specs.inner.ChangesView.{AreCounted}
 use Rattle.mem_txn.specs.inner.VersionTables.{AreWithin, IsWithin, standing, trees_of, unwritten}
 use Rattle.mem_txn.specs.inner.Versions.{Turned}
@@ -32,11 +34,21 @@ forest_more ids ids' ts same le within k d h = trees_more ids ids' (get_or (tree
 pub within-set : (ids ids' : Counter) (ts : List TableChange) (at : ℕ) (t : TableChange) → ids'.book ≡ ids.book → ids.next ≤ ids'.next → All (IsWithin ids) ts → IsWithin ids' t → All (IsWithin ids') (set ts at t)
 within-set ids ids' ts at t same le all within = All-set (IsWithin ids') ts at t within (λ k d h. table_more ids ids' (get_or ts k d) same le (all k d h))
 
+-- a table may be written by a counter that has counted its ids
+pub may_be_written : (front : Log) (ids : Counter) (t : TableChange) → t.spoiled ≡ false → front.book ≡ ids.book → IsWithin ids t → MayBeWritten front ids t
+may_be_written front ids t sound book within = record {
+  sound = sound;
+  book = book;
+  below = within.trees.below;
+  of = within.trees.of;
+  start = within.start.below;
+}
+
 -- a write leaves the trees with which the change began
-pub write_within : (ids ids' : Counter) (old new : TableChange) → IsWithin ids old → ids'.book ≡ ids.book → AreAllBelow ids'.next new.start → new.start ≡ old.start → AreAllBelow ids'.next new.trees → AreAllOf ids'.book new.trees → IsWithin ids' new
-write_within ids ids' old new within same below start below_now of = record {
-  start = record { below = below; of = subst (AreAllOf ids'.book) (sym start) (subst (λ (b : Book). AreAllOf b old.start) (sym same) within.start.of) };
-  trees = record { below = below_now; of = of };
+pub write_within : (log : Log) (n : ℕ) (ids ids' : Counter) (old new : TableChange) → IsWithin ids old → new.start ≡ old.start → HasDrawnCells log n ids ids' old new → IsWithin ids' new
+write_within log n ids ids' old new within start drawn = record {
+  start = record { below = drawn.start; of = subst (AreAllOf ids'.book) (sym start) (subst (λ (b : Book). AreAllOf b old.start) (sym drawn.book) within.start.of) };
+  trees = record { below = drawn.below; of = drawn.of };
 }
 
 -- tables that nobody has written to

@@ -1,11 +1,12 @@
 //! Wipes of a table, for a write transaction.
-ghost use Rattle.std.specs.Prelude.{◌≡◌, ◌⊎◌, ◌≤◌, ◌<◌, ◌+◌, ◌*◌, ◌^◌, ◌++◌, ◌∷◌, [], false, All};
+ghost use Rattle.std.specs.Prelude.{◌≡◌, ◌⊎◌, ◌<◌, ◌*◌, ◌^◌, ◌++◌, ◌∷◌, [], All};
 ghost use Rattle.std.specs.Prelude.{IfErr, MatchResult, OnErr, OnOk, length, take};
 ghost use Rattle.mdb_schema.specs.Wipe.{removals};
 ghost use Rattle.mdb_schema.specs.Write.{remove};
-ghost use Rattle.mem_txn.specs.inner.VersionTables.{IsSound, IsWithin, unwritten};
+ghost use Rattle.mem_txn.specs.inner.VersionTables.{IsSound, unwritten};
 ghost use Rattle.mem_txn.specs.inner.Wipes.{JoinsGoneAt, Refuses, is_memory, wiped_by};
-ghost use Rattle.table_index.specs.Table.{AnswersCheck, AnswersTake, AreDrawn, rows_asked};
+ghost use Rattle.table_index.specs.Drawn.{HasDrawnCells, MayBeWritten};
+ghost use Rattle.table_index.specs.Table.{AnswersCheck, AnswersTake, rows_asked};
 ghost use Rattle.table_index.specs.Written.{Writes, rows_told};
 ghost use Rattle.table_index.specs.declared.wipe_error.WipeError.TheVariants.{Memory};
 
@@ -58,18 +59,13 @@ impl Wipe {
         ids: &mut Ids,
         query: &Query,
     ) -> Result<Rows, WipeError>
-        requires sound { table.old.spoiled ≡ false }
-        requires book { front.now.book ≡ ids.old.book }
-        requires within { IsWithin ids.old table.old }
+        requires ready { MayBeWritten front.now ids.old table.old }
         ensures answers { AnswersTake ids.old.next
             (wiped_by self table.old.schema table.old.rows query.now) result table.old table.new }
-        ensures within { IsWithin ids.new table.new }
-        ensures book { ids.new.book ≡ ids.old.book }
-        ensures later { ids.old.next ≤ ids.new.next }
-        ensures few { ids.new.next ≤ ids.old.next + 2 ^ 26
-            * rows_asked (wiped_by self table.old.schema table.old.rows query.now) }
+        ensures drawn { HasDrawnCells front.now
+            (2 ^ 26 * rows_asked (wiped_by self table.old.schema table.old.rows query.now))
+            ids.old ids.new table.old table.new }
         ensures refused { IfErr result (λ e. (e ≡ Memory) ⊎ (ids.new ≡ ids.old)) }
-        ensures drawn { AreDrawn front.now ids.old ids.new table.old.trees table.new.trees }
         ensures written { OnOk result (Writes
             (rows_told (wiped_by self table.old.schema table.old.rows query.now))
             table.old table.new) }

@@ -7,7 +7,6 @@ ghost use Rattle.radix_node.specs.Cells.{plain_of};
 ghost use Rattle.radix_node.specs.Nodes.{pairs_of};
 ghost use Rattle.radix_node.specs.Pairs.{IsRising, find};
 ghost use Rattle.radix_node.specs.Paths.{Has, IsPath, paths_of_plain};
-ghost use Rattle.radix_node.specs.Watches.{TellTheSame, WatchesHold};
 
 use crate::tree::Tree;
 
@@ -48,14 +47,4 @@ pub fn look_ups_tell_the_tree(first: &Tree, second: &Tree)
 {
     let _ = first.root();
     let _ = second.root();
-}
-
-/// Of two trees in which an id tells its node or leaf: whatever is watched in the old one, its cell
-/// isn't in the new one, or the same look-up there finds the same cell and the same rows.
-pub fn watches_hold(old: &Tree, new: &Tree)
-    requires { TellTheSame old.now new.now }
-    ensures { WatchesHold old.now new.now }
-{
-    let _ = old.root();
-    let _ = new.root();
 }

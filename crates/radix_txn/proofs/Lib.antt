@@ -31,7 +31,6 @@ pub mod TreeInsert
 pub mod TreeRemove
 pub mod TreeWrites
 pub mod WriteEnds
-pub mod Writes
 pub mod WrittenOnce
 pub mod PutSteps
 pub mod PutTree

@@ -1,3 +1,4 @@
+pub mod Drawn
 pub mod Kept
 pub mod Notice
 pub mod Txn

@@ -1,36 +1,35 @@
--- What a list of writes makes of a sorted map.
-use Rattle.std.specs.Prelude.{◌≤◌, List, [], ◌∷◌, length}
+-- What a write does to the pairs of a transaction's tree, and which keys it writes.
+use Rattle.std.specs.Prelude.{◌≡◌, ◌+◌, ℕ, List, Option, IfNone, length}
 use Rattle.mdb_datum.specs.Bytes.{Bytes}
-use Rattle.mdb_datum.specs.Row.{Pair}
+use Rattle.mdb_datum.specs.Row.{Fields}
+use Rattle.radix_node.specs.Ids.{Counter}
 use Rattle.radix_node.specs.Pairs.{find, put, without, without_prefix}
-use Rattle.radix_txn.specs.Kept.{deleted_key, deleted_keys}
-use Rattle.radix_txn.specs.declared.write.Write.{Write}
-use Rattle.radix_txn.specs.declared.write.Write.TheVariants.{Insert, Delete, DeletePrefix}
+use Rattle.radix_txn.specs.Kept.{AreWritten}
+use Rattle.radix_txn.specs.Txn.{Txn, txn_pairs}
 
--- the pairs after a write
-abbrev pub after_write : Write → List Pair → List Pair
-after_write (Insert key row) pairs = put key.items row pairs
-after_write (Delete key) pairs = without key.items pairs
-after_write (DeletePrefix prefix) pairs = without_prefix prefix.items pairs
+-- a row was put under a key, in the place of this one, if there was one
+pub record IsInsert (key : Bytes) (row : Fields) (replaced : Option Fields) (before after : Txn)
+    : Type 0 where
+  pub pairs : txn_pairs after ≡ put key row (txn_pairs before)
+  pub found : replaced ≡ find key (txn_pairs before)
 
--- the pairs after one write after another
-abbrev pub after_writes : List Write → List Pair → List Pair
-after_writes [] pairs = pairs
-after_writes (w ∷ ws) pairs = after_writes ws (after_write w pairs)
+-- a key was taken out, which had this row; where there was no such key, nothing has changed
+pub record IsDelete (key : Bytes) (taken : Option Fields) (old new : Counter) (before after : Txn)
+    : Type 0 where
+  pub pairs : txn_pairs after ≡ without key (txn_pairs before)
+  pub found : taken ≡ find key (txn_pairs before)
+  pub missing : IfNone taken ((after ≡ before) × (new ≡ old))
 
--- the keys that a write writes, before those that were written already
-abbrev pub write_keys : Write → List Pair → List Bytes → List Bytes
-write_keys (Insert key row) pairs keys = key.items ∷ keys
-write_keys (Delete key) pairs keys = deleted_key key.items (find key.items pairs) keys
-write_keys (DeletePrefix prefix) pairs keys = deleted_keys prefix.items pairs keys
+-- the keys that begin with a prefix were taken out, which were so many; where there were none,
+-- nothing has changed
+pub record IsDeletePrefix (prefix : Bytes) (count : ℕ) (old new : Counter) (before after : Txn)
+    : Type 0 where
+  pub pairs : txn_pairs after ≡ without_prefix prefix (txn_pairs before)
+  pub counted : count + length (txn_pairs after) ≡ length (txn_pairs before)
+  pub missing : count ≡ 0 → (after ≡ before) × (new ≡ old)
 
--- and one write after another
-abbrev pub all_keys : List Write → List Pair → List Bytes → List Bytes
-all_keys [] pairs keys = keys
-all_keys (w ∷ ws) pairs keys = all_keys ws (after_write w pairs) (write_keys w pairs keys)
-
--- the key or prefix of a write has at most 2,048 bytes
-abbrev pub IsShort : Write → Type 0
-IsShort (Insert key row) = length key.items ≤ 2048
-IsShort (Delete key) = length key.items ≤ 2048
-IsShort (DeletePrefix prefix) = length prefix.items ≤ 2048
+-- whatever keys were written since the transaction began, after a write they are these
+abbrev pub WritesKeys : (List Bytes → List Bytes) → Txn → Txn → Type 0
+WritesKeys more before after =
+    (keys : List Bytes) → AreWritten before.start before.tree keys
+    → AreWritten after.start after.tree (more keys)

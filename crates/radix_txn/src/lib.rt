@@ -20,9 +20,7 @@ mod target;
 #[cfg(test)]
 mod tests;
 mod txn;
-mod write;
 
 pub use edit::Edit;
 pub use notice::Notice;
 pub use txn::TreeTxn;
-pub use write::Write;

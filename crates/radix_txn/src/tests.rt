@@ -14,7 +14,7 @@ use mdb_datum::Row;
 use radix_node::Tree;
 use std::alloc::{AllocError, Global};
 use std::test::Fail;
-use written::{Work, applied, frozen, nodes_are, row, three_writes, work_of};
+use written::{Work, frozen, nodes_are, row, three_writes, work_of};
 
 /// A node of a tree: a path that leads to it, its own prefix, whether it has a leaf, and the labels
 /// of its edges.
@@ -237,16 +237,16 @@ fn a_node_may_have_an_edge_for_each_byte(rt: HostRuntime) -> Result<(), Fail> {
     Ok(())
 }
 
-/// How many keys three writes leave.
-fn count_after_three(alloc: Global) -> Result<u64, AllocError> {
+/// Whether three writes, of which the last takes out the key of the first, leave one key.
+fn leave_one_key(alloc: Global) -> Result<bool, AllocError> {
     let row = row(alloc, 3)?;
-    let writes = three_writes(alloc, &row)?;
-    applied(alloc, &writes)
+    let mut work = Work::new(alloc)?;
+    Ok(three_writes(&mut work, &row)? == 1 && work.txn().len() == 1)
 }
 
 #[test]
 fn writes_are_made_in_turn(rt: HostRuntime) -> Result<(), Fail> {
-    assert!(rt; count_after_three(rt.alloc())? == 1);
+    assert!(rt; leave_one_key(rt.alloc())?);
     Ok(())
 }
 

@@ -1,15 +1,18 @@
 -- The trees of a change, as its contracts speak of them.
-use Rattle.std.proofs.Common.{◌≡◌, ◌<◌, ℕ, List, All, map, length, get_or, sym, subst}
+use Rattle.std.proofs.Common.{◌≡◌, ◌<◌, ℕ, List, All, map, length, get_or, refl, sym, subst, arith}
 use Rattle.std.proofs.Math.ListN.{get_or-map}
 use Rattle.std.proofs.lemmas.List.{length-map}
 use Rattle.std.proofs.lemmas.List.Elements.{All-map}
 use Rattle.watch_word.specs.Logs.{Log}
 use Rattle.radix_node.specs.Cells.{AreBelow, AreOf, CellTree}
 use Rattle.radix_node.specs.Ids.{Counter}
+use Rattle.radix_txn.specs.Drawn.{IsWithin}
 use Rattle.radix_txn.specs.Txn.{Txn}
 use Rattle.table_index.specs.Table.{AreAllBelow, AreAllOf, AreDrawn, TableChange}
-use Rattle.table_index.specs.inner.Drawn.{AreReady, IsWithin}
+use Rattle.table_index.specs.Drawn.{HasDrawnCells, MayBeWritten}
+use Rattle.table_index.specs.inner.Drawn.{AreReady, HaveDrawn}
 use Rattle.table_index.specs.inner.Held.{AreSound, starts_of, trees_of}
+use Rattle.table_index.proofs.DrawnIds.{same_drawn}
 
 -- ---- ids
 
@@ -27,35 +30,47 @@ txns_within ids xs trees of start k d within = record {
 }
 
 -- the trees may be written
-pub change_ready : (front : Log) (ids : Counter) (items xs : List Txn) (now : TableChange) → xs ≡ items → trees_of items ≡ now.trees → starts_of items ≡ now.start → AreSound items → front.book ≡ ids.book
-    → AreAllBelow ids.next now.trees → AreAllOf ids.book now.trees → AreAllBelow ids.next now.start → AreReady front ids xs
-change_ready front ids items xs now is trees start sound book below of below_start =
+pub change_ready : (front : Log) (ids : Counter) (items xs : List Txn) (now : TableChange) → xs ≡ items → trees_of items ≡ now.trees → starts_of items ≡ now.start → AreSound items → MayBeWritten front ids now
+    → AreReady front ids xs
+change_ready front ids items xs now is trees start sound ready =
     subst (AreReady front ids) (sym is) (record {
       sound = sound;
-      book = book;
+      book = ready.book;
       within =
-          txns_within ids items (subst (AreAllBelow ids.next) (sym trees) below) (subst (AreAllOf ids.book) (sym trees) of)
-          (subst (AreAllBelow ids.next) (sym start) below_start);
+          txns_within ids items (subst (AreAllBelow ids.next) (sym trees) ready.below) (subst (AreAllOf ids.book) (sym trees) ready.of)
+          (subst (AreAllBelow ids.next) (sym start) ready.start);
     })
 
--- and they were
-pub made_below : (ids : Counter) (made new : List Txn) → made ≡ new → All (IsWithin ids) new → AreAllBelow ids.next (trees_of made)
-made_below ids made new is within =
-    All-map (AreBelow ids.next) (λ (x : Txn). x.tree) made (λ k d h. let b = subst (All (IsWithin ids)) (sym is) within k d h in b.tree)
+-- and they were: what a write drew for the lists that it reads and leaves, it drew for the change
+pub change_drawn : (log : Log) (n : ℕ) (i j : Counter) (before read made new : List Txn) (old now : TableChange) → read ≡ before → made ≡ new → trees_of before ≡ old.trees → trees_of made ≡ now.trees
+    → starts_of made ≡ now.start → HaveDrawn log n i j read new → HasDrawnCells log n i j old now
+change_drawn log n i j before read made new old now reads makes view trees start drawn =
+    let within : All (IsWithin j) made = subst (All (IsWithin j)) (sym makes) drawn.within in
+    record {
+      below = subst (AreAllBelow j.next) trees (All-map (AreBelow j.next) (λ (x : Txn). x.tree) made (λ k d h. let b = within k d h in b.tree));
+      of = subst (AreAllOf j.book) trees (All-map (AreOf j.book) (λ (x : Txn). x.tree) made (λ k d h. let b = within k d h in b.of));
+      start = subst (AreAllBelow j.next) start (All-map (AreBelow j.next) (λ (x : Txn). x.start) made (λ k d h. let b = within k d h in b.start));
+      drawn =
+          subst (λ (ts : List CellTree). AreDrawn log i j ts now.trees) view
+          (subst (λ (ts : List CellTree). AreDrawn log i j (trees_of before) ts) trees
+          (subst (λ (xs : List Txn). AreDrawn log i j (trees_of before) (trees_of xs)) (sym makes)
+          (subst (λ (xs : List Txn). AreDrawn log i j (trees_of xs) (trees_of new)) reads drawn.drawn)));
+      book = drawn.book;
+      later = drawn.later;
+      few = drawn.few;
+    }
 
-pub made_of : (ids : Counter) (made new : List Txn) → made ≡ new → All (IsWithin ids) new → AreAllOf ids.book (trees_of made)
-made_of ids made new is within =
-    All-map (AreOf ids.book) (λ (x : Txn). x.tree) made (λ k d h. let b = subst (All (IsWithin ids)) (sym is) within k d h in b.of)
-
-pub made_start : (ids : Counter) (made new : List Txn) → made ≡ new → All (IsWithin ids) new → AreAllBelow ids.next (starts_of made)
-made_start ids made new is within =
-    All-map (AreBelow ids.next) (λ (x : Txn). x.start) made (λ k d h. let b = subst (All (IsWithin ids)) (sym is) within k d h in b.start)
-
-pub made_drawn : (log : Log) (i j : Counter) (before read made new : List Txn) (old : List CellTree) → read ≡ before → made ≡ new → trees_of before ≡ old → AreDrawn log i j (trees_of read) (trees_of new) → AreDrawn log i j old (trees_of made)
-made_drawn log i j before read made new old reads makes view drawn =
-    subst (λ (ts : List CellTree). AreDrawn log i j ts (trees_of made)) view
-    (subst (λ (xs : List Txn). AreDrawn log i j (trees_of before) (trees_of xs)) (sym makes)
-    (subst (λ (xs : List Txn). AreDrawn log i j (trees_of xs) (trees_of new)) reads drawn))
+-- where nothing is written, nothing is drawn
+pub no_cells_drawn : (log : Log) (n : ℕ) (ids : Counter) (x : TableChange) → MayBeWritten log ids x → HasDrawnCells log n ids ids x x
+no_cells_drawn log n ids x ready = record {
+  below = ready.below;
+  of = ready.of;
+  start = ready.start;
+  drawn = same_drawn log ids ids x.trees;
+  book = refl;
+  later = omega arith;
+  few = omega arith;
+}
 
 -- what is said of the lists that a write reads and leaves is said of those of the change
 pub carried : (P : List Txn → List Txn → Type 0) (before read made new : List Txn) → read ≡ before → made ≡ new → P read new → P before made

@@ -1,16 +1,17 @@
 -- What writes draw of the ids, one after another and tree by tree.
-use Rattle.std.proofs.Common.{◌≡◌, ◌∙◌, ◌≤◌, ◌<◌, ◌+◌, ◌∷◌, [], ℕ, zero, suc, List, All, false, set, length, get_or, refl, sym, subst, arith}
+use Rattle.std.proofs.Common.{◌≡◌, ◌∙◌, ◌≤◌, ◌<◌, ◌+◌, ◌^◌, ◌∷◌, [], ℕ, zero, suc, List, All, false, set, length, get_or, refl, sym, subst, arith}
 use Rattle.std.proofs.Math.Seq.{map-set_same}
 use Rattle.std.proofs.lemmas.List.Elements.{All-get_or, All-set}
 use Rattle.watch_word.specs.Logs.{Log}
 use Rattle.radix_node.specs.Cells.{AreOf, CellTree}
 use Rattle.radix_node.specs.Ids.{Book, Counter}
+use Rattle.radix_txn.specs.Drawn.{HasDrawn, IsReady, IsWithin}
 use Rattle.radix_txn.specs.Notice.{IsDrawn}
 use Rattle.radix_txn.specs.Txn.{Txn}
 use Rattle.radix_txn.proofs.CellTxn.{below_more, drawn_twice}
 use Rattle.radix_txn.proofs.CellTxn as one
 use Rattle.table_index.specs.Table.{AreDrawn}
-use Rattle.table_index.specs.inner.Drawn.{IsWithin, IsReady, HasDrawn, AreReady, HaveDrawn}
+use Rattle.table_index.specs.inner.Drawn.{AreReady, HaveDrawn}
 use Rattle.table_index.specs.inner.Held.{AreSound, trees_of}
 
 -- ---- after more ids
@@ -92,11 +93,30 @@ ready_again front n i j xs ys book drawn sound = record {
 }
 
 -- the tree at a place may be written
-pub ready_at : (front : Log) (ids : Counter) (xs : List Txn) (at : ℕ) (d : Txn) → at < length xs → AreReady front ids xs → IsReady front ids (get_or xs at d)
-ready_at front ids xs at d within ready = record {
+pub ready_at : (n : ℕ) (front : Log) (ids : Counter) (xs : List Txn) (at : ℕ) (d : Txn) → at < length xs → AreReady front ids xs → ids.next + n ≤ 2 ^ 63 → IsReady n front ids (get_or xs at d)
+ready_at n front ids xs at d within ready left = record {
   sound = All-get_or (λ (y : Txn). y.spoiled ≡ false) xs at d within ready.sound;
   book = ready.book;
   within = All-get_or (IsWithin ids) xs at d within ready.within;
+  left = left;
+}
+
+-- with fewer writes to come
+pub ready_less : (n m : ℕ) (front : Log) (ids : Counter) (x : Txn) → m ≤ n → IsReady n front ids x → IsReady m front ids x
+ready_less n m front ids x le ready = record {
+  sound = ready.sound;
+  book = ready.book;
+  within = ready.within;
+  left = omega (arith, le, ready.left);
+}
+
+-- and after some of them
+pub ready_more : (a b n : ℕ) (front : Log) (i j : Counter) (x y : Txn) → a + b ≤ n → IsReady n front i x → HasDrawn front a i j x y → y.spoiled ≡ false → IsReady b front j y
+ready_more a b n front i j x y enough ready drawn sound = record {
+  sound = sound;
+  book = ready.book ∙ sym drawn.book;
+  within = drawn.within;
+  left = omega (arith, enough, ready.left, drawn.few);
 }
 
 -- the tree at a place was written

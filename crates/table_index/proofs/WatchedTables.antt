@@ -147,7 +147,7 @@ module _ (t : TableSchema) (old new : List CellTree) (held_old : AreTrees t (pla
       subst (λ (p : ℕ). HoldsAt p s.exact s.key s.watch) (sym index)
       (subst (λ (k : Bytes). HoldsAt at.place s.exact k s.watch) (sym key) (holds_at s.exact s.watch exact watched))
 
-pub questions_hold : (t : TableSchema) (old new : List CellTree) → AreTrees t (plains old) → AreTrees t (plains new) → (notices : List (List Cell)) → AreFrozen notices old new
+questions_hold : (t : TableSchema) (old new : List CellTree) → AreTrees t (plains old) → AreTrees t (plains new) → (notices : List (List Cell)) → AreFrozen notices old new
     → QuestionsHold (record { schema = t; rows = rows_held t (plains old); trees = old }) (record { schema = t; rows = rows_held t (plains new); trees = new })
 questions_hold t old new held_old held_new notices frozen q s may spot =
     holds_spot t old new held_old held_new notices frozen q may spot.at spot.looked s spot.index spot.key spot.exact spot.cell

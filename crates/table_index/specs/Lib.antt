@@ -1,3 +1,4 @@
+pub mod Drawn
 pub mod Frozen
 pub mod Spot
 pub mod Table

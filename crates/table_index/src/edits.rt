@@ -1,8 +1,9 @@
 //! What a write does to the trees of a table.
 ghost use Rattle.std.specs.Prelude.{◌≡◌, ◌+◌, ◌*◌, ◌≤◌, ◌^◌, false, Contains, OnOk, length, map};
 ghost use Rattle.mdb_schema.specs.inner.Edits.{without_all};
+ghost use Rattle.radix_txn.specs.Drawn.{HasDrawn, IsReady};
 ghost use Rattle.radix_txn.specs.Txn.{txn_pairs};
-ghost use Rattle.table_index.specs.inner.Drawn.{AreReady, HasDrawn, HaveDrawn, IsReady};
+ghost use Rattle.table_index.specs.inner.Drawn.{AreReady, HaveDrawn};
 ghost use Rattle.table_index.specs.inner.Held.{AreSound};
 ghost use Rattle.table_index.specs.inner.TreeEdits.{without_each};
 ghost use Rattle.table_index.specs.inner.Writes.{TreesWrote, IsAt, Wrote};
@@ -21,8 +22,7 @@ fn delete_all(
     ids: &mut Ids,
     keys: &[FullKey],
 ) -> Result<(), AllocError>
-    requires ready { IsReady front.now ids.old txn.old }
-    requires left { ids.old.next + 4096 * length keys.now ≤ 2 ^ 63 }
+    requires ready { IsReady (4096 * length keys.now) front.now ids.old txn.old }
     ensures pairs { OnOk result (txn_pairs txn.new ≡ without_all keys.now (txn_pairs txn.old)) }
     ensures sound { OnOk result (txn.new.spoiled ≡ false) }
     ensures drawn { HasDrawn front.now (4096 * length keys.now) ids.old ids.new txn.old txn.new }

@@ -5,7 +5,8 @@ ghost use Rattle.mdb_schema.specs.State.{row_at};
 ghost use Rattle.mdb_schema.specs.Write.{id_of, put_row};
 ghost use Rattle.mdb_schema.specs.declared.write_error.WriteError.TheVariants.{Memory};
 ghost use Rattle.radix_txn.specs.Txn.{txn_pairs};
-ghost use Rattle.table_index.specs.Table.{AnswersPut, AreAllBelow, AreAllOf, AreDrawn, AreLeft};
+ghost use Rattle.table_index.specs.Drawn.{HasDrawnCells, MayBeWritten};
+ghost use Rattle.table_index.specs.Table.{AnswersPut, AreLeft};
 ghost use Rattle.table_index.specs.Written.{Writes, rows_put};
 ghost use Rattle.table_index.specs.inner.Drawn.{AreReady, HaveDrawn};
 ghost use Rattle.table_index.specs.inner.Held.{AreSound, AreTrees, nodes_of, rows_held};
@@ -40,20 +41,10 @@ impl TableTxn {
     /// replaced row hasn't, and compares the old keys of an index with the new ones, at most 256
     /// with 256. No key is written but the full keys of the row and of the one that it replaces.
     pub fn put(&mut self, front: &Front, ids: &mut Ids, row: &Row) -> Result<bool, WriteError>
-        requires sound { self.old.spoiled ≡ false }
-        requires book { front.now.book ≡ ids.old.book }
-        requires below { AreAllBelow ids.old.next self.old.trees }
-        requires of { AreAllOf ids.old.book self.old.trees }
-        requires below_start { AreAllBelow ids.old.next self.old.start }
-
+        requires ready { MayBeWritten front.now ids.old self.old }
         ensures answers { AnswersPut ids.old.next
             (put_row self.old.schema row.now self.old.rows) result self.old self.new }
-        ensures below { AreAllBelow ids.new.next self.new.trees }
-        ensures of { AreAllOf ids.new.book self.new.trees }
-        ensures drawn { AreDrawn front.now ids.old ids.new self.old.trees self.new.trees }
-        ensures below_start { AreAllBelow ids.new.next self.new.start }
-        ensures book { ids.new.book ≡ ids.old.book }
-        ensures ids { (ids.old.next ≤ ids.new.next) × (ids.new.next ≤ ids.old.next + 2 ^ 26) }
+        ensures drawn { HasDrawnCells front.now (2 ^ 26) ids.old ids.new self.old self.new }
         ensures refused { IfErr result (λ e. (e ≡ Memory) ⊎ (ids.new ≡ ids.old)) }
         ensures written { OnOk result
             (Writes (rows_put self.old.schema row.now self.old.rows) self.old self.new) }

@@ -1,5 +1,5 @@
 //! The removal of a row.
-ghost use Rattle.std.specs.Prelude.{◌≡◌, ◌⊎◌, ◌+◌, ◌*◌, ◌≤◌, ◌^◌, ◌∷◌, [], false, Ok, Some, None};
+ghost use Rattle.std.specs.Prelude.{◌≡◌, ◌⊎◌, ◌+◌, ◌*◌, ◌≤◌, ◌^◌, ◌∷◌, [], Ok, Some, None};
 ghost use Rattle.std.specs.Prelude.{IfOk, OnOk};
 ghost use Rattle.std.specs.Prelude.{IfErr, MatchResult, length, map};
 ghost use Rattle.mdb_schema.specs.State.{row_at};
@@ -8,7 +8,8 @@ ghost use Rattle.mdb_encode.specs.Bytes.{Bytes};
 ghost use Rattle.mdb_schema.specs.Write.{id_of, indexes_of, remove_row};
 ghost use Rattle.mdb_schema.specs.declared.write_error.WriteError.TheVariants.{Memory, NotFound};
 ghost use Rattle.radix_txn.specs.Txn.{txn_pairs};
-ghost use Rattle.table_index.specs.Table.{AnswersRemove, AreAllBelow, AreAllOf, AreDrawn, AreLeft};
+ghost use Rattle.table_index.specs.Drawn.{HasDrawnCells, MayBeWritten};
+ghost use Rattle.table_index.specs.Table.{AnswersRemove, AreLeft};
 ghost use Rattle.table_index.specs.Written.{Writes};
 ghost use Rattle.table_index.specs.inner.Drawn.{AreReady, HaveDrawn};
 ghost use Rattle.table_index.specs.inner.Held.{AreSound, AreTrees, nodes_of, rows_held};
@@ -38,20 +39,10 @@ impl TableTxn {
     /// owner of a node or row; that spoils the change. It takes time in the lengths of the row's
     /// keys, and writes no others.
     pub fn remove(&mut self, front: &Front, ids: &mut Ids, row: &Row) -> Result<Row, WriteError>
-        requires sound { self.old.spoiled ≡ false }
-        requires book { front.now.book ≡ ids.old.book }
-        requires below { AreAllBelow ids.old.next self.old.trees }
-        requires of { AreAllOf ids.old.book self.old.trees }
-        requires below_start { AreAllBelow ids.old.next self.old.start }
-
+        requires ready { MayBeWritten front.now ids.old self.old }
         ensures answers { AnswersRemove ids.old.next
             (remove_row self.old.schema row.now self.old.rows) result self.old self.new }
-        ensures below { AreAllBelow ids.new.next self.new.trees }
-        ensures of { AreAllOf ids.new.book self.new.trees }
-        ensures drawn { AreDrawn front.now ids.old ids.new self.old.trees self.new.trees }
-        ensures below_start { AreAllBelow ids.new.next self.new.start }
-        ensures book { ids.new.book ≡ ids.old.book }
-        ensures ids { (ids.old.next ≤ ids.new.next) × (ids.new.next ≤ ids.old.next + 2 ^ 26) }
+        ensures drawn { HasDrawnCells front.now (2 ^ 26) ids.old ids.new self.old self.new }
         ensures refused { IfErr result (λ e. (e ≡ Memory) ⊎ (ids.new ≡ ids.old)) }
         ensures written { IfOk result (λ taken. Writes (taken ∷ []) self.old self.new) }
     {

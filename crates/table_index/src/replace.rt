@@ -2,8 +2,9 @@
 ghost use Rattle.std.specs.Prelude.{◌≡◌, ◌⊎◌, ◌+◌, ◌*◌, ◌≤◌, ◌^◌, false, Contains, OnOk, length};
 ghost use Rattle.std.specs.Prelude.{map};
 ghost use Rattle.mdb_schema.specs.inner.Edits.{put_all, stale_keys, without_all};
+ghost use Rattle.radix_txn.specs.Drawn.{HasDrawn, IsReady};
 ghost use Rattle.radix_txn.specs.Txn.{txn_pairs};
-ghost use Rattle.table_index.specs.inner.Drawn.{AreReady, HasDrawn, HaveDrawn, IsReady};
+ghost use Rattle.table_index.specs.inner.Drawn.{AreReady, HaveDrawn};
 ghost use Rattle.table_index.specs.inner.Held.{AreSound};
 ghost use Rattle.table_index.specs.inner.TreeEdits.{replaced_each, replaced_in};
 ghost use Rattle.table_index.specs.inner.Writes.{TreesWrote, IsAt, Wrote};
@@ -24,8 +25,7 @@ fn delete_stale(
     kept: &FullKeys,
     old: &[FullKey],
 ) -> Result<(), AllocError>
-    requires ready { IsReady front.now ids.old txn.old }
-    requires left { ids.old.next + 4096 * length old.now ≤ 2 ^ 63 }
+    requires ready { IsReady (4096 * length old.now) front.now ids.old txn.old }
     ensures pairs { OnOk result
         (txn_pairs txn.new ≡ without_all (stale_keys kept.now old.now) (txn_pairs txn.old)) }
     ensures sound { OnOk result (txn.new.spoiled ≡ false) }
@@ -49,8 +49,7 @@ fn insert_all(
     keys: &[FullKey],
     row: &Row,
 ) -> Result<(), AllocError>
-    requires ready { IsReady front.now ids.old txn.old }
-    requires left { ids.old.next + 4096 * length keys.now ≤ 2 ^ 63 }
+    requires ready { IsReady (4096 * length keys.now) front.now ids.old txn.old }
     ensures pairs { OnOk result
         (txn_pairs txn.new ≡ put_all keys.now row.now (txn_pairs txn.old)) }
     ensures sound { OnOk result (txn.new.spoiled ≡ false) }
@@ -73,8 +72,7 @@ fn replace_in(
     old: &FullKeys,
     row: &Row,
 ) -> Result<(), AllocError>
-    requires ready { IsReady front.now ids.old txn.old }
-    requires left { ids.old.next + 2 ^ 21 ≤ 2 ^ 63 }
+    requires ready { IsReady (2 ^ 21) front.now ids.old txn.old }
     ensures pairs { OnOk result
         (txn_pairs txn.new ≡ replaced_in row.now (keys.now, old.now) (txn_pairs txn.old)) }
     ensures sound { OnOk result (txn.new.spoiled ≡ false) }

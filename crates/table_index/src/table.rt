@@ -2,7 +2,7 @@
 ghost use Rattle.std.specs.Prelude.{◌≡◌, ◌+◌, ◌≤◌, ◌^◌, [], IfOk, OnOk};
 ghost use Rattle.table_index.specs.Table.{AreAllBelow, AreAllOf, AreNewInTurn};
 
-use crate::trees::{empty_trees, shared};
+use crate::trees::empty_trees;
 use mdb_schema::TableDef;
 use radix_node::{Ids, Tree};
 use std::alloc::{AllocError, Global};
@@ -56,18 +56,6 @@ impl Table {
         let trees = empty_trees(alloc, def.len(), front, ids)?;
         Ok(Table {
             def: def.share()?,
-            trees,
-        })
-    }
-
-    /// A second owner of the same rows. It takes memory for a list of the indexes, and time in
-    /// their number. It is refused for want of memory, or of room to count one more owner.
-    pub fn share(&self) -> Result<Table, AllocError>
-        ensures { IfOk result (λ t. t ≡ self.now) }
-    {
-        let trees = shared(*self.trees.allocator(), &self.trees)?;
-        Ok(Table {
-            def: self.def.share()?,
             trees,
         })
     }

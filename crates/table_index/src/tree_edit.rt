@@ -1,8 +1,8 @@
 //! Writes of one tree of a table.
-ghost use Rattle.std.specs.Prelude.{◌≡◌, ◌+◌, ◌≤◌, ◌^◌, false, Contains, Some, OnOk, length};
+ghost use Rattle.std.specs.Prelude.{◌≡◌, ◌≤◌, false, Contains, Some, OnOk, length};
 ghost use Rattle.radix_node.specs.Pairs.{put, without, without_prefix};
+ghost use Rattle.radix_txn.specs.Drawn.{HasDrawn, IsReady};
 ghost use Rattle.radix_txn.specs.Txn.{txn_pairs};
-ghost use Rattle.table_index.specs.inner.Drawn.{HasDrawn, IsReady};
 ghost use Rattle.table_index.specs.inner.Writes.{Wrote, keys_begun};
 
 use crate::full_key::FullKey;
@@ -19,8 +19,7 @@ pub(crate) fn delete(
     ids: &mut Ids,
     key: &FullKey,
 ) -> Result<(), AllocError>
-    requires ready { IsReady front.now ids.old txn.old }
-    requires left { ids.old.next + 4096 ≤ 2 ^ 63 }
+    requires ready { IsReady 4096 front.now ids.old txn.old }
     ensures pairs { OnOk result (txn_pairs txn.new ≡ without key.now (txn_pairs txn.old)) }
     ensures sound { OnOk result (txn.new.spoiled ≡ false) }
     ensures drawn { HasDrawn front.now 4096 ids.old ids.new txn.old txn.new }
@@ -38,8 +37,7 @@ pub(crate) fn insert(
     key: &FullKey,
     row: &Row,
 ) -> Result<(), AllocError>
-    requires ready { IsReady front.now ids.old txn.old }
-    requires left { ids.old.next + 4096 ≤ 2 ^ 63 }
+    requires ready { IsReady 4096 front.now ids.old txn.old }
     ensures pairs { OnOk result (txn_pairs txn.new ≡ put key.now row.now (txn_pairs txn.old)) }
     ensures sound { OnOk result (txn.new.spoiled ≡ false) }
     ensures drawn { HasDrawn front.now 4096 ids.old ids.new txn.old txn.new }
@@ -57,8 +55,7 @@ pub(crate) fn delete_prefix(
     prefix: &[u8],
 ) -> Result<(), AllocError>
     requires short { length prefix.now ≤ 2048 }
-    requires ready { IsReady front.now ids.old txn.old }
-    requires left { ids.old.next + 4096 ≤ 2 ^ 63 }
+    requires ready { IsReady 4096 front.now ids.old txn.old }
     ensures pairs { OnOk result
         (txn_pairs txn.new ≡ without_prefix prefix.now (txn_pairs txn.old)) }
     ensures sound { OnOk result (txn.new.spoiled ≡ false) }

@@ -64,17 +64,6 @@ pub(crate) fn standing(alloc: Global, txns: &mut [TreeTxn]) -> Result<Vec<Tree>,
     Ok(trees)
 }
 
-/// Second owners of the same trees. It takes memory for the list.
-pub(crate) fn shared(alloc: Global, trees: &[Tree]) -> Result<Vec<Tree>, AllocError>
-    ensures { IfOk result (λ owned. owned.items ≡ trees.now) }
-{
-    let mut owned = Vec::with_capacity(alloc, trees.len())?;
-    for tree in trees {
-        owned.push(tree.share()?)?;
-    }
-    Ok(owned)
-}
-
 /// No two cells of one tree have one id. It does nothing: its contract is the law.
 pub(crate) fn cells_are_apart(trees: &[Tree])
     ensures { All AreApart trees.now }

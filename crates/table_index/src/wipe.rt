@@ -1,12 +1,11 @@
 //! Wipes: the removal of all rows that a question lists.
-ghost use Rattle.std.specs.Prelude.{◌≡◌, ◌⊎◌, ◌+◌, ◌*◌, ◌≤◌, ◌^◌, Ok, List, false, IfErr};
+ghost use Rattle.std.specs.Prelude.{◌≡◌, ◌⊎◌, ◌*◌, ◌^◌, Ok, List, IfErr};
 ghost use Rattle.std.specs.Prelude.{MatchResult, OnOk, length};
 ghost use Rattle.mdb_datum.specs.Row.{Fields};
 ghost use Rattle.mdb_schema.specs.Wipe.{wiped_rows, wiped_rows_by_prefix};
-ghost use Rattle.table_index.specs.Table.{AnswersTake, AnswersWipe, AreAllBelow, AreAllOf};
-ghost use Rattle.table_index.specs.Table.{AreDrawn, AreLeft};
+ghost use Rattle.table_index.specs.Drawn.{HasDrawnCells, MayBeWritten};
+ghost use Rattle.table_index.specs.Table.{AnswersTake, AnswersWipe, AreLeft, rows_asked};
 ghost use Rattle.table_index.specs.Written.{Writes, rows_told};
-ghost use Rattle.table_index.specs.Table.{rows_asked};
 ghost use Rattle.table_index.specs.declared.wipe_error.WipeError.TheVariants.{Memory};
 ghost use Rattle.table_index.specs.inner.Drawn.{AreReady, HaveDrawn};
 ghost use Rattle.table_index.specs.inner.Held.{AreTrees, nodes_of, rows_held};
@@ -38,22 +37,12 @@ impl TableTxn {
         ids: &mut Ids,
         query: &Query,
     ) -> Result<Rows, WipeError>
-        requires sound { self.old.spoiled ≡ false }
-        requires book { front.now.book ≡ ids.old.book }
-        requires below { AreAllBelow ids.old.next self.old.trees }
-        requires of { AreAllOf ids.old.book self.old.trees }
-        requires below_start { AreAllBelow ids.old.next self.old.start }
-
+        requires ready { MayBeWritten front.now ids.old self.old }
         ensures answers { AnswersTake ids.old.next
             (wiped_rows self.old.schema self.old.rows query.now) result self.old self.new }
-        ensures below { AreAllBelow ids.new.next self.new.trees }
-        ensures of { AreAllOf ids.new.book self.new.trees }
-        ensures drawn { AreDrawn front.now ids.old ids.new self.old.trees self.new.trees }
-        ensures below_start { AreAllBelow ids.new.next self.new.start }
-        ensures book { ids.new.book ≡ ids.old.book }
-        ensures later { ids.old.next ≤ ids.new.next }
-        ensures few { ids.new.next ≤ ids.old.next + 2 ^ 26
-            * rows_asked (wiped_rows self.old.schema self.old.rows query.now) }
+        ensures drawn { HasDrawnCells front.now
+            (2 ^ 26 * rows_asked (wiped_rows self.old.schema self.old.rows query.now))
+            ids.old ids.new self.old self.new }
         ensures refused { IfErr result (λ e. (e ≡ Memory) ⊎ (ids.new ≡ ids.old)) }
         ensures written { OnOk result (Writes
             (rows_told (wiped_rows self.old.schema self.old.rows query.now)) self.old self.new) }
@@ -77,23 +66,13 @@ impl TableTxn {
         ids: &mut Ids,
         query: &Query,
     ) -> Result<Rows, WipeError>
-        requires sound { self.old.spoiled ≡ false }
-        requires book { front.now.book ≡ ids.old.book }
-        requires below { AreAllBelow ids.old.next self.old.trees }
-        requires of { AreAllOf ids.old.book self.old.trees }
-        requires below_start { AreAllBelow ids.old.next self.old.start }
-
+        requires ready { MayBeWritten front.now ids.old self.old }
         ensures answers { AnswersTake ids.old.next
             (wiped_rows_by_prefix self.old.schema self.old.rows query.now)
             result self.old self.new }
-        ensures below { AreAllBelow ids.new.next self.new.trees }
-        ensures of { AreAllOf ids.new.book self.new.trees }
-        ensures drawn { AreDrawn front.now ids.old ids.new self.old.trees self.new.trees }
-        ensures below_start { AreAllBelow ids.new.next self.new.start }
-        ensures book { ids.new.book ≡ ids.old.book }
-        ensures later { ids.old.next ≤ ids.new.next }
-        ensures few { ids.new.next ≤ ids.old.next + 2 ^ 26
-            * rows_asked (wiped_rows_by_prefix self.old.schema self.old.rows query.now) }
+        ensures drawn { HasDrawnCells front.now
+            (2 ^ 26 * rows_asked (wiped_rows_by_prefix self.old.schema self.old.rows query.now))
+            ids.old ids.new self.old self.new }
         ensures refused { IfErr result (λ e. (e ≡ Memory) ⊎ (ids.new ≡ ids.old)) }
         ensures written { OnOk result (Writes
             (rows_told (wiped_rows_by_prefix self.old.schema self.old.rows query.now))
@@ -110,22 +89,12 @@ impl TableTxn {
         ids: &mut Ids,
         query: &Query,
     ) -> Result<u64, WipeError>
-        requires sound { self.old.spoiled ≡ false }
-        requires book { front.now.book ≡ ids.old.book }
-        requires below { AreAllBelow ids.old.next self.old.trees }
-        requires of { AreAllOf ids.old.book self.old.trees }
-        requires below_start { AreAllBelow ids.old.next self.old.start }
-
+        requires ready { MayBeWritten front.now ids.old self.old }
         ensures answers { AnswersWipe ids.old.next
             (wiped_rows self.old.schema self.old.rows query.now) result self.old self.new }
-        ensures below { AreAllBelow ids.new.next self.new.trees }
-        ensures of { AreAllOf ids.new.book self.new.trees }
-        ensures drawn { AreDrawn front.now ids.old ids.new self.old.trees self.new.trees }
-        ensures below_start { AreAllBelow ids.new.next self.new.start }
-        ensures book { ids.new.book ≡ ids.old.book }
-        ensures later { ids.old.next ≤ ids.new.next }
-        ensures few { ids.new.next ≤ ids.old.next + 2 ^ 26
-            * rows_asked (wiped_rows self.old.schema self.old.rows query.now) }
+        ensures drawn { HasDrawnCells front.now
+            (2 ^ 26 * rows_asked (wiped_rows self.old.schema self.old.rows query.now))
+            ids.old ids.new self.old self.new }
         ensures refused { IfErr result (λ e. (e ≡ Memory) ⊎ (ids.new ≡ ids.old)) }
         ensures written { OnOk result (Writes
             (rows_told (wiped_rows self.old.schema self.old.rows query.now)) self.old self.new) }
@@ -143,23 +112,13 @@ impl TableTxn {
         ids: &mut Ids,
         query: &Query,
     ) -> Result<u64, WipeError>
-        requires sound { self.old.spoiled ≡ false }
-        requires book { front.now.book ≡ ids.old.book }
-        requires below { AreAllBelow ids.old.next self.old.trees }
-        requires of { AreAllOf ids.old.book self.old.trees }
-        requires below_start { AreAllBelow ids.old.next self.old.start }
-
+        requires ready { MayBeWritten front.now ids.old self.old }
         ensures answers { AnswersWipe ids.old.next
             (wiped_rows_by_prefix self.old.schema self.old.rows query.now)
             result self.old self.new }
-        ensures below { AreAllBelow ids.new.next self.new.trees }
-        ensures of { AreAllOf ids.new.book self.new.trees }
-        ensures drawn { AreDrawn front.now ids.old ids.new self.old.trees self.new.trees }
-        ensures below_start { AreAllBelow ids.new.next self.new.start }
-        ensures book { ids.new.book ≡ ids.old.book }
-        ensures later { ids.old.next ≤ ids.new.next }
-        ensures few { ids.new.next ≤ ids.old.next + 2 ^ 26
-            * rows_asked (wiped_rows_by_prefix self.old.schema self.old.rows query.now) }
+        ensures drawn { HasDrawnCells front.now
+            (2 ^ 26 * rows_asked (wiped_rows_by_prefix self.old.schema self.old.rows query.now))
+            ids.old ids.new self.old self.new }
         ensures refused { IfErr result (λ e. (e ≡ Memory) ⊎ (ids.new ≡ ids.old)) }
         ensures written { OnOk result (Writes
             (rows_told (wiped_rows_by_prefix self.old.schema self.old.rows query.now))

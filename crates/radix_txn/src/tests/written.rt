@@ -1,11 +1,9 @@
 //! Writes that are in order, and what is read of a tree.
-ghost use Rattle.std.specs.Prelude.{◌≡◌, ◌+◌, ◌≤◌, true, false, IfOk, OnOk, length};
-ghost use Rattle.std.specs.List.{All};
+ghost use Rattle.std.specs.Prelude.{◌≡◌, ◌≤◌, true, false, IfOk, OnOk, length};
 ghost use Rattle.radix_node.specs.Cells.{AreBelow, AreOf};
-ghost use Rattle.radix_txn.specs.Write.{IsShort};
 
 use super::Line;
-use crate::{Edit, Notice, TreeTxn, Write};
+use crate::{Edit, Notice, TreeTxn};
 use mdb_datum::{Datum, Row, read_doc};
 use radix_node::{Edges, Ids, Tree};
 use std::alloc::{AllocError, Global};
@@ -121,18 +119,6 @@ impl Work {
             return Err(AllocError);
         }
         self.txn.delete_prefix(&self.front, &mut self.ids, prefix)
-    }
-
-    /// Makes at most three writes, and tells how many keys there are then.
-    fn apply(&mut self, writes: &[Write]) -> Result<u64, AllocError>
-        requires short { All IsShort writes.now }
-        requires few { length writes.now ≤ 3 }
-    {
-        if self.txn.spoiled() || self.ids.left() < 12_288 {
-            return Err(AllocError);
-        }
-        self.txn.apply(&self.front, &mut self.ids, writes)?;
-        Ok(self.txn.len())
     }
 
     /// The present tree.
@@ -275,61 +261,11 @@ pub fn nodes_are(tree: &Tree, nodes: &[Line]) -> bool {
     true
 }
 
-/// An insert of `ab`, one of `b`, and a delete of what begins with `a`.
-pub fn three_writes(alloc: Global, row: &Row) -> Result<Vec<Write>, AllocError>
-    ensures short { IfOk result (λ v. All IsShort v.items) }
-    ensures few { IfOk result (λ v. length v.items ≤ 3) }
-{
-    let mut writes = Vec::new(alloc);
-    push_insert(alloc, &mut writes, b"ab", row)?;
-    push_insert(alloc, &mut writes, b"b", row)?;
-    push_delete(alloc, &mut writes, b"a")?;
-    Ok(writes)
-}
+// ---- writes one by one
 
-/// Adds an insert to writes.
-fn push_insert(
-    alloc: Global,
-    writes: &mut Vec<Write>,
-    key: &[u8],
-    row: &Row,
-) -> Result<(), AllocError>
-    requires key { length key.now ≤ 2048 }
-    requires short { All IsShort writes.old.items }
-    ensures short { OnOk result (All IsShort writes.new.items) }
-    ensures one { OnOk result (length writes.new.items ≡ length writes.old.items + 1) }
-{
-    let write = insert_of(alloc, key, row)?;
-    Ok(writes.push(write)?)
-}
-
-/// Adds a delete of what begins with a prefix to writes.
-fn push_delete(alloc: Global, writes: &mut Vec<Write>, prefix: &[u8]) -> Result<(), AllocError>
-    requires prefix { length prefix.now ≤ 2048 }
-    requires short { All IsShort writes.old.items }
-    ensures short { OnOk result (All IsShort writes.new.items) }
-    ensures one { OnOk result (length writes.new.items ≡ length writes.old.items + 1) }
-{
-    let prefix = Vec::from_slice(alloc, prefix)?;
-    Ok(writes.push(Write::DeletePrefix { prefix })?)
-}
-
-/// An insert of a row under a key.
-fn insert_of(alloc: Global, key: &[u8], row: &Row) -> Result<Write, AllocError>
-    requires { length key.now ≤ 2048 }
-    ensures { IfOk result (λ w. IsShort w) }
-{
-    Ok(Write::Insert {
-        key: Vec::from_slice(alloc, key)?,
-        row: row.share()?,
-    })
-}
-
-/// How many keys there are after at most three writes on an empty tree.
-pub fn applied(alloc: Global, writes: &[Write]) -> Result<u64, AllocError>
-    requires short { All IsShort writes.now }
-    requires few { length writes.now ≤ 3 }
-{
-    let mut work = Work::new(alloc)?;
-    work.apply(writes)
+/// An insert of `ab`, one of `b`, and a delete of what begins with `a`; how many keys that was.
+pub fn three_writes(work: &mut Work, row: &Row) -> Result<u64, AllocError> {
+    drop(work.put(b"ab", row)?);
+    drop(work.put(b"b", row)?);
+    work.take_all(b"a")
 }

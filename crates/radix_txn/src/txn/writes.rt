@@ -1,32 +1,27 @@
 //! The writes of a transaction.
-ghost use Rattle.std.specs.Prelude.{◌≡◌, ◌∷◌, List, ◌+◌, ◌*◌, ◌≤◌, ◌<◌, ◌↔◌, ◌^◌, ℕ, IfOk, IfNone};
-ghost use Rattle.std.specs.Prelude.{IfSome, OnErr, OnOk, true, false, if◌then◌else◌, is_err};
-ghost use Rattle.std.specs.Prelude.{length, map, take};
-ghost use Rattle.std.specs.List.{All};
-ghost use Rattle.mdb_datum.specs.Bytes.{Bytes};
+ghost use Rattle.std.specs.Prelude.{◌≡◌, ◌∷◌, ◌+◌, ◌≤◌, ◌^◌, IfNone, IfOk, IfSome, OnErr, OnOk, true};
+ghost use Rattle.std.specs.Prelude.{false, if◌then◌else◌, is_err, length};
 ghost use Rattle.radix_node.specs.Cells.{AreBelow, AreOf, pieces_of, plain_of, root_of};
 ghost use Rattle.radix_node.specs.Nodes.{pairs_of};
-ghost use Rattle.radix_node.specs.Pairs.{find, put, without, without_prefix};
-ghost use Rattle.radix_node.specs.Paths.{Has, IsPath, paths_of_plain};
+ghost use Rattle.radix_node.specs.Pairs.{find, put};
 ghost use Rattle.radix_node.specs.Shape.{HasShape};
-ghost use Rattle.radix_txn.specs.Kept.{AreWritten, deleted_key, deleted_keys};
+ghost use Rattle.radix_txn.specs.Drawn.{HasDrawn, IsReady};
+ghost use Rattle.radix_txn.specs.Kept.{deleted_key, deleted_keys};
 ghost use Rattle.radix_txn.specs.Notice.{IsDrawn};
 ghost use Rattle.radix_txn.specs.Txn.{txn_pairs};
+ghost use Rattle.radix_txn.specs.Write.{IsDelete, IsDeletePrefix, IsInsert, WritesKeys};
 ghost use Rattle.radix_txn.specs.declared.target.Target.TheVariants.{Key};
 ghost use Rattle.radix_txn.specs.inner.Outside.{AllIn, outside_node};
 ghost use Rattle.radix_txn.specs.inner.Removal.{IsAbsent, IsTaken, TakesNone, kept_pairs, old_row};
 ghost use Rattle.radix_txn.specs.inner.Removal.{taken_keys};
 ghost use Rattle.radix_txn.specs.inner.Steps.{Ledger, Steps};
-ghost use Rattle.radix_txn.specs.Write.{IsShort, after_write, after_writes, all_keys, write_keys};
 
 use crate::cells::Cells;
 use crate::insert::{Put, tree_with};
 use crate::remove::{self, Deleted, Taken};
 use crate::target::Target;
 use crate::txn::{State, TreeTxn};
-use crate::write::Write;
 use mdb_datum::Row;
-use radix_node::tree_laws::paths_are_told_by_the_keys;
 use radix_node::{Ids, Left, Tree};
 use std::alloc::AllocError;
 use std::mem;
@@ -46,36 +41,14 @@ impl TreeTxn {
         row: &Row,
     ) -> Result<Option<Row>, AllocError>
         requires short { length key.now ≤ 2048 }
-        requires sound { self.old.spoiled ≡ false }
-        requires book { front.now.book ≡ ids.old.book }
-        requires left { ids.old.next + 4096 ≤ 2 ^ 63 }
-        requires below { AreBelow ids.old.next self.old.tree }
-        requires of { AreOf ids.old.book self.old.tree }
-        requires below_start { AreBelow ids.old.next self.old.start }
-
-        ensures pairs { OnOk result
-            (txn_pairs self.new ≡ put key.now row.now (txn_pairs self.old)) }
-        ensures old { IfOk result (λ r. r ≡ find key.now (txn_pairs self.old)) }
-        ensures start { self.new.start ≡ self.old.start }
-        ensures below { AreBelow ids.new.next self.new.tree }
-        ensures of { AreOf ids.new.book self.new.tree }
-        ensures drawn { IsDrawn front.now ids.old ids.new self.old.tree self.new.tree }
-        ensures below_start { AreBelow ids.new.next self.new.start }
-        ensures ids { (ids.old.next ≤ ids.new.next) × (ids.new.next ≤ ids.old.next + 4096) }
-        ensures book { ids.new.book ≡ ids.old.book }
-
-        ensures written { OnOk result ((keys : List Bytes)
-            → AreWritten self.old.start self.old.tree keys
-            → AreWritten self.new.start self.new.tree (key.now ∷ keys)) }
-
+        requires ready { IsReady 4096 front.now ids.old self.old }
+        ensures put { IfOk result (λ r. IsInsert key.now row.now r self.old self.new) }
+        ensures drawn { HasDrawn front.now 4096 ids.old ids.new self.old self.new }
+        ensures written { OnOk result (WritesKeys (λ keys. key.now ∷ keys) self.old self.new) }
         ensures unchanged { OnErr result (self.new.tree ≡ self.old.tree) }
         ensures spoiled { self.new.spoiled ≡ is_err result }
     {
-        self.spoiled = true;
-        let cells = begin(&self.start, &mut self.state, front, ids)?;
-        let old = put_with(&self.start, &mut self.state, ids, key, row, cells)?;
-        self.spoiled = false;
-        Ok(old)
+        self.put_in(front, ids, key, row)
     }
 
     /// Takes out a key, and gives the old row; `None`, where the key isn't stored, and then nothing
@@ -90,29 +63,12 @@ impl TreeTxn {
         key: &[u8],
     ) -> Result<Option<Row>, AllocError>
         requires short { length key.now ≤ 2048 }
-        requires sound { self.old.spoiled ≡ false }
-        requires book { front.now.book ≡ ids.old.book }
-        requires left { ids.old.next + 4096 ≤ 2 ^ 63 }
-        requires below { AreBelow ids.old.next self.old.tree }
-        requires of { AreOf ids.old.book self.old.tree }
-        requires below_start { AreBelow ids.old.next self.old.start }
-
-        ensures pairs { OnOk result (txn_pairs self.new ≡ without key.now (txn_pairs self.old)) }
-        ensures old { IfOk result (λ r. r ≡ find key.now (txn_pairs self.old)) }
-        ensures missing { IfOk result
-            (λ r. IfNone r ((self.new ≡ self.old) × (ids.new ≡ ids.old))) }
-        ensures start { self.new.start ≡ self.old.start }
-        ensures below { AreBelow ids.new.next self.new.tree }
-        ensures of { AreOf ids.new.book self.new.tree }
-        ensures drawn { IsDrawn front.now ids.old ids.new self.old.tree self.new.tree }
-        ensures below_start { AreBelow ids.new.next self.new.start }
-        ensures ids { (ids.old.next ≤ ids.new.next) × (ids.new.next ≤ ids.old.next + 4096) }
-        ensures book { ids.new.book ≡ ids.old.book }
-
-        ensures written { IfOk result (λ r. (keys : List Bytes)
-            → AreWritten self.old.start self.old.tree keys
-            → AreWritten self.new.start self.new.tree (deleted_key key.now r keys)) }
-
+        requires ready { IsReady 4096 front.now ids.old self.old }
+        ensures taken { IfOk result
+            (λ r. IsDelete key.now r ids.old ids.new self.old self.new) }
+        ensures drawn { HasDrawn front.now 4096 ids.old ids.new self.old self.new }
+        ensures written { IfOk result
+            (λ r. WritesKeys (deleted_key key.now r) self.old self.new) }
         ensures unchanged { OnErr result (self.new.tree ≡ self.old.tree) }
         ensures spoiled { self.new.spoiled ≡ is_err result }
     {
@@ -130,19 +86,32 @@ impl TreeTxn {
         prefix: &[u8],
     ) -> Result<u64, AllocError>
         requires short { length prefix.now ≤ 2048 }
-        requires sound { self.old.spoiled ≡ false }
-        requires book { front.now.book ≡ ids.old.book }
-        requires left { ids.old.next + 4096 ≤ 2 ^ 63 }
-        requires below { AreBelow ids.old.next self.old.tree }
-        requires of { AreOf ids.old.book self.old.tree }
-        requires below_start { AreBelow ids.old.next self.old.start }
+        requires ready { IsReady 4096 front.now ids.old self.old }
+        ensures taken { IfOk result
+            (λ n. IsDeletePrefix prefix.now n ids.old ids.new self.old self.new) }
+        ensures drawn { HasDrawn front.now 4096 ids.old ids.new self.old self.new }
+        ensures written { OnOk result
+            (WritesKeys (deleted_keys prefix.now (txn_pairs self.old)) self.old self.new) }
+        ensures unchanged { OnErr result (self.new.tree ≡ self.old.tree) }
+        ensures spoiled { self.new.spoiled ≡ is_err result }
+    {
+        Ok(self.take_out(front, ids, prefix, Target::Prefix)?.count)
+    }
+
+    /// Puts a row under a key, and gives the old row.
+    fn put_in(
+        &mut self,
+        front: &Front,
+        ids: &mut Ids,
+        key: &[u8],
+        row: &Row,
+    ) -> Result<Option<Row>, AllocError>
+        requires short { length key.now ≤ 2048 }
+        requires ready { IsReady 4096 front.now ids.old self.old }
 
         ensures pairs { OnOk result
-            (txn_pairs self.new ≡ without_prefix prefix.now (txn_pairs self.old)) }
-        ensures count { IfOk result
-            (λ n. n + length (txn_pairs self.new) ≡ length (txn_pairs self.old)) }
-        ensures missing { IfOk result
-            (λ n. n ≡ 0 → (self.new ≡ self.old) × (ids.new ≡ ids.old)) }
+            (txn_pairs self.new ≡ put key.now row.now (txn_pairs self.old)) }
+        ensures old { IfOk result (λ r. r ≡ find key.now (txn_pairs self.old)) }
         ensures start { self.new.start ≡ self.old.start }
         ensures below { AreBelow ids.new.next self.new.tree }
         ensures of { AreOf ids.new.book self.new.tree }
@@ -151,15 +120,16 @@ impl TreeTxn {
         ensures ids { (ids.old.next ≤ ids.new.next) × (ids.new.next ≤ ids.old.next + 4096) }
         ensures book { ids.new.book ≡ ids.old.book }
 
-        ensures written { OnOk result ((keys : List Bytes)
-            → AreWritten self.old.start self.old.tree keys
-            → AreWritten self.new.start self.new.tree
-            (deleted_keys prefix.now (txn_pairs self.old) keys)) }
+        ensures written { OnOk result (WritesKeys (λ keys. key.now ∷ keys) self.old self.new) }
 
         ensures unchanged { OnErr result (self.new.tree ≡ self.old.tree) }
         ensures spoiled { self.new.spoiled ≡ is_err result }
     {
-        Ok(self.take_out(front, ids, prefix, Target::Prefix)?.count)
+        self.spoiled = true;
+        let cells = begin(&self.start, &mut self.state, front, ids)?;
+        let old = put_with(&self.start, &mut self.state, ids, key, row, cells)?;
+        self.spoiled = false;
+        Ok(old)
     }
 
     /// Takes out the keys of a target.
@@ -171,12 +141,7 @@ impl TreeTxn {
         target: Target,
     ) -> Result<Deleted, AllocError>
         requires short { length key.now ≤ 2048 }
-        requires sound { self.old.spoiled ≡ false }
-        requires book { front.now.book ≡ ids.old.book }
-        requires left { ids.old.next + 4096 ≤ 2 ^ 63 }
-        requires below { AreBelow ids.old.next self.old.tree }
-        requires of { AreOf ids.old.book self.old.tree }
-        requires below_start { AreBelow ids.old.next self.old.start }
+        requires ready { IsReady 4096 front.now ids.old self.old }
 
         ensures pairs { OnOk result
             (txn_pairs self.new ≡ kept_pairs target key.now (txn_pairs self.old)) }
@@ -193,10 +158,8 @@ impl TreeTxn {
         ensures ids { (ids.old.next ≤ ids.new.next) × (ids.new.next ≤ ids.old.next + 4096) }
         ensures book { ids.new.book ≡ ids.old.book }
 
-        ensures written { OnOk result ((keys : List Bytes)
-            → AreWritten self.old.start self.old.tree keys
-            → AreWritten self.new.start self.new.tree
-            (taken_keys target key.now (txn_pairs self.old) keys)) }
+        ensures written { OnOk result
+            (WritesKeys (taken_keys target key.now (txn_pairs self.old)) self.old self.new) }
 
         ensures unchanged { OnErr result (self.new.tree ≡ self.old.tree) }
         ensures spoiled { self.new.spoiled ≡ is_err result }
@@ -213,121 +176,6 @@ impl TreeTxn {
         };
         self.spoiled = false;
         Ok(deleted)
-    }
-
-    /// Makes a write.
-    fn make(&mut self, front: &Front, ids: &mut Ids, write: &Write) -> Result<(), AllocError>
-        requires short { IsShort write.now }
-        requires sound { self.old.spoiled ≡ false }
-        requires book { front.now.book ≡ ids.old.book }
-        requires left { ids.old.next + 4096 ≤ 2 ^ 63 }
-        requires below { AreBelow ids.old.next self.old.tree }
-        requires of { AreOf ids.old.book self.old.tree }
-        requires below_start { AreBelow ids.old.next self.old.start }
-
-        ensures pairs { OnOk result
-            (txn_pairs self.new ≡ after_write write.now (txn_pairs self.old)) }
-        ensures start { self.new.start ≡ self.old.start }
-        ensures below { AreBelow ids.new.next self.new.tree }
-        ensures of { AreOf ids.new.book self.new.tree }
-        ensures drawn { IsDrawn front.now ids.old ids.new self.old.tree self.new.tree }
-        ensures below_start { AreBelow ids.new.next self.new.start }
-        ensures ids { (ids.old.next ≤ ids.new.next) × (ids.new.next ≤ ids.old.next + 4096) }
-        ensures book { ids.new.book ≡ ids.old.book }
-
-        ensures written { OnOk result ((keys : List Bytes)
-            → AreWritten self.old.start self.old.tree keys
-            → AreWritten self.new.start self.new.tree
-            (write_keys write.now (txn_pairs self.old) keys)) }
-
-        ensures unchanged { OnErr result (self.new.tree ≡ self.old.tree) }
-        ensures spoiled { self.new.spoiled ≡ is_err result }
-    {
-        match write {
-            Write::Insert { key, row } => self.insert(front, ids, key, row).and(Ok(())),
-            Write::Delete { key } => self.delete(front, ids, key).and(Ok(())),
-            Write::DeletePrefix { prefix } => self.delete_prefix(front, ids, prefix).and(Ok(())),
-        }
-    }
-
-    /// Makes the writes one after another, and leaves what a plain sorted map has after them. It is
-    /// refused where one of them is, and then those before it are made.
-    pub fn apply(
-        &mut self,
-        front: &Front,
-        ids: &mut Ids,
-        writes: &[Write],
-    ) -> Result<(), AllocError>
-        requires short { All IsShort writes.now }
-        requires sound { self.old.spoiled ≡ false }
-        requires book { front.now.book ≡ ids.old.book }
-        requires left { ids.old.next + 4096 * length writes.now ≤ 2 ^ 63 }
-        requires below { AreBelow ids.old.next self.old.tree }
-        requires of { AreOf ids.old.book self.old.tree }
-        requires below_start { AreBelow ids.old.next self.old.start }
-
-        ensures pairs { OnOk result
-            (txn_pairs self.new ≡ after_writes writes.now (txn_pairs self.old)) }
-        ensures paths { (path : Bytes) → Has path (paths_of_plain (plain_of self.new.tree))
-            ↔ IsPath (txn_pairs self.new) path }
-        ensures start { self.new.start ≡ self.old.start }
-
-        ensures below { AreBelow ids.new.next self.new.tree }
-        ensures below_start { AreBelow ids.new.next self.new.start }
-        ensures of { AreOf ids.new.book self.new.tree }
-        ensures drawn { IsDrawn front.now ids.old ids.new self.old.tree self.new.tree }
-        ensures ids { (ids.old.next ≤ ids.new.next)
-            × (ids.new.next ≤ ids.old.next + 4096 * length writes.now) }
-        ensures book { ids.new.book ≡ ids.old.book }
-        ensures written { OnOk result ((keys : List Bytes)
-            → AreWritten self.old.start self.old.tree keys
-            → AreWritten self.new.start self.new.tree
-            (all_keys writes.now (txn_pairs self.old) keys)) }
-
-        ensures made { OnErr result ((n : ℕ) × (n < length writes.now)
-            × (txn_pairs self.new ≡ after_writes (take n writes.now) (txn_pairs self.old))) }
-        ensures spoiled { self.new.spoiled ≡ is_err result }
-    {
-        let made = self.make_all(front, ids, writes);
-        // By this law of all trees the nodes lie where the keys tell, also after an error.
-        paths_are_told_by_the_keys(&self.state.tree);
-        made
-    }
-
-    /// Makes the writes one after another.
-    fn make_all(&mut self, front: &Front, ids: &mut Ids, writes: &[Write]) -> Result<(), AllocError>
-        requires short { All IsShort writes.now }
-        requires sound { self.old.spoiled ≡ false }
-        requires book { front.now.book ≡ ids.old.book }
-        requires left { ids.old.next + 4096 * length writes.now ≤ 2 ^ 63 }
-        requires below { AreBelow ids.old.next self.old.tree }
-        requires of { AreOf ids.old.book self.old.tree }
-        requires below_start { AreBelow ids.old.next self.old.start }
-
-        ensures pairs { OnOk result
-            (txn_pairs self.new ≡ after_writes writes.now (txn_pairs self.old)) }
-        ensures start { self.new.start ≡ self.old.start }
-
-        ensures below { AreBelow ids.new.next self.new.tree }
-        ensures below_start { AreBelow ids.new.next self.new.start }
-        ensures of { AreOf ids.new.book self.new.tree }
-        ensures drawn { IsDrawn front.now ids.old ids.new self.old.tree self.new.tree }
-        ensures ids { (ids.old.next ≤ ids.new.next)
-            × (ids.new.next ≤ ids.old.next + 4096 * length writes.now) }
-        ensures book { ids.new.book ≡ ids.old.book }
-        ensures written { OnOk result ((keys : List Bytes)
-            → AreWritten self.old.start self.old.tree keys
-            → AreWritten self.new.start self.new.tree
-            (all_keys writes.now (txn_pairs self.old) keys)) }
-
-        ensures made { OnErr result ((n : ℕ) × (n < length writes.now)
-            × (txn_pairs self.new ≡ after_writes (take n writes.now) (txn_pairs self.old))) }
-        ensures spoiled { self.new.spoiled ≡ is_err result }
-    {
-        for write in writes {
-            self.make(front, ids, write)?;
-        }
-        Ok(())
     }
 }
 

@@ -1,42 +1,19 @@
--- What writes draw of the ids, and what they leave of the trees' cells.
-use Rattle.std.specs.Prelude.{◌≡◌, ◌≤◌, ◌+◌, ◌^◌, ℕ, Bool, false, All, List, if◌then◌else◌}
+-- What writes of the trees of a table draw of the ids, and what they leave of the trees' cells.
+use Rattle.std.specs.Prelude.{◌≡◌, ◌≤◌, ◌+◌, ◌^◌, ℕ, Bool, All, List, if◌then◌else◌}
 use Rattle.watch_word.specs.Logs.{Log}
-use Rattle.radix_node.specs.Cells.{AreBelow, AreOf}
 use Rattle.radix_node.specs.Ids.{Counter}
-use Rattle.radix_txn.specs.Notice.{IsDrawn}
+use Rattle.radix_txn.specs.Drawn.{IsWithin}
 use Rattle.radix_txn.specs.Txn.{Txn}
 use Rattle.table_index.specs.Table.{AreDrawn}
 use Rattle.table_index.specs.inner.Held.{AreSound, starts_of, trees_of}
 
--- all cells of a transaction's trees have ids that were drawn, and those of the present tree are of
--- the counter's book
-pub record IsWithin (ids : Counter) (x : Txn) : Type 0 where
-  pub start : AreBelow ids.next x.start
-  pub tree : AreBelow ids.next x.tree
-  pub of : AreOf ids.book x.tree
-
--- a tree may be written, with ids of cells of the front's book
-pub record IsReady (front : Log) (ids : Counter) (x : Txn) : Type 0 where
-  pub sound : x.spoiled ≡ false
-  pub book : front.book ≡ ids.book
-  pub within : IsWithin ids x
-
--- writes of a tree drew so many ids at most, with cells that aren't in a log
-pub record HasDrawn (log : Log) (most : ℕ) (old new : Counter) (before after : Txn) : Type 0 where
-  pub start : after.start ≡ before.start
-  pub within : IsWithin new after
-  pub drawn : IsDrawn log old new before.tree after.tree
-  pub book : new.book ≡ old.book
-  pub later : old.next ≤ new.next
-  pub few : new.next ≤ old.next + most
-
--- the same of the trees of a table
-
+-- the trees of a table may be written, with ids of cells of the front's book
 pub record AreReady (front : Log) (ids : Counter) (txns : List Txn) : Type 0 where
   pub sound : AreSound txns
   pub book : front.book ≡ ids.book
   pub within : All (IsWithin ids) txns
 
+-- writes of them drew so many ids at most, for cells that aren't in a log
 pub record HaveDrawn (log : Log) (most : ℕ) (old new : Counter) (before after : List Txn)
     : Type 0 where
   pub start : starts_of after ≡ starts_of before

@@ -48,16 +48,10 @@ pub fn filled(alloc: Global, schema: &str, script: &str) -> Result<Base, Fail> {
     stood(alloc, &mut txn, script)
 }
 
-/// A second owner of the present table.
-fn shared(txn: &mut Work) -> Result<Base, AllocError> {
-    let table = txn.stand()?;
-    table.share()
-}
-
 /// The same after a script.
 fn stood(alloc: Global, txn: &mut Work, script: &str) -> Result<Base, Fail> {
     write(alloc, txn, script)?;
-    Ok(shared(txn)?)
+    Ok(txn.stand()?)
 }
 
 /// Fails with the lines and the answers that came where they aren't those of a script.

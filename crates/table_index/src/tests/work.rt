@@ -49,15 +49,6 @@ impl Base {
         Ok(Base { table, front, ids })
     }
 
-    /// A second owner of the table.
-    pub fn share(&self) -> Result<Base, AllocError> {
-        Ok(Base {
-            table: self.table.share()?,
-            front: self.front.share(),
-            ids: self.ids.share()?,
-        })
-    }
-
     /// The table alone.
     pub fn table(&self) -> &Table
         ensures { result.now ≡ self.now }

@@ -8,7 +8,7 @@ use Rattle.table_index.proofs.WrittenTrees.{trees_at, wrote_more}
 use Rattle.table_index.proofs.cut.cut_at.Goals as goal
 
 pub delete_prefix-requires-clause-ready : goal.delete_prefix-requires-clause-ready
-delete_prefix-requires-clause-ready c = ready_at c.args.front.now c.args.ids.now c.args.txns.now c.args.place c.index-txns-place.result c.requires.place c.requires.ready
+delete_prefix-requires-clause-ready c = ready_at 4096 c.args.front.now c.args.ids.now c.args.txns.now c.args.place c.index-txns-place.result c.requires.place c.requires.ready c.requires.left
 
 pub returns-clause-pairs : goal.returns-clause-pairs
 returns-clause-pairs c =

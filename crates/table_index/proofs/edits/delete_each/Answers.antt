@@ -39,11 +39,15 @@ loop-at-preserved c =
           c.keys.ensures.keys c.loop-at.invariant.written c.in_ok-delete_all.ensures.written;
     }
 
-pub delete_all-requires-clause-ready : goal.delete_all-requires-clause-ready
-delete_all-requires-clause-ready c =
+pub delete_all-requires : goal.delete_all-requires
+delete_all-requires c =
     let within : c.loop-at.at < length c.loop-at.txns = omega arith in
-    ready_at c.args.front.now c.loop-at.ids c.loop-at.txns c.loop-at.at c.index-txns-at.result within
-    (ready_again c.args.front.now (2 ^ 20 * c.loop-at.at) c.args.ids.now c.loop-at.ids c.args.txns.now c.loop-at.txns c.requires.ready.book c.loop-at.invariant.drawn c.loop-at.invariant.sound)
+    record {
+      ready =
+          ready_at (4096 * length c.keys.result.now) c.args.front.now c.loop-at.ids c.loop-at.txns c.loop-at.at c.index-txns-at.result within
+          (ready_again c.args.front.now (2 ^ 20 * c.loop-at.at) c.args.ids.now c.loop-at.ids c.args.txns.now c.loop-at.txns c.requires.ready.book c.loop-at.invariant.drawn c.loop-at.invariant.sound)
+          (omega (arith, c.requires.left, c.loop-at.invariant.drawn.few, within, c.loop-at.invariant.same, c.keys.ensures.few));
+    }
 
 pub returns-in_err-delete_all-clause-drawn : goal.returns-in_err-delete_all-clause-drawn
 returns-in_err-delete_all-clause-drawn c =

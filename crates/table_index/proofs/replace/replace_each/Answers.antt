@@ -49,11 +49,15 @@ returns-clause-pairs c =
     sym (edited_end (replaced_in c.args.row.now) (zip c.args.keys.now c.args.old.now) c.loop-at.txns c.loop-at.at (both_end c.args.keys.now c.args.old.now c.loop-at.at no_keys) no_trees)
     ∙ c.loop-at.invariant.pairs
 
-pub replace_in-requires-clause-ready : goal.replace_in-requires-clause-ready
-replace_in-requires-clause-ready c =
+pub replace_in-requires : goal.replace_in-requires
+replace_in-requires c =
     let within : c.loop-at.at < length c.loop-at.txns = omega arith in
-    ready_at c.args.front.now c.loop-at.ids c.loop-at.txns c.loop-at.at c.index-txns-at.result within
-    (ready_again c.args.front.now (2 ^ 21 * c.loop-at.at) c.args.ids.now c.loop-at.ids c.args.txns.now c.loop-at.txns c.requires.ready.book c.loop-at.invariant.drawn c.loop-at.invariant.sound)
+    record {
+      ready =
+          ready_at (2 ^ 21) c.args.front.now c.loop-at.ids c.loop-at.txns c.loop-at.at c.index-txns-at.result within
+          (ready_again c.args.front.now (2 ^ 21 * c.loop-at.at) c.args.ids.now c.loop-at.ids c.args.txns.now c.loop-at.txns c.requires.ready.book c.loop-at.invariant.drawn c.loop-at.invariant.sound)
+          (omega (arith, c.requires.left, c.loop-at.invariant.drawn.few, within, c.loop-at.invariant.same));
+    }
 
 pub returns-in_err-replace_in-clause-drawn : goal.returns-in_err-replace_in-clause-drawn
 returns-in_err-replace_in-clause-drawn c =

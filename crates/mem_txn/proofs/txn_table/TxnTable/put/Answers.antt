@@ -1,9 +1,10 @@
-use Rattle.std.proofs.Common.{◌∷◌, [], sym, subst}
+use Rattle.std.proofs.Common.{◌^◌, ◌∷◌, [], sym, subst}
 use Rattle.mdb_schema.specs.Write.{put_row}
+use Rattle.table_index.specs.Drawn.{MayBeWritten}
 use Rattle.table_index.specs.Table.{TableChange}
 use Rattle.mem_txn.specs.Changes.{gives_replaced}
 use Rattle.mem_txn.specs.inner.VersionTables.{AnswersRows, IsWithin}
-use Rattle.mem_txn.proofs.IdsCounted.{write_within}
+use Rattle.mem_txn.proofs.IdsCounted.{may_be_written, write_within}
 use Rattle.mem_txn.proofs.RowsAdded.{put_answers}
 use Rattle.mem_txn.proofs.TableAnswers.{put_start}
 use Rattle.mem_txn.proofs.txn_table.TxnTable.put.Goals as goal
@@ -15,12 +16,19 @@ returns-clause-answers c =
     let row = c.args.row.now in
     let e = c.put-told.ensures in
     subst (λ (t : TableChange). AnswersRows gives_replaced (row ∷ []) (put_row t.schema row t.rows) c.put-told.result c.args.ids.now c.put-told.new.ids t new) c.in_ok-txn.ensures.open
-    (put_answers c.args.front.now c.args.ids.now c.put-told.new.ids old new e.drawn e.ids.0 e.ids.1 row c.put-told.result e.answers e.refused e.written)
+    (put_answers c.args.front.now c.args.ids.now c.put-told.new.ids old new e.drawn.drawn e.drawn.later e.drawn.few row c.put-told.result e.answers e.refused e.written)
 
 pub returns-clause-within : goal.returns-clause-within
 returns-clause-within c =
     let old : TableChange = c.in_ok-txn.txn in
     let new : TableChange = c.put-told.new.self in
     let e = c.put-told.ensures in
-    write_within c.args.ids.now c.put-told.new.ids old new (subst (IsWithin c.args.ids.now) (sym c.in_ok-txn.ensures.open) c.requires.within) e.book e.below_start
-    (put_start c.args.ids.now.next old new (put_row old.schema c.args.row.now old.rows) c.put-told.result e.answers) e.below e.of
+    write_within c.args.front.now (2 ^ 26) c.args.ids.now c.put-told.new.ids old new (subst (IsWithin c.args.ids.now) (sym c.in_ok-txn.ensures.open) c.requires.within)
+    (put_start c.args.ids.now.next old new (put_row old.schema c.args.row.now old.rows) c.put-told.result e.answers) e.drawn
+
+pub put-told-requires : goal.put-told-requires
+put-told-requires c = record {
+  ready =
+      subst (MayBeWritten c.args.front.now c.args.ids.now) (sym c.in_ok-txn.ensures.open)
+      (may_be_written c.args.front.now c.args.ids.now c.args.self.now c.requires.sound c.requires.book c.requires.within);
+}

@@ -17,17 +17,17 @@ use Rattle.radix_txn.proofs.txn.TreeTxn.take_out.Goals as goal
 pub begin-requires-clause-begun : goal.begin-requires-clause-begun
 begin-requires-clause-begun c =
     let s = c.self.inside.state in
-    let kept = c.self.invariant (ap (λ (t : Txn). t.spoiled) c.self.view_is ∙ c.requires.sound) in
-    let below : AreBelow c.args.ids.now.next s.tree = subst (AreBelow c.args.ids.now.next) (sym (ap (λ (t : Txn). t.tree) c.self.view_is)) c.requires.below in
+    let kept = c.self.invariant (ap (λ (t : Txn). t.spoiled) c.self.view_is ∙ c.requires.ready.sound) in
+    let below : AreBelow c.args.ids.now.next s.tree = subst (AreBelow c.args.ids.now.next) (sym (ap (λ (t : Txn). t.tree) c.self.view_is)) c.requires.ready.within.tree in
     first_low s.changed s.first c.self.inside.start s.tree s.left c.args.ids.now.next kept below
 
 pub invariant_of-self-2 : goal.invariant_of-self-2
 invariant_of-self-2 c sound =
     let s = c.self.inside.state in
-    let kept = c.self.invariant (ap (λ (t : Txn). t.spoiled) c.self.view_is ∙ c.requires.sound) in
-    let below : AreBelow c.args.ids.now.next s.tree = subst (AreBelow c.args.ids.now.next) (sym (ap (λ (t : Txn). t.tree) c.self.view_is)) c.requires.below in
-    let of : AreOf c.args.front.now.book s.tree = subst (λ k. AreOf k s.tree) (sym c.requires.book) (subst (AreOf c.args.ids.now.book) (sym (ap (λ (t : Txn). t.tree) c.self.view_is)) c.requires.of) in
-    let below_start : AreBelow c.args.ids.now.next c.self.inside.start = subst (AreBelow c.args.ids.now.next) (sym (ap (λ (t : Txn). t.start) c.self.view_is)) c.requires.below_start in
+    let kept = c.self.invariant (ap (λ (t : Txn). t.spoiled) c.self.view_is ∙ c.requires.ready.sound) in
+    let below : AreBelow c.args.ids.now.next s.tree = subst (AreBelow c.args.ids.now.next) (sym (ap (λ (t : Txn). t.tree) c.self.view_is)) c.requires.ready.within.tree in
+    let of : AreOf c.args.front.now.book s.tree = subst (λ k. AreOf k s.tree) (sym c.requires.ready.book) (subst (AreOf c.args.ids.now.book) (sym (ap (λ (t : Txn). t.tree) c.self.view_is)) c.requires.ready.within.of) in
+    let below_start : AreBelow c.args.ids.now.next c.self.inside.start = subst (AreBelow c.args.ids.now.next) (sym (ap (λ (t : Txn). t.start) c.self.view_is)) c.requires.ready.within.start in
     let w = c.take_with.new.state in
     let l = c.in_ok-cells.cells in
     let d : Ledger = record { log = l.log; first = w.first; next = c.take_with.new.ids.next; left = w.left } in
@@ -41,10 +41,10 @@ invariant_of-self-2 c sound =
 pub returns-clause-below : goal.returns-clause-below
 returns-clause-below c =
     let s = c.self.inside.state in
-    let kept = c.self.invariant (ap (λ (t : Txn). t.spoiled) c.self.view_is ∙ c.requires.sound) in
-    let below : AreBelow c.args.ids.now.next s.tree = subst (AreBelow c.args.ids.now.next) (sym (ap (λ (t : Txn). t.tree) c.self.view_is)) c.requires.below in
-    let of : AreOf c.args.front.now.book s.tree = subst (λ k. AreOf k s.tree) (sym c.requires.book) (subst (AreOf c.args.ids.now.book) (sym (ap (λ (t : Txn). t.tree) c.self.view_is)) c.requires.of) in
-    let below_start : AreBelow c.args.ids.now.next c.self.inside.start = subst (AreBelow c.args.ids.now.next) (sym (ap (λ (t : Txn). t.start) c.self.view_is)) c.requires.below_start in
+    let kept = c.self.invariant (ap (λ (t : Txn). t.spoiled) c.self.view_is ∙ c.requires.ready.sound) in
+    let below : AreBelow c.args.ids.now.next s.tree = subst (AreBelow c.args.ids.now.next) (sym (ap (λ (t : Txn). t.tree) c.self.view_is)) c.requires.ready.within.tree in
+    let of : AreOf c.args.front.now.book s.tree = subst (λ k. AreOf k s.tree) (sym c.requires.ready.book) (subst (AreOf c.args.ids.now.book) (sym (ap (λ (t : Txn). t.tree) c.self.view_is)) c.requires.ready.within.of) in
+    let below_start : AreBelow c.args.ids.now.next c.self.inside.start = subst (AreBelow c.args.ids.now.next) (sym (ap (λ (t : Txn). t.start) c.self.view_is)) c.requires.ready.within.start in
     let w = c.take_with.new.state in
     let l = c.in_ok-cells.cells in
     let d : Ledger = record { log = l.log; first = w.first; next = c.take_with.new.ids.next; left = w.left } in
@@ -57,10 +57,10 @@ returns-clause-below c =
 pub returns-clause-of : goal.returns-clause-of
 returns-clause-of c =
     let s = c.self.inside.state in
-    let kept = c.self.invariant (ap (λ (t : Txn). t.spoiled) c.self.view_is ∙ c.requires.sound) in
-    let below : AreBelow c.args.ids.now.next s.tree = subst (AreBelow c.args.ids.now.next) (sym (ap (λ (t : Txn). t.tree) c.self.view_is)) c.requires.below in
-    let of : AreOf c.args.front.now.book s.tree = subst (λ k. AreOf k s.tree) (sym c.requires.book) (subst (AreOf c.args.ids.now.book) (sym (ap (λ (t : Txn). t.tree) c.self.view_is)) c.requires.of) in
-    let below_start : AreBelow c.args.ids.now.next c.self.inside.start = subst (AreBelow c.args.ids.now.next) (sym (ap (λ (t : Txn). t.start) c.self.view_is)) c.requires.below_start in
+    let kept = c.self.invariant (ap (λ (t : Txn). t.spoiled) c.self.view_is ∙ c.requires.ready.sound) in
+    let below : AreBelow c.args.ids.now.next s.tree = subst (AreBelow c.args.ids.now.next) (sym (ap (λ (t : Txn). t.tree) c.self.view_is)) c.requires.ready.within.tree in
+    let of : AreOf c.args.front.now.book s.tree = subst (λ k. AreOf k s.tree) (sym c.requires.ready.book) (subst (AreOf c.args.ids.now.book) (sym (ap (λ (t : Txn). t.tree) c.self.view_is)) c.requires.ready.within.of) in
+    let below_start : AreBelow c.args.ids.now.next c.self.inside.start = subst (AreBelow c.args.ids.now.next) (sym (ap (λ (t : Txn). t.start) c.self.view_is)) c.requires.ready.within.start in
     let w = c.take_with.new.state in
     let l = c.in_ok-cells.cells in
     let d : Ledger = record { log = l.log; first = w.first; next = c.take_with.new.ids.next; left = w.left } in
@@ -74,10 +74,10 @@ returns-clause-of c =
 pub returns-clause-below_start : goal.returns-clause-below_start
 returns-clause-below_start c =
     let s = c.self.inside.state in
-    let kept = c.self.invariant (ap (λ (t : Txn). t.spoiled) c.self.view_is ∙ c.requires.sound) in
-    let below : AreBelow c.args.ids.now.next s.tree = subst (AreBelow c.args.ids.now.next) (sym (ap (λ (t : Txn). t.tree) c.self.view_is)) c.requires.below in
-    let of : AreOf c.args.front.now.book s.tree = subst (λ k. AreOf k s.tree) (sym c.requires.book) (subst (AreOf c.args.ids.now.book) (sym (ap (λ (t : Txn). t.tree) c.self.view_is)) c.requires.of) in
-    let below_start : AreBelow c.args.ids.now.next c.self.inside.start = subst (AreBelow c.args.ids.now.next) (sym (ap (λ (t : Txn). t.start) c.self.view_is)) c.requires.below_start in
+    let kept = c.self.invariant (ap (λ (t : Txn). t.spoiled) c.self.view_is ∙ c.requires.ready.sound) in
+    let below : AreBelow c.args.ids.now.next s.tree = subst (AreBelow c.args.ids.now.next) (sym (ap (λ (t : Txn). t.tree) c.self.view_is)) c.requires.ready.within.tree in
+    let of : AreOf c.args.front.now.book s.tree = subst (λ k. AreOf k s.tree) (sym c.requires.ready.book) (subst (AreOf c.args.ids.now.book) (sym (ap (λ (t : Txn). t.tree) c.self.view_is)) c.requires.ready.within.of) in
+    let below_start : AreBelow c.args.ids.now.next c.self.inside.start = subst (AreBelow c.args.ids.now.next) (sym (ap (λ (t : Txn). t.start) c.self.view_is)) c.requires.ready.within.start in
     let w = c.take_with.new.state in
     let l = c.in_ok-cells.cells in
     let d : Ledger = record { log = l.log; first = w.first; next = c.take_with.new.ids.next; left = w.left } in
@@ -92,10 +92,10 @@ returns-clause-below_start c =
 pub returns-clause-drawn : goal.returns-clause-drawn
 returns-clause-drawn c =
     let s = c.self.inside.state in
-    let kept = c.self.invariant (ap (λ (t : Txn). t.spoiled) c.self.view_is ∙ c.requires.sound) in
-    let below : AreBelow c.args.ids.now.next s.tree = subst (AreBelow c.args.ids.now.next) (sym (ap (λ (t : Txn). t.tree) c.self.view_is)) c.requires.below in
-    let of : AreOf c.args.front.now.book s.tree = subst (λ k. AreOf k s.tree) (sym c.requires.book) (subst (AreOf c.args.ids.now.book) (sym (ap (λ (t : Txn). t.tree) c.self.view_is)) c.requires.of) in
-    let below_start : AreBelow c.args.ids.now.next c.self.inside.start = subst (AreBelow c.args.ids.now.next) (sym (ap (λ (t : Txn). t.start) c.self.view_is)) c.requires.below_start in
+    let kept = c.self.invariant (ap (λ (t : Txn). t.spoiled) c.self.view_is ∙ c.requires.ready.sound) in
+    let below : AreBelow c.args.ids.now.next s.tree = subst (AreBelow c.args.ids.now.next) (sym (ap (λ (t : Txn). t.tree) c.self.view_is)) c.requires.ready.within.tree in
+    let of : AreOf c.args.front.now.book s.tree = subst (λ k. AreOf k s.tree) (sym c.requires.ready.book) (subst (AreOf c.args.ids.now.book) (sym (ap (λ (t : Txn). t.tree) c.self.view_is)) c.requires.ready.within.of) in
+    let below_start : AreBelow c.args.ids.now.next c.self.inside.start = subst (AreBelow c.args.ids.now.next) (sym (ap (λ (t : Txn). t.start) c.self.view_is)) c.requires.ready.within.start in
     let w = c.take_with.new.state in
     let l = c.in_ok-cells.cells in
     let d : Ledger = record { log = l.log; first = w.first; next = c.take_with.new.ids.next; left = w.left } in
@@ -106,7 +106,7 @@ returns-clause-drawn c =
     let book = subst (λ o. IfSome o (λ (t : Deleted). c.take_with.new.ids.book ≡ l.log.book)) c.in-Some.is c.in_ok-taken.ensures.book in
     let ids = c.args.ids.now in
     let drawn = ap (λ k. let n : Counter = record { book = k; next = d.next } in n) book in
-    drawn_ends c.args.front.now ids c.take_with.new.ids c.self.inside.start s.tree c.args.self.now.tree w.tree w.tree (cond s.changed s.first ids.next) s.left d (ap (λ (t : Txn). t.tree) c.self.view_is) refl c.requires.book drawn end
+    drawn_ends c.args.front.now ids c.take_with.new.ids c.self.inside.start s.tree c.args.self.now.tree w.tree w.tree (cond s.changed s.first ids.next) s.left d (ap (λ (t : Txn). t.tree) c.self.view_is) refl c.requires.ready.book drawn end
 
 pub returns-in_err-cells-clause-drawn : goal.returns-in_err-cells-clause-drawn
 returns-in_err-cells-clause-drawn c = none_drawn _ _ _ _ _ (c.in_err-cells.ensures.tree ∙ ap (λ (t : Txn). t.tree) c.self.view_is)
