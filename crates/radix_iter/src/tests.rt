@@ -437,17 +437,21 @@ fn first_wrong_key_of(alloc: Global, entries: &[Entry]) -> Result<Option<usize>,
     first_wrong_key(alloc, &tree, entries)
 }
 
-/// The same in a drawn tree.
-fn first_wrong_key_drawn(alloc: Global, seed: &mut u32) -> Result<Option<usize>, AllocError> {
-    let entries = drawn_entries(alloc, 16, seed)?;
+/// The same in a tree of so many drawn keys.
+fn first_wrong_key_drawn(
+    alloc: Global,
+    keys: u8,
+    seed: &mut u32,
+) -> Result<Option<usize>, AllocError> {
+    let entries = drawn_entries(alloc, keys, seed)?;
     first_wrong_key_of(alloc, &entries)
 }
 
-/// The first of 20 drawn trees in which a walk gives other rows, and the place of the key.
-fn first_wrong_tree(alloc: Global) -> Result<Option<(u8, usize)>, AllocError> {
+/// The first of so many drawn trees in which a walk gives other rows, and the place of the key.
+fn first_wrong_tree(alloc: Global, trees: u8, keys: u8) -> Result<Option<(u8, usize)>, AllocError> {
     let mut seed = 2;
-    for tree in 0..20 {
-        if let Some(at) = first_wrong_key_drawn(alloc, &mut seed)? {
+    for tree in 0..trees {
+        if let Some(at) = first_wrong_key_drawn(alloc, keys, &mut seed)? {
             return Ok(Some((tree, at)));
         }
     }
@@ -456,7 +460,16 @@ fn first_wrong_tree(alloc: Global) -> Result<Option<(u8, usize)>, AllocError> {
 
 #[test]
 fn bounds_hold_at_before_and_after_each_key_of_drawn_trees(rt: HostRuntime) -> Result<(), Fail> {
-    let wrong = first_wrong_tree(rt.alloc())?;
+    let wrong = first_wrong_tree(rt.alloc(), 20, 16)?;
+    assert!(rt; wrong.is_none(), "{wrong:?}");
+    Ok(())
+}
+
+#[test]
+fn bounds_hold_at_before_and_after_each_key_of_200_small_trees(
+    rt: HostRuntime,
+) -> Result<(), Fail> {
+    let wrong = first_wrong_tree(rt.alloc(), 200, 5)?;
     assert!(rt; wrong.is_none(), "{wrong:?}");
     Ok(())
 }
@@ -573,6 +586,37 @@ fn longest_goes_deep(alloc: Global) -> Result<bool, AllocError> {
 #[test]
 fn walks_go_deep_on_the_main_stack(rt: HostRuntime) -> Result<(), Fail> {
     assert!(rt; longest_goes_deep(rt.alloc())?);
+    Ok(())
+}
+
+/// The number of the next row, for which a walk is asked again where it refuses once.
+fn next_again(walk: &mut Walk<'_>) -> Result<Option<i128>, AllocError> {
+    match next_number(walk) {
+        Err(AllocError) => next_number(walk),
+        told => told,
+    }
+}
+
+/// Whether a walk that may refuse once gives the rows of these numbers.
+fn gives_again(walk: &mut Walk<'_>, numbers: &[i128]) -> Result<bool, AllocError> {
+    for number in numbers {
+        if next_again(walk)? != Some(*number) {
+            return Ok(false);
+        }
+    }
+    Ok(next_again(walk)?.is_none())
+}
+
+/// The same of a walk down a tree in which each step goes one node deeper.
+fn gives_chain_again(alloc: Global) -> Result<bool, AllocError> {
+    let tree = chain(alloc, b"abcdefghij")?;
+    let mut walk = descend(&tree, b"")?;
+    gives_again(&mut walk, &[10, 9, 8, 7, 6, 5, 4, 3, 2, 1, 0])
+}
+
+#[test]
+fn a_step_that_was_refused_gives_its_row_the_next_time(rt: HostRuntime) -> Result<(), Fail> {
+    assert!(rt; gives_chain_again(rt.alloc())?);
     Ok(())
 }
 
