@@ -58,7 +58,7 @@ struct Solo {
 
 impl Model for Solo {
     ghost use Rattle.std.specs.Prelude.{◌≡◌, []};
-    ghost use Rattle.mem_txn.specs.inner.CallerOf.{IsCaller};
+    ghost use Rattle.mem_txn.specs.CallerOf.{IsCaller};
 
     ghost Value = { Unit {0} };
 

@@ -1,3 +1,4 @@
+pub mod CallerOf
 pub mod CellHistory
 pub mod Changes
 pub mod Checked

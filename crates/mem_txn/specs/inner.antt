@@ -1,5 +1,4 @@
 pub mod Accepted
-pub mod CallerOf
 pub mod ChangesView
 pub mod Commits
 pub mod EmptyTables

@@ -2,7 +2,7 @@
 ghost use Rattle.std.specs.Prelude.{◌≡◌, [], IfOk, IfSome};
 ghost use Rattle.mem_txn.specs.Checked.{IsBeginning};
 ghost use Rattle.mem_txn.specs.Database.{IsOf};
-ghost use Rattle.mem_txn.specs.inner.CallerOf.{IsCaller};
+ghost use Rattle.mem_txn.specs.CallerOf.{IsCaller};
 ghost use Rattle.mem_txn.specs.Transactions.{changes_of};
 
 mod callers;

@@ -1,6 +1,6 @@
 //! Sessions of two callers of one database, step by step.
 ghost use Rattle.std.specs.Prelude.{◌≡◌, [], IfOk};
-ghost use Rattle.mem_txn.specs.inner.CallerOf.{IsCaller};
+ghost use Rattle.mem_txn.specs.CallerOf.{IsCaller};
 
 use super::{Told, schema_of, script_of};
 use crate::{Session, Stepped};
@@ -97,7 +97,7 @@ struct Duo {
 
 impl Model for Duo {
     ghost use Rattle.std.specs.Prelude.{◌≡◌, []};
-    ghost use Rattle.mem_txn.specs.inner.CallerOf.{IsCaller};
+    ghost use Rattle.mem_txn.specs.CallerOf.{IsCaller};
 
     ghost Value = { Unit {0} };
 

@@ -2,7 +2,7 @@
 //! own.
 ghost use Rattle.std.specs.Prelude.{◌≡◌, [], Some};
 ghost use Rattle.mem_txn.specs.Database.{Caller, IsOf};
-ghost use Rattle.mem_txn.specs.inner.CallerOf.{IsCaller};
+ghost use Rattle.mem_txn.specs.CallerOf.{IsCaller};
 ghost use Rattle.mem_txn.specs.Transactions.{changes_of};
 
 use super::long_run::kept_of;

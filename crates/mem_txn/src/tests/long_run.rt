@@ -2,7 +2,7 @@
 //! held watches. After each transaction a watch has fired exactly where its question has
 //! another cell, and else the answer is as it was.
 ghost use Rattle.std.specs.Prelude.{◌≡◌};
-ghost use Rattle.mem_txn.specs.inner.CallerOf.{IsCaller};
+ghost use Rattle.mem_txn.specs.CallerOf.{IsCaller};
 ghost use Rattle.mem_txn.specs.Transactions.{changes_of};
 
 use super::drawn::{Drawn, Plain, QUESTIONS, listed, wipe_plain};

@@ -3,7 +3,7 @@
 ghost use Rattle.std.specs.Prelude.{◌≡◌, IfOk};
 ghost use Rattle.mdb_schema.specs.Query as query;
 ghost use Rattle.mem_txn.specs.Checked.{IsBeginning, IsHeldBy};
-ghost use Rattle.mem_txn.specs.inner.CallerOf.{IsCaller};
+ghost use Rattle.mem_txn.specs.CallerOf.{IsCaller};
 ghost use Rattle.mem_txn.specs.Held.{IsHeldOf};
 
 use super::worked::{Asked, Step, Steps};

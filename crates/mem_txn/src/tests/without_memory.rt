@@ -1,7 +1,7 @@
 //! Each allocation may fail: a refused call gives the pass back, and the database answers another
 //! caller as before.
 ghost use Rattle.std.specs.Prelude.{◌≡◌};
-ghost use Rattle.mem_txn.specs.inner.CallerOf.{IsCaller};
+ghost use Rattle.mem_txn.specs.CallerOf.{IsCaller};
 ghost use Rattle.mem_txn.specs.Transactions.{changes_of};
 
 use super::drawn::{Drawn, Plain, table_of, text_of};

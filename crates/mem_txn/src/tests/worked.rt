@@ -1,6 +1,6 @@
 //! Worked examples: transactions on a database, each write and question with its answer.
 ghost use Rattle.std.specs.Prelude.{◌≡◌};
-ghost use Rattle.mem_txn.specs.inner.CallerOf.{IsCaller};
+ghost use Rattle.mem_txn.specs.CallerOf.{IsCaller};
 ghost use Rattle.mem_txn.specs.Transactions.{changes_of};
 
 use super::{Question, Told, Txn, Work, closed, is_told, pair, query_of, row_of, transact};

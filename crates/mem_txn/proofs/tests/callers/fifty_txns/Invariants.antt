@@ -1,4 +1,4 @@
-use Rattle.mem_txn.specs.inner.CallerOf.{IsCaller}
+use Rattle.mem_txn.specs.CallerOf.{IsCaller}
 use Rattle.mem_txn.proofs.tests.callers.fifty_txns.Given as goal
 
 abbrev pub invariant-loop-own : goal.invariant-loop-own

@@ -1,5 +1,5 @@
 use Rattle.std.proofs.Common.{◌≡◌}
-use Rattle.mem_txn.specs.inner.CallerOf.{IsCaller}
+use Rattle.mem_txn.specs.CallerOf.{IsCaller}
 use Rattle.mem_txn.proofs.tests.long_run.run_often.Given as goal
 
 abbrev pub invariant-loop-at : goal.invariant-loop-at

@@ -1,4 +1,4 @@
-use Rattle.mem_txn.specs.inner.CallerOf.{IsCaller}
+use Rattle.mem_txn.specs.CallerOf.{IsCaller}
 use Rattle.mem_txn.proofs.tests.without_memory.are_tried.Given as goal
 
 abbrev pub invariant-loop : goal.invariant-loop

@@ -1,4 +1,4 @@
-use Rattle.mem_txn.specs.inner.CallerOf.{IsCaller}
+use Rattle.mem_txn.specs.CallerOf.{IsCaller}
 use Rattle.mem_txn.proofs.tests.worked.are_played.Given as goal
 
 abbrev pub invariant-loop-turn : goal.invariant-loop-turn
