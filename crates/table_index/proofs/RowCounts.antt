@@ -1,8 +1,9 @@
 -- How many rows a list has, each counted once, by the `id` keys that were seen.
 use Rattle.std.proofs.Common.{◌≡◌, ◌∙◌, ◌≤◌, ◌+◌, ◌||◌, ◌++◌, ◌∷◌, [], ℕ, suc, List, length, drop, Bool, true, false, cond, Some, None, Ok, Contains, refl, sym, ap, subst, arith}
 use Rattle.std.specs.Str.{bytes_eq}
-use Rattle.mdb_datum.specs.Pairs.{first_item}
-use Rattle.mdb_datum.specs.Row.{Fields}
+use Rattle.mdb_datum.specs.Bytes.{is_prefix}
+use Rattle.mdb_datum.specs.Pairs.{first_item, rows_of, with_prefix}
+use Rattle.mdb_datum.specs.Row.{Fields, Pair}
 use Rattle.mdb_encode.specs.Bytes.{Bytes}
 use Rattle.mdb_schema.specs.Schema.{TableSchema}
 use Rattle.mdb_schema.specs.State.{id_key}
@@ -10,7 +11,9 @@ use Rattle.mdb_schema.specs.Wipe.{once, once_after}
 use Rattle.mdb_schema.specs.Write.{id_of, is_among}
 use Rattle.mdb_schema.proofs.IdKeys.{id_of-key}
 use Rattle.mdb_schema.proofs.Membership.{Contains-first, Contains-later}
-use Rattle.table_index.specs.inner.Wipes.{IsStored}
+use Rattle.radix_node.specs.Cells.{CellTree, plain_of}
+use Rattle.radix_node.specs.Nodes.{pairs_of}
+use Rattle.table_index.specs.inner.Wipes.{IsStored, rows_under}
 use Rattle.table_index.proofs.WipeSteps.{first_rest, no_more}
 
 -- the keys so far, in another order than in the definition, and the rows that are still to be
@@ -127,3 +130,15 @@ once_few t rs = once_within t [] rs
 pub once_more : (t : TableSchema) (rs : List Fields) (n : ℕ) → n ≡ length rs → 1 ≤ n → 1 ≤ length (once t rs)
 once_more t [] n is some = absurd (omega (arith, is, some))
 once_more t (r ∷ rs) n is some = omega arith
+
+-- a tree lists at most as many rows under a key as it has keys
+under_within : (key : Bytes) (es : List Pair) → length (rows_of (with_prefix key es)) ≤ length es
+under_within key [] = omega arith
+under_within key (e ∷ es) = of (is_prefix key e.0) (under_within key es)
+  where
+    of : (b : Bool) → length (rows_of (with_prefix key es)) ≤ length es → length (rows_of (cond b (e ∷ with_prefix key es) (with_prefix key es))) ≤ length (e ∷ es)
+    of true later = omega (arith, later)
+    of false later = omega (arith, later)
+
+pub once_under : (t : TableSchema) (key : Bytes) (tree : CellTree) → length (once t (rows_under key tree)) ≤ length (pairs_of (plain_of tree))
+once_under t key tree = omega (arith, once_few t (rows_under key tree), under_within key (pairs_of (plain_of tree)))

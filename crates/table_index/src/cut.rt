@@ -1,6 +1,6 @@
-//! The beginning of a wipe: the rows that it lists, and the cut of their index.
+//! The beginning of a wipe: the walk over the rows that it lists, and the cut of their index.
 ghost use Rattle.std.specs.Prelude.{◌≡◌, ◌⊎◌, ◌+◌, ◌*◌, ◌<◌, ◌≤◌, ◌^◌, true, false, IfErr, IfOk};
-ghost use Rattle.std.specs.Prelude.{MatchResult, Ok, OnOk};
+ghost use Rattle.std.specs.Prelude.{MatchResult, Ok, OnOk, Some, option_map};
 ghost use Rattle.std.specs.Prelude.{Contains, [], ◌∷◌, ◌++◌, if◌then◌else◌, length, map, slice_get};
 ghost use Rattle.mdb_datum.specs.Row.{Fields};
 ghost use Rattle.mdb_schema.specs.Wipe.{once};
@@ -12,36 +12,41 @@ ghost use Rattle.table_index.specs.declared.wipe_error.WipeError.TheVariants.{Id
 ghost use Rattle.table_index.specs.inner.Drawn.{AreReady, HaveDrawn};
 ghost use Rattle.table_index.specs.inner.Held.{AreSound, AreTrees, nodes_of};
 ghost use Rattle.table_index.specs.inner.Wipes.{GivesUp, IsCut, IsStored, cut_at, listed_from};
+ghost use Rattle.table_index.specs.inner.Wipes.{rows_under};
 ghost use Rattle.table_index.specs.inner.Writes.{TreesWrote, IsCutAt};
 
 use crate::id_key::IdKey;
 use crate::ids_left::has_ids;
-use crate::listing::{Listing, under_key};
 use crate::stored::stored_id;
 use crate::tree_edit::delete_prefix;
 use crate::wipe_error::WipeError;
 use mdb_datum::Row;
 use mdb_schema::TableDef;
-use radix_node::Ids;
+use radix_iter::{Walk, ascend, first};
+use radix_node::{Ids, Tree};
 use radix_txn::TreeTxn;
 use std::alloc::{AllocError, Global};
 use watch_word::Front;
 
-/// The rows that the index at a place lists under a key, once the keys that begin with
-/// it are out of its tree. Where it lists no row nothing changes.
-pub(crate) fn cut_listed(
+/// A walk over the rows that the index at a place lists under a key, in the tree that stands as it
+/// was; the keys that begin with the key are then out of the present one. Where it lists no row
+/// nothing changes.
+pub(crate) fn cut_listed<'t>(
     alloc: Global,
     def: &TableDef,
     txns: &mut [TreeTxn],
     front: &Front,
     ids: &mut Ids,
     place: usize,
+    tree: &'t Tree,
     key: &[u8],
-) -> Result<Listing, WipeError>
+) -> Result<Walk<'t>, WipeError>
     requires place { place < length txns.old }
     requires short { length key.now ≤ 2048 }
     requires ready { AreReady front.now ids.old txns.old }
     requires held { AreTrees def.now (nodes_of txns.old) }
+    requires stands { rows_under key.now tree.now
+        ≡ listed_from key.now (slice_get txns.old place) }
     ensures answers { let rows = length
         (once def.now (listed_from key.now (slice_get txns.old place))) in
         MatchResult result
@@ -54,58 +59,55 @@ pub(crate) fn cut_listed(
     ensures written { OnOk result
         (TreesWrote (IsCutAt place key.now txns.old) txns.old txns.new) }
 {
-    let listed = checked_walk(alloc, def, txns, ids, place, key)?;
-    let count = listed.len();
-    if count == 0 {
+    // The definition is lawful by its type.
+    let _ = def.len();
+    let listed = checked_walk(alloc, def, ids, tree, key)?;
+    if !lists_any(tree, key) {
         return Ok(listed);
     }
     cut_at(txns, front, ids, place, key)?;
     Ok(listed)
 }
 
-/// The rows that the index at a place lists under a key, if there are ids for them.
-fn checked_walk(
+/// A walk over the rows that a tree lists under a key, if there are ids for them.
+fn checked_walk<'t>(
     alloc: Global,
     def: &TableDef,
-    txns: &mut [TreeTxn],
     ids: &Ids,
-    place: usize,
+    tree: &'t Tree,
     key: &[u8],
-) -> Result<Listing, WipeError>
-    requires place { place < length txns.old }
-    requires sound { AreSound txns.old }
-    requires held { AreTrees def.now (nodes_of txns.old) }
-    ensures answers { let rows = length
-        (once def.now (listed_from key.now (slice_get txns.old place))) in
+) -> Result<Walk<'t>, WipeError>
+    requires { (r : Fields) → Contains (rows_under key.now tree.now) r → IsStored def.now r }
+    ensures { let rows = length (once def.now (rows_under key.now tree.now)) in
         MatchResult result
-        (λ w. (w ≡ listed_from key.now (slice_get txns.old place)) × AreLeft ids.now.next rows)
+        (λ w. (w ≡ rows_under key.now tree.now) × AreLeft ids.now.next rows)
         (λ e. (e ≡ Memory) ⊎ (AreSpent ids.now.next rows × (e ≡ IdsSpent))) }
-    ensures unchanged { txns.new ≡ txns.old }
 {
-    let listed = walk_at(alloc, txns, place, key)?;
-    let count = listed.len();
-    if are_enough(alloc, def, txns, ids, place, key, count)? {
-        Ok(listed)
+    if are_enough(alloc, def, ids, tree, key)? {
+        Ok(ascend(tree, key)?)
     } else {
         Err(WipeError::IdsSpent)
     }
 }
 
-/// The rows that the index at a place lists under a key.
-fn walk_at(
-    alloc: Global,
-    txns: &mut [TreeTxn],
-    place: usize,
-    key: &[u8],
-) -> Result<Listing, AllocError>
+/// The present tree at a place, which later writes don't change.
+pub(crate) fn stand_at(txns: &mut [TreeTxn], place: usize) -> Result<Tree, AllocError>
     requires place { place < length txns.old }
     requires sound { AreSound txns.old }
-    ensures rows { IfOk result (λ w. w ≡ listed_from key.now (slice_get txns.old place)) }
+    ensures tree { IfOk result
+        (λ t. option_map (λ x. x.tree) (slice_get txns.old place) ≡ Some t) }
     ensures unchanged { txns.new ≡ txns.old }
 {
     let txn = &mut txns[place];
-    let tree = txn.stand()?;
-    under_key(alloc, &tree, key)
+    txn.stand()
+}
+
+/// Whether a tree has a key that begins with another.
+fn lists_any(tree: &Tree, key: &[u8]) -> bool
+    ensures some { result ≡ true → 1 ≤ length (rows_under key.now tree.now) }
+    ensures none { result ≡ false → rows_under key.now tree.now ≡ [] }
+{
+    first(tree, key).is_some()
 }
 
 /// Takes the keys that begin with a key out of the tree at a place.
@@ -131,64 +133,54 @@ fn cut_at(
     delete_prefix(txn, front, ids, key)
 }
 
-/// Whether there are ids for the rows that the index at a place lists under a key so many times.
-/// Mostly there are enough for as many rows as entries are listed; else the rows are counted.
+/// Whether there are ids for the rows that a tree lists under a key. Mostly there are enough for as
+/// many rows as the tree has keys; else the rows are counted.
 fn are_enough(
     alloc: Global,
     def: &TableDef,
-    txns: &mut [TreeTxn],
     ids: &Ids,
-    place: usize,
+    tree: &Tree,
     key: &[u8],
-    count: usize,
 ) -> Result<bool, WipeError>
-    requires place { place < length txns.old }
-    requires sound { AreSound txns.old }
-    requires held { AreTrees def.now (nodes_of txns.old) }
-    requires counted { count ≡ length (listed_from key.now (slice_get txns.old place)) }
-    ensures answers { let rows = length
-        (once def.now (listed_from key.now (slice_get txns.old place))) in
+    requires { (r : Fields) → Contains (rows_under key.now tree.now) r → IsStored def.now r }
+    ensures { let rows = length (once def.now (rows_under key.now tree.now)) in
         MatchResult result
         (λ enough. (enough ≡ true → AreLeft ids.now.next rows)
         × (enough ≡ false → AreSpent ids.now.next rows))
         (λ e. e ≡ Memory) }
-    ensures unchanged { txns.new ≡ txns.old }
 {
-    if has_ids(ids, count) {
+    if has_ids(ids, tree.len()) {
         return Ok(true);
     }
-    // The definition is lawful by its type.
-    let _ = def.len();
-    let listed = walk_at(alloc, txns, place, key)?;
-    let rows = count_once(alloc, def, listed)?;
-    Ok(has_ids(ids, rows))
+    let rows = count_once(alloc, def, ascend(tree, key)?)?;
+    Ok(has_ids(ids, rows as u64))
 }
 
-/// How many rows there are, each counted once. It takes memory for their `id` keys, and time in
+/// How many rows a walk gives, each counted once. It takes memory for their `id` keys, and time in
 /// the square of their number.
-fn count_once(alloc: Global, def: &TableDef, listed: Listing) -> Result<usize, WipeError>
+fn count_once(alloc: Global, def: &TableDef, listed: Walk<'_>) -> Result<usize, WipeError>
     requires { (r : Fields) → Contains listed r → IsStored def.now r }
     ensures { MatchResult result
-        (λ count. count ≡ length (once def.now listed)) (λ e. e ≡ Memory) }
+        (λ count. count ≡ length (once def.now listed.entry)) (λ e. e ≡ Memory) }
 {
     let mut seen = Vec::new(alloc);
     count_each(alloc, def, listed, &mut seen)?;
     Ok(seen.len())
 }
 
-/// Adds the `id` keys of these rows to an empty list, each once.
+/// Adds the `id` keys of the rows of a walk to an empty list, each once.
 fn count_each(
     alloc: Global,
     def: &TableDef,
-    mut listed: Listing,
+    mut listed: Walk<'_>,
     seen: &mut Vec<IdKey>,
 ) -> Result<(), WipeError>
     requires stored { (r : Fields) → Contains listed r → IsStored def.now r }
     requires none { seen.old.items ≡ [] }
     ensures { MatchResult result
-        (λ _. length seen.new.items ≡ length (once def.now listed)) (λ e. e ≡ Memory) }
+        (λ _. length seen.new.items ≡ length (once def.now listed.entry)) (λ e. e ≡ Memory) }
 {
-    'rows: while let Some(row) = listed.next() {
+    'rows: while let Some(row) = listed.next()? {
         count_row(alloc, def, &row, seen)?;
     }
     Ok(())

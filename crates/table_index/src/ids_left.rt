@@ -9,9 +9,9 @@ use radix_node::Ids;
 const IDS_A_ROW: u64 = 1 << 26;
 
 /// Whether there are ids for so many rows.
-pub(crate) fn has_ids(ids: &Ids, rows: usize) -> bool
+pub(crate) fn has_ids(ids: &Ids, rows: u64) -> bool
     ensures enough { result ≡ true → AreLeft ids.now.next rows }
     ensures few { result ≡ false → AreSpent ids.now.next rows }
 {
-    rows as u64 <= ids.left() / IDS_A_ROW
+    rows <= ids.left() / IDS_A_ROW
 }

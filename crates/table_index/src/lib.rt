@@ -18,7 +18,6 @@ mod full_key;
 mod id_key;
 mod ids_left;
 mod listed;
-mod listing;
 mod lookup;
 mod notices;
 mod put;

@@ -14,19 +14,20 @@ ghost use Rattle.table_index.specs.inner.Held.{AreSound, AreTrees, nodes_of, row
 ghost use Rattle.table_index.specs.inner.Wipes.{GivesUp, IsMoved, IsOut, IsStored, IsTaking};
 ghost use Rattle.table_index.specs.inner.Wipes.{IsWiped};
 ghost use Rattle.table_index.specs.inner.Wipes.{MovesNext, is_next_there, is_there, listed_at};
+ghost use Rattle.table_index.specs.inner.Wipes.{listed_from, rows_under};
 ghost use Rattle.table_index.specs.inner.Writes.{WroteRows};
 
-use crate::cut::cut_listed;
+use crate::cut::{cut_listed, stand_at};
 use crate::edits::delete_each;
 use crate::id_key::IdKey;
-use crate::listing::Listing;
 use crate::refusal::of_stored;
 use crate::row_keys::{full_keys_of, id_place};
 use crate::stored::stored_id;
 use crate::wipe_error::WipeError;
 use mdb_datum::Row;
 use mdb_schema::{Rows, TableDef};
-use radix_node::Ids;
+use radix_iter::Walk;
+use radix_node::{Ids, Tree};
 use radix_txn::TreeTxn;
 use std::alloc::Global;
 use watch_word::Front;
@@ -62,9 +63,46 @@ pub(crate) fn wipe_listed(
         (listed_at def.now rows (slice_get def.now.indexes place) key.now) in
         OnOk result (WroteRows def.now gone txns.old txns.new) }
 {
+    let tree = stand_at(txns, place)?;
+    wipe_standing(alloc, def, txns, front, ids, place, &tree, key)
+}
+
+/// The same, where the tree at the place stands meanwhile, so that a walk goes over it.
+fn wipe_standing(
+    alloc: Global,
+    def: &TableDef,
+    txns: &mut [TreeTxn],
+    front: &Front,
+    ids: &mut Ids,
+    place: usize,
+    tree: &Tree,
+    key: &[u8],
+) -> Result<Rows, WipeError>
+    requires place { place < length def.now.indexes }
+    requires short { length key.now ≤ 2048 }
+    requires ready { AreReady front.now ids.old txns.old }
+    requires held { AreTrees def.now (nodes_of txns.old) }
+    requires stands { rows_under key.now tree.now
+        ≡ listed_from key.now (slice_get txns.old place) }
+    ensures answers { let rows = rows_held def.now (nodes_of txns.old) in
+        let gone = once def.now
+        (listed_at def.now rows (slice_get def.now.indexes place) key.now) in
+        MatchResult result
+        (λ taken. AreLeft ids.old.next (length gone) × IsWiped def.now gone taken txns.old txns.new)
+        (λ e. GivesUp ids.old.next (length gone) e txns.old txns.new) }
+    ensures drawn { let rows = rows_held def.now (nodes_of txns.old) in
+        let gone = once def.now
+        (listed_at def.now rows (slice_get def.now.indexes place) key.now) in
+        HaveDrawn front.now (2 ^ 26 * length gone) ids.old ids.new txns.old txns.new }
+    ensures refused { IfErr result (λ e. (e ≡ Memory) ⊎ (ids.new ≡ ids.old)) }
+    ensures written { let rows = rows_held def.now (nodes_of txns.old) in
+        let gone = once def.now
+        (listed_at def.now rows (slice_get def.now.indexes place) key.now) in
+        OnOk result (WroteRows def.now gone txns.old txns.new) }
+{
     // The definition is lawful by its type.
     let _ = def.len();
-    let mut listed = match cut_listed(alloc, def, txns, front, ids, place, key) {
+    let mut listed = match cut_listed(alloc, def, txns, front, ids, place, tree, key) {
         Ok(listed) => listed,
         Err(error) => return Err(error),
     };
@@ -82,7 +120,7 @@ fn move_next(
     front: &Front,
     ids: &mut Ids,
     cut: usize,
-    listed: &mut Listing,
+    listed: &mut Walk<'_>,
     gone: &mut Rows,
 ) -> Result<bool, WipeError>
     requires stored { (r : Fields) → Contains listed.old r → IsStored def.now r }
@@ -98,7 +136,7 @@ fn move_next(
         HaveDrawn front.now (ids_of_row there) ids.old ids.new txns.old txns.new }
     ensures written { OnOk result (WroteRows def.now listed.old txns.old txns.new) }
 {
-    match listed.next() {
+    match listed.next()? {
         Some(row) => {
             move_listed(alloc, def, txns, front, ids, cut, row, gone)?;
             Ok(true)

@@ -13,6 +13,8 @@ use Rattle.mdb_schema.specs.State.{full_keys, id_key, Takes}
 use Rattle.mdb_schema.specs.Wipe.{once, without_rows}
 use Rattle.mdb_schema.specs.declared.ask_error.AskError.{AskError}
 use Rattle.mdb_schema.specs.declared.ask_error.AskError.TheVariants as ask_errors
+use Rattle.radix_node.specs.Cells.{CellTree, plain_of}
+use Rattle.radix_node.specs.Nodes.{pairs_of}
 use Rattle.radix_node.specs.Pairs.{find, without_prefix}
 use Rattle.radix_txn.specs.Txn.{Txn, txn_pairs}
 use Rattle.table_index.specs.Table.{AreLeft, AreSpent}
@@ -25,6 +27,10 @@ use Rattle.table_index.specs.inner.TreeEdits.{without_each}
 abbrev pub listed_at : TableSchema → List Fields → Option IndexSchema → Bytes → List Fields
 listed_at t rows None key = []
 listed_at t rows (Some i) key = rows_of (with_prefix key (entries t i rows))
+
+-- the rows that a standing tree lists under a key
+abbrev pub rows_under : Bytes → CellTree → List Fields
+rows_under key tree = rows_of (with_prefix key (pairs_of (plain_of tree)))
 
 -- the rows that a tree, if there is one, lists under a key
 abbrev pub listed_from : Bytes → Option Txn → List Fields

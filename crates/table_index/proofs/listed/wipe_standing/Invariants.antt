@@ -5,7 +5,7 @@ use Rattle.table_index.specs.inner.Drawn.{HaveDrawn}
 use Rattle.table_index.specs.inner.Held.{AreSound, nodes_of, rows_held}
 use Rattle.table_index.specs.inner.Writes.{WroteRows}
 use Rattle.table_index.proofs.WipeSteps.{Stands}
-use Rattle.table_index.proofs.listed.wipe_listed.Given as goal
+use Rattle.table_index.proofs.listed.wipe_standing.Given as goal
 
 abbrev pub invariant-rows : goal.invariant-rows
 invariant-rows l = record {
