@@ -123,7 +123,7 @@ once_within t seen (r ∷ rs) = of (is_among seen (id_key t r)) (once_within t s
     of true skipped taken = omega (arith, skipped)
     of false skipped taken = omega (arith, taken)
 
-pub once_few : (t : TableSchema) (rs : List Fields) → length (once t rs) ≤ length rs
+once_few : (t : TableSchema) (rs : List Fields) → length (once t rs) ≤ length rs
 once_few t rs = once_within t [] rs
 
 -- and one, if there is a row

@@ -70,9 +70,6 @@ pub trees_none : (kind : ℕ → Bytes → Type 0) (xs : List Txn) → TreesWrot
 trees_none kind [] = tt
 trees_none kind (x ∷ xs) = (wrote_none (kind 0) x, trees_none (λ place. kind (suc place)) xs)
 
-pub trees_same : (kind : ℕ → Bytes → Type 0) (xs ys : List Txn) → ys ≡ xs → TreesWrote kind xs ys
-trees_same kind xs ys same = subst (λ (l : List Txn). TreesWrote kind xs l) (sym same) (trees_none kind xs)
-
 pub trees_then : (kind : ℕ → Bytes → Type 0) (xs ys zs : List Txn) → TreesWrote kind xs ys → TreesWrote kind ys zs → TreesWrote kind xs zs
 trees_then kind [] [] zs a b = b
 trees_then kind [] (y ∷ ys) zs a b = absurd a
