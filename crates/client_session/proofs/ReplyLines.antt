@@ -1,11 +1,11 @@
 -- One more line of an answer.
-use Rattle.std.proofs.Common.{◌≡◌, ap, sym, ◌∙◌, ℕ, zero, suc, ◌+◌, List, [], ◌∷◌, ◌++◌, drop, Some, slice_get, arith}
+use Rattle.std.proofs.Common.{◌≡◌, ap, sym, ◌∙◌, ℕ, zero, suc, ◌+◌, List, [], ◌∷◌, ◌++◌, drop, length, take, refl, Some, slice_get, arith}
 use Rattle.std.specs.Prelude.{codes}
 use Rattle.std.proofs.lemmas.List.{append_assoc}
 use Rattle.mdb_datum.specs.Bytes.{Bytes}
 use Rattle.mdb_datum.specs.Row.{Fields}
 use Rattle.mdb_datum.specs.Written.{row_text}
-use Rattle.client_script.specs.Reply.{did_lines, row_lines}
+use Rattle.client_script.specs.Reply.{did_lines, further, row_lines}
 
 one_more : (n : ℕ) → suc n ≡ n + 1
 one_more n = search (arith)
@@ -18,18 +18,29 @@ drop_next xs at x e = from xs at e ∙ ap (λ (n : ℕ). x ∷ drop n xs) (one_m
     from (y ∷ ys) zero e' = cc
     from (y ∷ ys) (suc n) e' = from ys n e'
 
-pub did_step : (out more : Bytes) (texts : List Bytes) (at : ℕ) (text : Bytes) (whole : Bytes) → slice_get texts at ≡ Some text → more ≡ out ++ codes "\n  did " ++ text → out ++ did_lines (drop at texts) ≡ whole → more ++ did_lines (drop (at + 1) texts) ≡ whole
+pub did_step : (out more : Bytes) (texts : List Bytes) (at : ℕ) (text : Bytes) (whole : Bytes) → slice_get texts at ≡ Some text → more ≡ out ++ further (codes "did " ++ text) → out ++ did_lines (drop at texts) ≡ whole → more ++ did_lines (drop (at + 1) texts) ≡ whole
 did_step out more texts at text whole there added so_far =
     ap (λ (b : Bytes). b ++ did_lines (drop (at + 1) texts)) added
-    ∙ append_assoc (out ++ codes "\n  did ") text (did_lines (drop (at + 1) texts))
-    ∙ append_assoc out (codes "\n  did ") (text ++ did_lines (drop (at + 1) texts))
+    ∙ append_assoc out (further (codes "did " ++ text)) (did_lines (drop (at + 1) texts))
     ∙ ap (λ (b : Bytes). out ++ b) (sym (ap did_lines (drop_next texts at text there)))
     ∙ so_far
 
-pub row_step : (out more : Bytes) (rows : List Fields) (at : ℕ) (row : Fields) (whole : Bytes) → slice_get rows at ≡ Some row → more ≡ out ++ codes "\n  " ++ row_text row → out ++ row_lines (drop at rows) ≡ whole → more ++ row_lines (drop (at + 1) rows) ≡ whole
+pub row_step : (out more : Bytes) (rows : List Fields) (at : ℕ) (row : Fields) (whole : Bytes) → slice_get rows at ≡ Some row → more ≡ out ++ further (row_text row) → out ++ row_lines (drop at rows) ≡ whole → more ++ row_lines (drop (at + 1) rows) ≡ whole
 row_step out more rows at row whole there added so_far =
     ap (λ (b : Bytes). b ++ row_lines (drop (at + 1) rows)) added
-    ∙ append_assoc (out ++ codes "\n  ") (row_text row) (row_lines (drop (at + 1) rows))
-    ∙ append_assoc out (codes "\n  ") (row_text row ++ row_lines (drop (at + 1) rows))
+    ∙ append_assoc out (further (row_text row)) (row_lines (drop (at + 1) rows))
     ∙ ap (λ (b : Bytes). out ++ b) (sym (ap row_lines (drop_next rows at row there)))
     ∙ so_far
+
+-- ---- what was there stays
+
+-- it is still there after two steps that each leave what was there before
+pub kept_still : (old mid new : Bytes) → take (length old) mid ≡ old → take (length mid) new ≡ mid → take (length old) new ≡ old
+kept_still [] mid new kept kept' = refl
+kept_still (b ∷ old) [] new kept kept' = cc
+kept_still (b ∷ old) (m ∷ mid) [] kept kept' = cc
+kept_still (b ∷ old) (m ∷ mid) (n ∷ new) kept kept' =
+    let before : take (length old) mid ≡ old = cc in
+    let after : take (length mid) new ≡ mid = cc in
+    let rest : take (length old) new ≡ old = kept_still old mid new before after in
+    cc

@@ -45,6 +45,7 @@ use Rattle.mdb_encode.specs.KeyRefusal.{wrong_kind, out_of_range, bad_uuid, too_
 use Rattle.client_session.proofs.RowRules.{rule_same, other_rule}
 use Rattle.client_session.specs.declared.reply.Reply.TheVariants as replies
 use Rattle.client_session.specs.declared.rule.Rule.TheVariants as rules
+use Rattle.client_session.specs.inner.Asking.{asked_reply}
 use Rattle.client_session.specs.inner.Refusal.{write_rule, wipe_rule, question_rule, txn_question_rule, row_rule_but_memory}
 use Rattle.client_session.specs.inner.ReplyOf.{reply_of}
 use Rattle.client_session.specs.inner.RuleName.{rule_name, question_name}
@@ -478,6 +479,14 @@ module _ (q : Query) (old new : Open) (sight : Sight) (opened : some_open (trans
   unfolding gives
   refused_turn why is = kept_turns (command.Question q) old new (said.refused (question_word why)) caller same stands (λ v open_is. rw (open_is, opened, is) refl) (refused_makes (question_word why)) refl
 
+  asked_of : (told : Asked Answer) → gives ≡ told → TurnsTo (command.Question q) old new (asked_reply told)
+  asked_of (Ok a) is = answered_turn a is
+  asked_of (Err why) is = refused_turn why is
+
+  pub asked_turns : TurnsTo (command.Question q) old new (asked_reply (ask (caller_of old).schema (state_seen (caller_of old).schema (caller_of old).seen sight) q))
+  unfolding gives
+  asked_turns = asked_of gives refl
+
   answered_of : (a : Answer) (told : Asked Answer) → gives ≡ told → AnswersAsk told (Ok a) → TurnsTo (command.Question q) old new (said.answered a)
   answered_of a (Ok b) is answers = answered_turn a (is ∙ ap Ok (sym answers))
   answered_of a (Err why) is answers = cc
@@ -545,18 +554,14 @@ defer_turns self txn txn' text item is copied changes items sound = subst (λ (s
 
 -- ---- questions of the open transaction
 
-of_reading : (pass : Caller) (txn : Reading) (q : Query) (told : Result Answer AskError) → txn.view ≡ view_at_commit pass txn.view.number → AnswersAsk (ask txn.view.schema txn.view.state q) told → AnswersAsk (ask pass.schema (state_seen pass.schema pass.seen (record { number = txn.view.number; writes = []; uncommitted = false })) q) told
-of_reading pass txn q told is answers = subst (λ (x : View). AnswersAsk (ask x.schema x.state q) told) is answers
-
-pub reading_answered : (self : Open) (pass : Caller) (txn : Reading) (q : Query) (a : Answer) → self ≡ opens.Reading pass txn → Stands (opens.Reading pass txn) → AnswersAsk (ask txn.view.schema txn.view.state q) (Ok a) → TurnsTo (command.Question q) self (opens.Reading pass txn) (said.answered a)
-reading_answered self pass txn q a is stands answers =
-    subst (λ (s : Open). TurnsTo (command.Question q) s (opens.Reading pass txn) (said.answered a)) (sym is)
-    (answered_turns q (opens.Reading pass txn) (opens.Reading pass txn) (record { number = txn.view.number; writes = []; uncommitted = false }) refl refl refl stands a (of_reading pass txn q (Ok a) stands.1 answers))
-
-pub reading_refused : (self : Open) (pass : Caller) (txn : Reading) (q : Query) (e : AskError) (rule : Option rules.the_data) (result : Result replies.the_data AllocError) → self ≡ opens.Reading pass txn → Stands (opens.Reading pass txn) → AnswersAsk (ask txn.view.schema txn.view.state q) (Err e) → rule ≡ question_rule e → MatchOption rule (IsErr result) (λ r. result ≡ Ok (replies.Refused r)) → IfOk result (λ r. TurnsTo (command.Question q) self (opens.Reading pass txn) (reply_of (caller_of self).schema r))
-reading_refused self pass txn q e rule result is stands answers rule_is told =
-    subst (λ (s : Open). IfOk result (λ r. TurnsTo (command.Question q) s (opens.Reading pass txn) (reply_of (caller_of s).schema r))) (sym is)
-    (refused_question q (opens.Reading pass txn) (opens.Reading pass txn) (record { number = txn.view.number; writes = []; uncommitted = false }) refl refl refl stands e rule result (of_reading pass txn q (Err e) stands.1 answers) rule_is told)
+pub reading_asked : (self : Open) (pass : Caller) (txn txn' : Reading) (q q' : Query) → self ≡ opens.Reading pass txn → Stands (opens.Reading pass txn) → txn' ≡ txn → q' ≡ q → TurnsTo (command.Question q) self (opens.Reading pass txn) (asked_reply (ask txn'.view.schema txn'.view.state q'))
+reading_asked self pass txn txn' q q' is stands same asked =
+    let sight : Sight = record { number = txn.view.number; writes = []; uncommitted = false } in
+    let here = asked_turns q (opens.Reading pass txn) (opens.Reading pass txn) sight refl refl refl stands in
+    let there = subst (λ (x : View). TurnsTo (command.Question q) (opens.Reading pass txn) (opens.Reading pass txn) (asked_reply (ask x.schema x.state q))) (sym stands.1) here in
+    let shared = subst (λ (t : Reading). TurnsTo (command.Question q) (opens.Reading pass txn) (opens.Reading pass txn) (asked_reply (ask t.view.schema t.view.state q))) (sym same) there in
+    let posed = subst (λ (x : Query). TurnsTo (command.Question q) (opens.Reading pass txn) (opens.Reading pass txn) (asked_reply (ask txn'.view.schema txn'.view.state x))) (sym asked) shared in
+    subst (λ (s : Open). TurnsTo (command.Question q) s (opens.Reading pass txn) (asked_reply (ask txn'.view.schema txn'.view.state q'))) (sym is) posed
 
 pub writing_same : (txn txn' : WriteTxn Bytes) → changes_of txn' ≡ changes_of txn → items_of txn' ≡ items_of txn → transaction_of (opens.Writing txn') ≡ transaction_of (opens.Writing txn)
 writing_same txn txn' changes items = ap (λ (t : Changes). writing (record { number = length t.caller.seen; writes = t.writes; texts = items_of txn' })) changes ∙ ap (λ (texts : List Bytes). writing (record { number = length (changes_of txn).caller.seen; writes = (changes_of txn).writes; texts = texts })) items

@@ -1,4 +1,5 @@
 pub mod Added
+pub mod Asking
 pub mod Carried
 pub mod DeskView
 pub mod KeptView

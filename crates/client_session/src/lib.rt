@@ -6,6 +6,7 @@
 //! history that the client's pass has seen.
 #![tactic(auto)]
 
+mod asked;
 mod desk;
 mod kept;
 mod named;

@@ -1,19 +1,20 @@
 //! The answers to the lines of a script.
-ghost use Rattle.std.specs.Prelude.{◌≡◌, ◌++◌, OnErr, OnOk, length, decimal, codes};
+ghost use Rattle.std.specs.Prelude.{◌≡◌, ◌++◌, OnErr, OnOk, length, decimal, codes, take};
 ghost use Rattle.mdb_datum.specs.Written.{row_text};
 ghost use Rattle.mem_txn.specs.Transactions.{deferred_items};
 ghost use Rattle.client_script.specs.Reply.{answer_text, did_lines, line_text, reply_text};
-ghost use Rattle.client_script.specs.Reply.{row_lines};
+ghost use Rattle.client_script.specs.Reply.{further, row_lines};
 ghost use Rattle.mdb_schema.specs.Schema.{DbSchema};
 ghost use Rattle.client_session.specs.inner.Looked.{IsLooked};
 ghost use Rattle.client_session.specs.inner.ReplyOf.{reply_of, IsNumbered, IsWord};
 ghost use Rattle.client_session.specs.inner.RuleName.{rule_name};
 
+use crate::asked::write_asked;
 use crate::rule::Rule;
 use mdb_datum::{Row, Text};
-use mdb_schema::{Answer, Rows, Schema};
-use mem_txn::{DeferredList, Receipt};
-use std::alloc::{AllocError, Global};
+use mdb_schema::{Answer, Query, Rows, Schema};
+use mem_txn::{DeferredList, ReadTxn, Receipt};
+use std::alloc::AllocError;
 
 /// The answer to one line.
 #[derive(Drop)]
@@ -33,6 +34,8 @@ pub(crate) enum Reply {
     Wiped(u64),
     Deferred,
     Answered(Answer),
+    /// The answer to a question of a read state. It is written from walks over the state's rows.
+    Asked(ReadTxn, Query),
     /// A snapshot stands on the commit of this number.
     KeptAt(u64),
     /// A snapshot stands on the commit of this number, with its transaction's writes.
@@ -55,7 +58,6 @@ impl Reply {
     /// Adds `LINE: ANSWER` and a line feed. After `AllocError` the text is as before.
     pub(crate) fn add(
         &self,
-        alloc: Global,
         line: u32,
         schema: &Schema,
         text: &mut Vec<u8>,
@@ -64,15 +66,21 @@ impl Reply {
             (text.new.items ≡ text.old.items ++ line_text line (reply_of schema.now self.now)) }
         ensures err { OnErr result (text.new.items ≡ text.old.items) }
     {
-        let mut whole = Vec::new(alloc);
-        self.write(line, schema, &mut whole)?;
-        text.extend_from_slice(&whole)
+        let before = text.len();
+        match self.write(line, schema, text) {
+            Ok(()) => Ok(()),
+            Err(error) => {
+                text.truncate(before);
+                Err(error)
+            }
+        }
     }
 
     /// Writes `LINE: ANSWER` and a line feed.
     fn write(&self, line: u32, schema: &Schema, out: &mut Vec<u8>) -> Result<(), AllocError>
-        ensures { OnOk result
+        ensures text { OnOk result
             (out.new.items ≡ out.old.items ++ line_text line (reply_of schema.now self.now)) }
+        ensures before { take (length out.old.items) out.new.items ≡ out.old.items }
     {
         write_number(u64::from(line), out)?;
         out.extend_from_slice(b": ")?;
@@ -83,8 +91,9 @@ impl Reply {
 
     /// Adds the answer alone.
     fn write_answer(&self, schema: &Schema, out: &mut Vec<u8>) -> Result<(), AllocError>
-        ensures { OnOk result
+        ensures text { OnOk result
             (out.new.items ≡ out.old.items ++ reply_text (reply_of schema.now self.now)) }
+        ensures before { take (length out.old.items) out.new.items ≡ out.old.items }
     {
         match self {
             Reply::ReadAt(_)
@@ -99,6 +108,7 @@ impl Reply {
             Reply::WokenBy(name, number) => write_woken(name, *number, out),
             Reply::Committed(receipt) => write_commit(receipt, out),
             Reply::Answered(answer) => write_rows(answer, out),
+            Reply::Asked(txn, query) => write_asked(txn, query, out),
             Reply::Refused(rule) => write_refused(*rule, schema, out),
             Reply::Ended
             | Reply::Aborted
@@ -128,8 +138,9 @@ impl Reply {
     /// Adds the answer that is words and a number.
     fn write_numbered(&self, out: &mut Vec<u8>) -> Result<(), AllocError>
         requires { IsNumbered self.now }
-        ensures { OnOk result ((schema : DbSchema) →
+        ensures text { OnOk result ((schema : DbSchema) →
             out.new.items ≡ out.old.items ++ reply_text (reply_of schema self.now)) }
+        ensures before { take (length out.old.items) out.new.items ≡ out.old.items }
     {
         match self {
             Reply::ReadAt(number) => write_at(b"read @", *number, out),
@@ -147,8 +158,9 @@ impl Reply {
     /// Adds the answer of a watch or a set that is words and a number.
     fn write_looked(&self, out: &mut Vec<u8>) -> Result<(), AllocError>
         requires { IsLooked self.now }
-        ensures { OnOk result ((schema : DbSchema) →
+        ensures text { OnOk result ((schema : DbSchema) →
             out.new.items ≡ out.old.items ++ reply_text (reply_of schema self.now)) }
+        ensures before { take (length out.old.items) out.new.items ≡ out.old.items }
     {
         match self {
             Reply::QuietAt(number) => write_at(b"quiet @", *number, out),
@@ -161,16 +173,19 @@ impl Reply {
 }
 
 /// Adds a word and a number.
-fn write_at(word: &[u8], number: u64, out: &mut Vec<u8>) -> Result<(), AllocError>
-    ensures { OnOk result (out.new.items ≡ out.old.items ++ (word.now ++ decimal number)) }
+pub(crate) fn write_at(word: &[u8], number: u64, out: &mut Vec<u8>) -> Result<(), AllocError>
+    ensures text { OnOk result (out.new.items ≡ out.old.items ++ (word.now ++ decimal number)) }
+    ensures before { take (length out.old.items) out.new.items ≡ out.old.items }
 {
     out.extend_from_slice(word)?;
-    write_number(number, out)
+    write_number(number, out)?;
+    Ok(())
 }
 
 /// Adds a number in decimal.
 fn write_number(number: u64, out: &mut Vec<u8>) -> Result<(), AllocError>
-    ensures { OnOk result (out.new.items ≡ out.old.items ++ decimal number) }
+    ensures text { OnOk result (out.new.items ≡ out.old.items ++ decimal number) }
+    ensures unchanged { OnErr result (out.new.items ≡ out.old.items) }
 {
     let mut buffer = itoa::Buffer::new();
     out.extend_from_slice(buffer.format(number).as_bytes())
@@ -178,17 +193,20 @@ fn write_number(number: u64, out: &mut Vec<u8>) -> Result<(), AllocError>
 
 /// Adds the answer to the snapshot of a write transaction.
 fn write_within(number: u64, out: &mut Vec<u8>) -> Result<(), AllocError>
-    ensures { OnOk result (out.new.items ≡ out.old.items
+    ensures text { OnOk result (out.new.items ≡ out.old.items
         ++ (codes "snapshot @" ++ (decimal number ++ codes "+"))) }
+    ensures before { take (length out.old.items) out.new.items ≡ out.old.items }
 {
     write_at(b"snapshot @", number, out)?;
-    out.extend_from_slice(b"+")
+    out.extend_from_slice(b"+")?;
+    Ok(())
 }
 
 /// Adds the answer to a wait that a member of the set has ended.
 fn write_woken(name: &Text, number: u64, out: &mut Vec<u8>) -> Result<(), AllocError>
-    ensures { OnOk result (out.new.items ≡ out.old.items
+    ensures text { OnOk result (out.new.items ≡ out.old.items
         ++ (codes "fired " ++ (name.now ++ (codes " @" ++ decimal number)))) }
+    ensures before { take (length out.old.items) out.new.items ≡ out.old.items }
 {
     out.extend_from_slice(b"fired ")?;
     out.extend_from_slice(name.as_str().as_bytes())?;
@@ -197,8 +215,9 @@ fn write_woken(name: &Text, number: u64, out: &mut Vec<u8>) -> Result<(), AllocE
 
 /// Adds the name of the rule that a line breaks.
 fn write_refused(rule: Rule, schema: &Schema, out: &mut Vec<u8>) -> Result<(), AllocError>
-    ensures { OnOk result (out.new.items ≡ out.old.items
+    ensures text { OnOk result (out.new.items ≡ out.old.items
         ++ (codes "refused " ++ rule_name schema.now rule)) }
+    ensures before { take (length out.old.items) out.new.items ≡ out.old.items }
 {
     out.extend_from_slice(b"refused ")?;
     rule.write(schema, out)
@@ -206,8 +225,9 @@ fn write_refused(rule: Rule, schema: &Schema, out: &mut Vec<u8>) -> Result<(), A
 
 /// Adds a commit's number, and a line for each deferred text.
 fn write_commit(receipt: &Receipt<Text>, out: &mut Vec<u8>) -> Result<(), AllocError>
-    ensures { OnOk result (out.new.items ≡ out.old.items ++ (codes "commit @"
+    ensures text { OnOk result (out.new.items ≡ out.old.items ++ (codes "commit @"
         ++ (decimal receipt.now.number ++ did_lines (deferred_items receipt.now.items)))) }
+    ensures before { take (length out.old.items) out.new.items ≡ out.old.items }
 {
     write_at(b"commit @", receipt.number, out)?;
     write_deferred(&receipt.items, out)
@@ -215,21 +235,33 @@ fn write_commit(receipt: &Receipt<Text>, out: &mut Vec<u8>) -> Result<(), AllocE
 
 /// Adds a line for each deferred text.
 fn write_deferred(items: &DeferredList<Text>, out: &mut Vec<u8>) -> Result<(), AllocError>
-    ensures { OnOk result (out.new.items ≡ out.old.items ++ did_lines (deferred_items items.now)) }
+    ensures text { OnOk result (out.new.items ≡ out.old.items ++ did_lines (deferred_items items.now)) }
+    ensures before { take (length out.old.items) out.new.items ≡ out.old.items }
 {
     for at in 0..items.len() {
         let Some(text) = items.get(at) else {
             unreachable!();
         };
-        out.extend_from_slice(b"\n  did ")?;
-        out.extend_from_slice(text.as_str().as_bytes())?;
+        write_did(text, out)?;
     }
     Ok(())
 }
 
+/// Adds a line for a deferred text.
+fn write_did(text: &Text, out: &mut Vec<u8>) -> Result<(), AllocError>
+    ensures text { OnOk result
+        (out.new.items ≡ out.old.items ++ further (codes "did " ++ text.now)) }
+    ensures before { take (length out.old.items) out.new.items ≡ out.old.items }
+{
+    out.extend_from_slice(b"\n  did ")?;
+    out.extend_from_slice(text.as_str().as_bytes())?;
+    Ok(())
+}
+
 /// Adds the answer to a question: a row or `none`, or a count and a line for each row.
-fn write_rows(answer: &Answer, out: &mut Vec<u8>) -> Result<(), AllocError>
-    ensures { OnOk result (out.new.items ≡ out.old.items ++ answer_text answer.now) }
+pub(crate) fn write_rows(answer: &Answer, out: &mut Vec<u8>) -> Result<(), AllocError>
+    ensures text { OnOk result (out.new.items ≡ out.old.items ++ answer_text answer.now) }
+    ensures before { take (length out.old.items) out.new.items ≡ out.old.items }
 {
     match answer {
         Answer::One(None) => out.extend_from_slice(b"none"),
@@ -240,16 +272,19 @@ fn write_rows(answer: &Answer, out: &mut Vec<u8>) -> Result<(), AllocError>
 
 /// Adds a row that was asked for.
 fn write_row(row: &Row, out: &mut Vec<u8>) -> Result<(), AllocError>
-    ensures { OnOk result (out.new.items ≡ out.old.items ++ (codes "row " ++ row_text row.now)) }
+    ensures text { OnOk result (out.new.items ≡ out.old.items ++ (codes "row " ++ row_text row.now)) }
+    ensures before { take (length out.old.items) out.new.items ≡ out.old.items }
 {
     out.extend_from_slice(b"row ")?;
-    row.append_doc(out)
+    row.append_doc(out)?;
+    Ok(())
 }
 
 /// Adds how many rows there are, and a line for each.
 fn write_list(rows: &Rows, out: &mut Vec<u8>) -> Result<(), AllocError>
-    ensures { OnOk result (out.new.items ≡ out.old.items
+    ensures text { OnOk result (out.new.items ≡ out.old.items
         ++ (codes "rows " ++ (decimal (length rows.now) ++ row_lines rows.now))) }
+    ensures before { take (length out.old.items) out.new.items ≡ out.old.items }
 {
     write_at(b"rows ", rows.len() as u64, out)?;
     write_each(rows, out)
@@ -257,14 +292,24 @@ fn write_list(rows: &Rows, out: &mut Vec<u8>) -> Result<(), AllocError>
 
 /// Adds a line for each row.
 fn write_each(rows: &Rows, out: &mut Vec<u8>) -> Result<(), AllocError>
-    ensures { OnOk result (out.new.items ≡ out.old.items ++ row_lines rows.now) }
+    ensures text { OnOk result (out.new.items ≡ out.old.items ++ row_lines rows.now) }
+    ensures before { take (length out.old.items) out.new.items ≡ out.old.items }
 {
     for at in 0..rows.len() {
         let Some(row) = rows.get(at) else {
             unreachable!();
         };
-        out.extend_from_slice(b"\n  ")?;
-        row.append_doc(out)?;
+        write_line(row, out)?;
     }
+    Ok(())
+}
+
+/// Adds a line for a row.
+pub(crate) fn write_line(row: &Row, out: &mut Vec<u8>) -> Result<(), AllocError>
+    ensures text { OnOk result (out.new.items ≡ out.old.items ++ further (row_text row.now)) }
+    ensures before { take (length out.old.items) out.new.items ≡ out.old.items }
+{
+    out.extend_from_slice(b"\n  ")?;
+    row.append_doc(out)?;
     Ok(())
 }

@@ -8,7 +8,7 @@ ghost use Rattle.client_session.specs.inner.ReplyOf.{reply_of};
 
 use crate::kept::Kept;
 use crate::open::Open;
-use crate::refusal::{question_rule, refused, txn_question_rule, wipe_rule, write_rule};
+use crate::refusal::{refused, txn_question_rule, wipe_rule, write_rule};
 use crate::reply::Reply;
 use crate::rule::Rule;
 use mdb_datum::{Row, Text};
@@ -17,7 +17,8 @@ use mem_txn::SnapError;
 use std::alloc::{AllocError, Global};
 
 impl Open {
-    /// What a question is answered.
+    /// What a question is answered. In a read transaction the answer is looked up as it is
+    /// written: the reply owns the transaction's state till then.
     pub(crate) fn ask(&mut self, query: &Query) -> Result<Reply, AllocError>
         requires stands { Stands self.old }
         ensures turn { IfOk result (λ r. TurnsTo (command.Question query.now) self.old self.new
@@ -26,10 +27,7 @@ impl Open {
     {
         match self {
             Open::Nothing(_) => Ok(Reply::Refused(Rule::NoTransaction)),
-            Open::Reading(_, txn) => match txn.ask(query) {
-                Ok(answer) => Ok(Reply::Answered(answer)),
-                Err(error) => refused(question_rule(error)),
-            },
+            Open::Reading(_, txn) => Ok(Reply::Asked(txn.snapshot()?, query.share()?)),
             Open::Writing(txn) => match txn.ask(query) {
                 Ok(answer) => Ok(Reply::Answered(answer)),
                 Err(error) => refused(txn_question_rule(error)),

@@ -1,5 +1,5 @@
 //! The rules that a line may break, and their names.
-ghost use Rattle.std.specs.Prelude.{◌≡◌, ◌++◌, OnOk, option_map};
+ghost use Rattle.std.specs.Prelude.{◌≡◌, ◌++◌, OnOk, length, option_map, take};
 ghost use Rattle.mdb_schema.specs.Schema.{DbSchema};
 ghost use Rattle.client_session.specs.inner.RuleName.{IsSessions, index_at, rule_name};
 ghost use Rattle.client_session.specs.inner.RuleName.{question_name, write_name, write_place};
@@ -41,7 +41,8 @@ pub(crate) enum Rule {
 impl Rule {
     /// Adds the rule's name, and that of the index where the rule has one.
     pub(crate) fn write(self, schema: &Schema, out: &mut Vec<u8>) -> Result<(), AllocError>
-        ensures { OnOk result (out.new.items ≡ out.old.items ++ rule_name schema.now self) }
+        ensures text { OnOk result (out.new.items ≡ out.old.items ++ rule_name schema.now self) }
+        ensures before { take (length out.old.items) out.new.items ≡ out.old.items }
     {
         match self {
             Rule::Question(error) => out.extend_from_slice(question_name(error)),
@@ -72,7 +73,7 @@ impl Rule {
 }
 
 /// The name of a question's rule.
-fn question_name(error: AskError) -> &'static [u8]
+pub(crate) fn question_name(error: AskError) -> &'static [u8]
     ensures { result.now ≡ question_name error }
 {
     match error {
@@ -141,8 +142,9 @@ fn write_row_rule(
     error: WriteError,
     out: &mut Vec<u8>,
 ) -> Result<(), AllocError>
-    ensures { OnOk result (out.new.items ≡ out.old.items
+    ensures text { OnOk result (out.new.items ≡ out.old.items
         ++ (write_name error ++ index_part_at schema.now table (write_place error))) }
+    ensures before { take (length out.old.items) out.new.items ≡ out.old.items }
 {
     out.extend_from_slice(write_name(error))?;
     let Some(index) = write_place(error) else {
@@ -152,5 +154,6 @@ fn write_row_rule(
         return Ok(());
     };
     out.push(b' ')?;
-    out.extend_from_slice(name.as_str().as_bytes())
+    out.extend_from_slice(name.as_str().as_bytes())?;
+    Ok(())
 }

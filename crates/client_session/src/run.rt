@@ -16,7 +16,7 @@ use client_script::{Line, Script};
 use mdb_ports::Gate;
 use mdb_schema::Schema;
 use mem_txn::Db;
-use std::alloc::{AllocError, Global};
+use std::alloc::AllocError;
 use std::sync::Wait;
 
 /// Carries out a script from a place on, and adds its answers to a text. It gives the desk, with
@@ -109,7 +109,7 @@ fn answer_line<R: Wait, G: Gate>(
     let alloc = *text.allocator();
     gate.before(client, line.number);
     let (desk, told) = desk.turn(rt, alloc, db, &line.command);
-    let added = add_reply(alloc, db.schema(), line.number, told, text);
+    let added = add_reply(db.schema(), line.number, told, text);
     if added.is_ok() {
         gate.after(client, line.number);
     }
@@ -118,7 +118,6 @@ fn answer_line<R: Wait, G: Gate>(
 
 /// Adds the reply to a line, where its turn gave one. After `AllocError` the text is as before.
 fn add_reply(
-    alloc: Global,
     schema: &Schema,
     line: u32,
     told: Result<Reply, AllocError>,
@@ -129,7 +128,7 @@ fn add_reply(
     ensures kept { OnErr result (text.new.items ≡ text.old.items) }
 {
     match told {
-        Ok(reply) => reply.add(alloc, line, schema, text),
+        Ok(reply) => reply.add(line, schema, text),
         Err(error) => Err(error),
     }
 }
@@ -155,7 +154,7 @@ pub(crate) fn step_line<R: Wait>(
 {
     let alloc = *text.allocator();
     let (desk, told) = desk.step(rt, alloc, db, &line.command);
-    let added = add_step(alloc, db.schema(), line.number, told, text);
+    let added = add_step(db.schema(), line.number, told, text);
     match added {
         Ok(answered) => (desk, Ok(answered)),
         Err(error) => (desk.closed(alloc, db), Err(error)),
@@ -165,7 +164,6 @@ pub(crate) fn step_line<R: Wait>(
 /// Adds the reply to a line, where its step gave one, and tells whether it did. After `AllocError`
 /// the text is as before.
 fn add_step(
-    alloc: Global,
     schema: &Schema,
     line: u32,
     told: Result<Option<Reply>, AllocError>,
@@ -174,7 +172,7 @@ fn add_step(
     ensures { IsAdded schema.now line told text.old.items text.new.items result }
 {
     match told.transpose() {
-        Some(reply) => add_reply(alloc, schema, line, reply, text).map(|_| true),
+        Some(reply) => add_reply(schema, line, reply, text).map(|_| true),
         None => Ok(false),
     }
 }

@@ -1,10 +1,12 @@
 -- Replies, as the definitions of sessions see them.
 use Rattle.std.specs.Prelude.{⊤}
+use Rattle.mdb_schema.specs.Answer.{ask}
 use Rattle.mdb_schema.specs.Schema.{DbSchema}
 use Rattle.mem_txn.specs.Transactions.{deferred_items}
 use Rattle.client_script.specs.Reply as said
 use Rattle.client_session.specs.declared.reply.Reply.{Reply}
 use Rattle.client_session.specs.declared.reply.Reply.TheVariants as reply
+use Rattle.client_session.specs.inner.Asking.{asked_reply}
 use Rattle.client_session.specs.inner.RuleName.{rule_name}
 
 abbrev pub reply_of : DbSchema → Reply → said.Reply
@@ -19,6 +21,8 @@ reply_of schema reply.Deleted = said.deleted
 reply_of schema (reply.Wiped k) = said.wiped k
 reply_of schema reply.Deferred = said.deferred
 reply_of schema (reply.Answered a) = said.answered a
+reply_of schema (reply.Asked reading q) =
+    asked_reply (ask reading.view.schema reading.view.state q)
 reply_of schema (reply.KeptAt n) = said.kept_at n
 reply_of schema (reply.KeptWithin n) = said.kept_within n
 reply_of schema (reply.QuietAt n) = said.quiet_at n

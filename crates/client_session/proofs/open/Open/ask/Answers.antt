@@ -1,16 +1,13 @@
 use Rattle.std.proofs.Common.{subst}
 use Rattle.client_session.specs.inner.OpenView.{Stands}
-use Rattle.client_session.proofs.RequestTurns.{reading_answered, reading_refused, writing_answered, writing_refused}
+use Rattle.client_session.proofs.RequestTurns.{reading_asked, writing_answered, writing_refused}
 use Rattle.client_session.proofs.open.Open.ask.Goals as goal
 
+pub returns-in_ok-share-in-Reading-clause-turn : goal.returns-in_ok-share-in-Reading-clause-turn
+returns-in_ok-share-in-Reading-clause-turn c = reading_asked c.args.self.now c.in-Reading.field-0 c.in-Reading.txn _ c.args.query.now _ c.in-Reading.is (subst Stands c.in-Reading.is c.requires.stands) c.in_ok-snapshot-in-Reading.ensures c.in_ok-share-in-Reading.ensures
+
 pub returns-in-Ok-clause-turn : goal.returns-in-Ok-clause-turn
-returns-in-Ok-clause-turn c = reading_answered c.args.self.now c.in-Reading.field-0 c.in-Reading.txn c.args.query.now c.in-Ok.answer c.in-Reading.is (subst Stands c.in-Reading.is c.requires.stands) c.in-Ok.ensures
+returns-in-Ok-clause-turn c = writing_answered c.args.self.now c.in-Writing.txn c.ask.new.self c.args.query.now c.in-Ok.answer c.in-Writing.is (subst Stands c.in-Writing.is c.requires.stands) c.in-Ok.ensures.answers c.in-Ok.ensures.changes c.in-Ok.ensures.items
 
 pub returns-in-Err-clause-turn : goal.returns-in-Err-clause-turn
-returns-in-Err-clause-turn c = reading_refused c.args.self.now c.in-Reading.field-0 c.in-Reading.txn c.args.query.now c.in-Err.error c.question_rule.result c.refused.result c.in-Reading.is (subst Stands c.in-Reading.is c.requires.stands) c.in-Err.ensures c.question_rule.ensures c.refused.ensures
-
-pub returns-in-Ok-ask-clause-turn : goal.returns-in-Ok-ask-clause-turn
-returns-in-Ok-ask-clause-turn c = writing_answered c.args.self.now c.in-Writing.txn c.ask-in-Writing.new.self c.args.query.now c.in-Ok-ask.answer c.in-Writing.is (subst Stands c.in-Writing.is c.requires.stands) c.in-Ok-ask.ensures.answers c.in-Ok-ask.ensures.changes c.in-Ok-ask.ensures.items
-
-pub returns-in-Err-ask-clause-turn : goal.returns-in-Err-ask-clause-turn
-returns-in-Err-ask-clause-turn c = writing_refused c.args.self.now c.in-Writing.txn c.ask-in-Writing.new.self c.args.query.now c.in-Err-ask.error c.txn_question_rule.result c.refused-in-Err-ask.result c.in-Writing.is (subst Stands c.in-Writing.is c.requires.stands) c.in-Err-ask.ensures.answers c.in-Err-ask.ensures.changes c.in-Err-ask.ensures.items c.txn_question_rule.ensures c.refused-in-Err-ask.ensures
+returns-in-Err-clause-turn c = writing_refused c.args.self.now c.in-Writing.txn c.ask.new.self c.args.query.now c.in-Err.error c.txn_question_rule.result c.refused.result c.in-Writing.is (subst Stands c.in-Writing.is c.requires.stands) c.in-Err.ensures.answers c.in-Err.ensures.changes c.in-Err.ensures.items c.txn_question_rule.ensures c.refused.ensures
