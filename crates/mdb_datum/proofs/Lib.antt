@@ -6,5 +6,7 @@ pub mod OnLiterals
 pub mod Readings
 pub mod Regular
 pub mod RoundTrip
+pub mod SameDocs
+pub mod SamePlaces
 pub mod Variants
 pub mod TokenText

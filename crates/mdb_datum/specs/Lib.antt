@@ -5,5 +5,6 @@ pub mod Doc
 pub mod Pairs
 pub mod Reading
 pub mod Row
+pub mod Same
 pub mod Written
 pub mod inner

@@ -7,13 +7,14 @@
 //!
 //! Reading and writing take time and memory in proportion to the text. A look-up by place takes
 //! constant time. A member of a row is found in the logarithm of their number, and one of an object
-//! inside a row by a walk from the front. Sharing a row takes no memory.
+//! inside a row by a walk from the front. Sharing a row takes no memory, and so does comparing two.
 #![tactic(auto)]
 
 mod datum;
 mod error;
 mod read;
 mod row;
+mod same;
 #[cfg(test)]
 mod tests;
 mod text;

@@ -1,11 +1,12 @@
 //! Rows: shared objects.
-ghost use Rattle.std.specs.Prelude.{◌≡◌, ◌++◌, IfOk, OnErr, OnOk, option_map};
+ghost use Rattle.std.specs.Prelude.{◌≡◌, ◌++◌, Decides, IfOk, OnErr, OnOk, option_map};
 ghost use Rattle.mdb_datum.specs.Datum.{doc_of, members_of};
 ghost use Rattle.mdb_datum.specs.Doc.{object, field_list, member};
 ghost use Rattle.mdb_datum.specs.Reading.{reading, read_as};
 ghost use Rattle.mdb_datum.specs.Row.{IsCanonicalRow};
 ghost use Rattle.mdb_datum.specs.Written.{row_text};
 
+use crate::same::has_same_members;
 use crate::write::{append_members, write_members};
 use crate::{Datum, Members};
 use std::alloc::{AllocError, Global};
@@ -85,5 +86,13 @@ impl Row {
         ensures { option_map (λ d. doc_of d.now) result ≡ member name.now self.now }
     {
         self.members.find(name)
+    }
+
+    /// Whether two rows have the same members. It takes no memory, and at most time in proportion
+    /// to the rows' texts: it stops at the first difference.
+    pub fn has_same_members(&self, other: &Row) -> bool
+        ensures { Decides result (self.now ≡ other.now) }
+    {
+        has_same_members(&self.members, &other.members)
     }
 }

@@ -438,3 +438,66 @@ fn a_row_is_shared_by_threads(rt: HostRuntime) -> Result<(), Fail> {
     assert!(rt; is_row_shared(&rt, rt.alloc())?);
     Ok(())
 }
+
+/// Whether two rows are told to have the same members or not, each way round.
+fn are_told(alloc: Global, one: &str, other: &str, want: bool) -> Result<bool, Fail> {
+    let one = row_of(alloc, one)?;
+    let other = row_of(alloc, other)?;
+    Ok(one.has_same_members(&other) == want && other.has_same_members(&one) == want)
+}
+
+/// Rows with the same members, which their texts give in other orders or with other blanks.
+static SAME: [(&str, &str); 9] = [
+    ("{}", " { } "),
+    ("{\"a\":null}", "{\"a\" : null}"),
+    ("{\"b\":2,\"a\":true}", "{\"a\":true,\"b\":2}"),
+    ("{\"a\":\"\\u0041\"}", "{\"a\":\"A\"}"),
+    ("{\"a\":1,\"a\":-7}", "{\"a\":-7}"),
+    ("{\"a\":[]}", "{\"a\":[ ]}"),
+    ("{\"a\":[1,[true,\"x\"]]}", "{\"a\":[1, [true, \"x\"]]}"),
+    ("{\"a\":{\"c\":{},\"b\":0}}", "{\"a\":{\"b\":0,\"c\":{}}}"),
+    (
+        "{\"a\":18446744073709551615}",
+        "{\"a\":18446744073709551615}",
+    ),
+];
+
+#[test]
+fn rows_of_the_same_members_are_the_same(rt: HostRuntime) -> Result<(), Fail> {
+    for (one, other) in &SAME {
+        assert!(rt; are_told(rt.alloc(), one, other, true)?, "{one}");
+    }
+    Ok(())
+}
+
+/// Rows that differ, each in one way.
+static DIFFERENT: [(&str, &str); 20] = [
+    ("{}", "{\"a\":null}"),
+    ("{\"a\":1}", "{\"b\":1}"),
+    ("{\"a\":1}", "{\"ab\":1}"),
+    ("{\"a\":1}", "{\"a\":1,\"b\":2}"),
+    ("{\"a\":1,\"b\":2}", "{\"a\":1,\"b\":3}"),
+    ("{\"a\":1,\"b\":2}", "{\"a\":0,\"b\":2}"),
+    ("{\"a\":1,\"b\":2}", "{\"a\":1,\"c\":2}"),
+    ("{\"a\":null}", "{\"a\":false}"),
+    ("{\"a\":true}", "{\"a\":false}"),
+    ("{\"a\":0}", "{\"a\":false}"),
+    ("{\"a\":1}", "{\"a\":-1}"),
+    ("{\"a\":1}", "{\"a\":\"1\"}"),
+    ("{\"a\":\"x\"}", "{\"a\":\"xy\"}"),
+    ("{\"a\":\"x\"}", "{\"a\":\"X\"}"),
+    ("{\"a\":[]}", "{\"a\":{}}"),
+    ("{\"a\":[1]}", "{\"a\":[1,1]}"),
+    ("{\"a\":[1,2]}", "{\"a\":[2,1]}"),
+    ("{\"a\":[1,[2]]}", "{\"a\":[1,[3]]}"),
+    ("{\"a\":{\"b\":1}}", "{\"a\":{\"b\":1,\"c\":1}}"),
+    ("{\"a\":{\"b\":[{}]}}", "{\"a\":{\"b\":[{\"c\":0}]}}"),
+];
+
+#[test]
+fn rows_that_differ_anywhere_differ(rt: HostRuntime) -> Result<(), Fail> {
+    for (one, other) in &DIFFERENT {
+        assert!(rt; are_told(rt.alloc(), one, other, false)?, "{one}");
+    }
+    Ok(())
+}

@@ -24,6 +24,8 @@ pub mod RowsLeft
 pub mod RowsWith
 pub mod RowsWithout
 pub mod NameSearch
+pub mod NetLaws
+pub mod NetMerged
 pub mod ShapeLemmas
 pub mod Tables
 pub mod WriteTests

@@ -9,6 +9,7 @@ pub mod LawfulSchema
 pub mod Laws
 pub mod Members
 pub mod Names
+pub mod Net
 pub mod Query
 pub mod Reading
 pub mod Refusals

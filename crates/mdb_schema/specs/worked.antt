@@ -8,6 +8,7 @@ pub mod TwoRules
 pub mod WholeSchemas
 pub mod WorkedGuards
 pub mod WorkedKinds
+pub mod WorkedNets
 pub mod WorkedQuestions
 pub mod WorkedRefusals
 pub mod WorkedWrites

@@ -2,6 +2,7 @@
 //! contract is the law.
 ghost use Rattle.mdb_schema.specs.Laws.{StepKeeps, HistoryKeeps, EachKeyIsAnEntry, EachEntryIsAKey};
 ghost use Rattle.mdb_schema.specs.Laws.{EntriesRise, WipeLeaves, WipeOfNothing};
+ghost use Rattle.mdb_schema.specs.Net.{NetLeadsToNew, NetOfUndone, NoNetWhereSame};
 
 /// A write that is accepted keeps a lawful state lawful, and so the state after any commits is
 /// lawful.
@@ -23,4 +24,12 @@ pub fn entries_are_the_full_keys()
 pub fn wipes_take_out_what_they_list()
     ensures leaves { WipeLeaves }
     ensures nothing { WipeOfNothing }
+{}
+
+/// The net of two lists of rows, made on the first, gives the second. There is none exactly where
+/// both are the same, and so writes that undo each other leave none.
+pub fn nets_are_what_differs()
+    ensures leads { NetLeadsToNew }
+    ensures empty { NoNetWhereSame }
+    ensures undone { NetOfUndone }
 {}
