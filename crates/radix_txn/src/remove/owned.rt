@@ -85,6 +85,9 @@ fn take_in(
 }
 
 /// The same, where what is left of the node is made anew and the node stays as it is.
+///
+/// It isn't inlined, and neither is [`settle_edge`]: the walk down takes the less stack a level.
+#[inline(never)]
 fn take_copy(
     node: &Node,
     rest: &[u8],
@@ -125,6 +128,7 @@ fn next_edge<'a>(node: &Node, rest: &'a [u8]) -> Option<(usize, &'a [u8])>
 
 /// The node where that at the edge at a place is left with `below`: another node comes there, or the
 /// node is to lose the edge.
+#[inline(never)]
 fn settle_edge(
     node: &mut Node,
     at: usize,
