@@ -28,12 +28,12 @@ use Rattle.mdb_schema.specs.Query.{Query}
 use Rattle.mdb_schema.specs.Refusals.{AnswersAsk, ask_error}
 use Rattle.mdb_schema.specs.declared.answer.Answer.{Answer}
 use Rattle.mdb_schema.specs.declared.ask_error.AskError.{AskError}
-use Rattle.client_session.specs.Steps.{HasNotLost}
+use Rattle.client_session.specs.Steps.{HasDoneOnce}
 use Rattle.client_session.proofs.CellsTold.{tells_rows}
 use Rattle.client_session.proofs.ToldCounts.{TellsNone, answered_none}
 use Rattle.client_session.proofs.FollowsOn.{follows_then, holds_on, knows_on, seen_more, within_more}
 use Rattle.client_session.proofs.KeptSteps.{seen_step}
-use Rattle.client_session.proofs.OpenTurns.{looks_self, no_more}
+use Rattle.client_session.proofs.OpenTurns.{looks_self, none_made}
 use Rattle.client_session.proofs.RequestTurns.{rule_of_question, name_of_question, none_numbered, answer_makes, refused_makes}
 use Rattle.client_session.specs.declared.rule.Rule.TheVariants as rules
 use Rattle.client_session.specs.inner.Refusal.{question_rule}
@@ -118,7 +118,7 @@ module _ (c : Command) (d d' : Desk) (r : said.Reply) (known : is_of_watches c �
   trees : List Forest
   trees = to.grows.0
 
-  grown : caller_of d'.«open» ≡ record p { seen = p.seen ++ more; trees = p.trees ++ trees; own = p.own ++ more }
+  grown : caller_of d'.«open» ≡ record p { seen = p.seen ++ more; trees = p.trees ++ trees; own = p.own ++ more; log = (caller_of d'.«open»).log }
   unfolding p more trees
   grown = to.grows.1
 
@@ -182,7 +182,7 @@ once_told c d d' s (Err e) starts stands to = tt
 pub tried_told : (n : ℕ) (c : Command) (d : Desk) (o : Open) (s s' : DbSchema) (told : Result (Option replied_by.the_data) AllocError) → c ≡ command.Write → s ≡ s' → IfOk told (λ r. TriesWrite n d.«open» o (option_map (reply_of s) r)) → IfOk told (λ r. StepsTo n c d (desk_with d o) (option_map (reply_of s') r))
 tried_told n c d o s s' (Ok (Some r)) is same tries = (
   looked_told command.Write c d o s s' (Ok r) is same refl tries.0,
-  subst (λ (x : Command). HasNotLost x (caller_of d.«open») (caller_of o)) (sym is) tries.1,
+  subst (λ (x : Command). HasDoneOnce x (caller_of d.«open») (caller_of o)) (sym is) tries.1,
 )
 tried_told n c d o s s' (Ok None) is same tries = subst (λ (x : Command). IsHeldUp n x d (desk_with d o)) (sym is) (record { looks = tries.0; snapshots = refl; watching = refl; why = tries.1 })
 tried_told n c d o s s' (Err e) is same tries = tt
@@ -191,7 +191,7 @@ tried_told n c d o s s' (Err e) is same tries = tt
 
 -- a reply that tells no commit makes none
 pub none_grown : (p : Caller) (t : Transaction) (r : said.Reply) → made p.number t r ≡ [] → Grows p p t r
-none_grown p t r makes = ([], no_more p ∙ ap (λ (cs : History). record p { seen = p.seen ++ cs; trees = p.trees ++ []; own = p.own ++ cs }) (sym makes))
+none_grown p t r makes = none_made p p (made p.number t r) makes refl
 
 kept_makes : (t' : Transaction) (s : Sight) (n : ℕ) (t : Transaction) → made n t (snapshot_reply t' s) ≡ []
 kept_makes closed s n closed = refl

@@ -8,12 +8,13 @@ use Rattle.mdb_schema.specs.Guarded.{IsUnchanged}
 use Rattle.mdb_schema.specs.Tests.{◌>>=◌, needed}
 use Rattle.mdb_schema.specs.Watchable.{IsTouched}
 use Rattle.mem_txn.specs.CellHistory.{AreComplete, MovesAreTouches, cell_at}
-use Rattle.mem_txn.specs.Checked.{AnswersCheck, HasLooked, IsBeginning, IsFired, IsHeldBy, number_of}
+use Rattle.mem_txn.specs.Checked.{AnswersCheck, IsBeginning, IsFired, IsHeldBy, LooksOnce, number_of}
 use Rattle.mem_txn.specs.Database.{Caller, HasSeen, cells_seen}
 use Rattle.mem_txn.specs.Held.{HeldWatch}
 use Rattle.mem_txn.specs.declared.look.Look.{Look}
 use Rattle.mem_txn.specs.declared.look.Look.TheVariants as look
-use Rattle.watch_set.specs.Checks.{HasChecked, OnlyLooks}
+use Rattle.mem_txn.proofs.OneLook.{last_read}
+use Rattle.watch_set.specs.Checks.{OnlyLooks}
 use Rattle.watch_set.specs.Members.{Member}
 use Rattle.client_script.specs.Client.{Client, Judged, Watch, WatchSet, no_write_open, set_named, watch_named}
 use Rattle.client_script.specs.Reply.{Reply, fired_at, quiet_at, refused}
@@ -27,7 +28,7 @@ use Rattle.client_session.specs.inner.SetsKept.{look_reply}
 use Rattle.client_session.specs.inner.WatchingView.{HasLookedOn, Holds, IsSet, IsSetOf, Knows, PrintsRead, TellsLook, watch_of}
 use Rattle.client_session.proofs.CellsTold.{fired_moved}
 use Rattle.client_session.proofs.HeldOn.{holds_longer, knows_longer}
-use Rattle.client_session.proofs.OpenTurns.{later_seen, later_self}
+use Rattle.client_session.proofs.OpenTurns.{later_seen}
 use Rattle.client_session.proofs.ToldCounts.{among_append}
 
 -- ---- a caller that has looked
@@ -40,31 +41,28 @@ begins old new seen = record {
   trees = seen.trees;
 }
 
-pub checked_begins : (old new : Caller) (hs : List HeldWatch) → HasChecked old new hs → IsBeginning old new
-checked_begins old new [] same = subst (IsBeginning old) (sym same) (record { schema = refl; book = refl; seen = ([], append-nil old.seen); trees = ([], append-nil old.trees) })
-checked_begins old new (h ∷ hs) seen = begins old new seen
-
 pub looked_on : (old new : Caller) → HasSeen old new → new.tries ≡ old.tries → HasLookedOn old new
 looked_on old new seen tries = record { later = later_seen old new seen; own = ap (λ (p : Caller). p.own) seen.others; tries = tries }
 
-looked_none : (p : Caller) → HasLookedOn p p
-looked_none p = record { later = later_self p; own = refl; tries = refl }
-
-pub checked_on : (old new : Caller) (hs : List HeldWatch) → HasChecked old new hs → OnlyLooks old new → HasLookedOn old new
-checked_on old new [] same looks = subst (HasLookedOn old) (sym same) (looked_none old)
-checked_on old new (h ∷ hs) seen looks = looked_on old new seen (ap (λ (p : Caller). p.tries) looks)
+pub only_looked : (old new : Caller) → OnlyLooks old new → HasLookedOn old new
+only_looked old new looks = looked_on old new looks.seen (ap (λ (p : Caller). p.tries) looks.others)
 
 -- ---- the count that is printed
 
 at_end : (at : ℕ) (xs ys : List ℕ) → AreAmong (at ∷ []) (xs ++ (ys ++ at ∷ []))
 at_end at xs ys = among_append [] (at ∷ []) xs (ys ++ at ∷ []) tt (among_append [] (at ∷ []) ys (at ∷ []) tt (inl (refl, tt)))
 
-pub prints_count : (old mid new : Caller) (at : ℕ) (r : Reply) → IsPrefix old.counts mid.counts → HasLooked mid new at → count_told r ≡ at ∷ [] → PrintsRead old new r
-prints_count old mid new at r before looked is = record {
-  read = before.0 ++ (looked.read ++ at ∷ []);
-  counts = looked.counts ∙ ap (λ (ns : List ℕ). ns ++ (looked.read ++ at ∷ [])) (sym before.1) ∙ append_assoc old.counts before.0 (looked.read ++ at ∷ []);
-  loads = subst (λ (ns : List ℕ). AreAmong ns (before.0 ++ (looked.read ++ at ∷ []))) (sym is) (at_end at before.0 looked.read);
-}
+-- a look begins at a pass that may have read counts before it
+pub prints_count : (old mid new : Caller) (at : ℕ) (r : Reply) → IsPrefix old.counts mid.counts → LooksOnce mid new → at ≡ length new.seen → count_told r ≡ at ∷ [] → PrintsRead old new r
+prints_count old mid new at r before look last is =
+    let looked = last_read mid new look in
+    let read : List ℕ = looked.0 ++ at ∷ [] in
+    let counts : new.counts ≡ mid.counts ++ read = looked.1 ∙ ap (λ (n : ℕ). mid.counts ++ (looked.0 ++ n ∷ [])) (sym last) in
+    record {
+      read = before.0 ++ read;
+      counts = counts ∙ ap (λ (ns : List ℕ). ns ++ read) (sym before.1) ∙ append_assoc old.counts before.0 read;
+      loads = subst (λ (ns : List ℕ). AreAmong ns (before.0 ++ read)) (sym is) (at_end at before.0 looked.0);
+    }
 
 pub prints_none : (p : Caller) (rule : Bytes) → PrintsRead p p (refused rule)
 prints_none p rule = record { read = []; counts = sym (append-nil p.counts); loads = tt }
@@ -138,25 +136,22 @@ prints_number old (look.Fired at) = refl
 checked : (old new : Caller) (name : Bytes) (h : HeldWatch) (l : Look) → IsHeldBy new h → MovesAreTouches (cells_seen new) → AnswersCheck old new h l
     → IsChecked new.schema new.seen new.number (length new.seen) (watch_of name h) (reply_of old.schema (look_reply l))
 checked old new name h (look.Quiet at) held law answers =
-    let looked = answers.0 in
-    let quiet = answers.1 in
-    inl (ap quiet_at looked.number, subst (λ (n : ℕ). IsUnchanged new.schema new.seen new.number h.query h.number n) looked.number quiet.unchanged)
+    let quiet = answers.2 in
+    inl (ap quiet_at answers.1, subst (λ (n : ℕ). IsUnchanged new.schema new.seen new.number h.query h.number n) answers.1 quiet.unchanged)
 checked old new name h (look.Fired at) held law answers =
-    let looked = answers.0 in
-    inr (ap fired_at looked.number, fired_touched new h at law held looked.number answers.1)
+    inr (ap fired_at answers.1, fired_touched new h at law held answers.1 answers.2)
 
 -- a watch that has fired has another cell
 moved : (g : Watching) (v : Client) (name : Bytes) (old new : Caller) (h : HeldWatch) (l : Look) (next : Client) → Knows old g v.watching → get_by_text g.watches.kept name ≡ Some h → IsHeldBy new h → AreComplete (cells_seen new) → AnswersCheck old new h l
     → TellsCells (cells_seen new) v (command.Check name) (reply_of old.schema (look_reply l)) next
 moved g v name old new h (look.Quiet at) next knows there held complete answers = tt
 moved g v name old new h (look.Fired at) next knows there held complete answers =
-    let looked = answers.0 in
-    (watch_of name h, named_watch old g v name h knows there, fired_moved new h name at complete held looked.number answers.1)
+    (watch_of name h, named_watch old g v name h knows there, fired_moved new h name at complete held answers.1 answers.2)
 
 pub check_told : (g : Watching) (name : Bytes) (old new : Caller) (h : HeldWatch) (l : Look) → get_by_text g.watches.kept name ≡ Some h → Holds old g → HasSeen old new → IsHeldBy new h → MovesAreTouches (cells_seen new) → AreComplete (cells_seen new)
     → AnswersCheck old new h l → TellsLook g (command.Check name) old new (reply_of old.schema (look_reply l))
 check_told g name old new h l there holds seen held law complete answers = record {
-  prints = prints_count old old new (number_of l) (reply_of old.schema (look_reply l)) ([], append-nil old.counts) answers.0 (prints_number old l);
+  prints = prints_count old old new (number_of l) (reply_of old.schema (look_reply l)) ([], append-nil old.counts) answers.0 answers.1 (prints_number old l);
   told = λ v may. record {
     next = told_number (length new.seen) v;
     says = judged_so v (check_judged v name) (watch_of name h) (reply_of old.schema (look_reply l)) (told_number (length new.seen) v) _ (check_free v may.free name ∙ called_watch old g v name h may.knows there) (checked old new name h l held law answers, refl);

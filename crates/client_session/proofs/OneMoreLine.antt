@@ -131,6 +131,7 @@ later_again p q r one two = record {
   seen = prefix_twice p.seen q.seen r.seen one.seen two.seen;
   counts = prefix_twice p.counts q.counts r.counts one.counts two.counts;
   tries = prefix_twice p.tries q.tries r.tries one.tries two.tries;
+  log = (two.log.0 ∙ one.log.0, prefix_twice p.log.fired q.log.fired r.log.fired one.log.1 two.log.1);
 }
 
 module _ (pass : Caller) (before : List Reply) (done : List Line) (d at : Desk) (now : Bytes) (carried : Carried pass before done d now) (looks : Looks d.«open» at.«open») (same : at.snapshots ≡ d.snapshots) (watching : at.watching ≡ d.watching) where
@@ -175,7 +176,7 @@ module _ (pass : Caller) (before : List Reply) (done : List Line) (d d' : Desk) 
   trees : List Forest
   trees = step.grows.0
 
-  grown : caller_of d'.«open» ≡ record p { seen = p.seen ++ new; trees = p.trees ++ trees; own = p.own ++ new }
+  grown : caller_of d'.«open» ≡ record p { seen = p.seen ++ new; trees = p.trees ++ trees; own = p.own ++ new; log = (caller_of d'.«open»).log }
   unfolding p new trees
   grown = step.grows.1
 
@@ -217,6 +218,7 @@ module _ (pass : Caller) (before : List Reply) (done : List Line) (d d' : Desk) 
     trees = (trees, sym (ap (λ (q : Caller). q.trees) grown));
     counts = ([], append-nil p.counts ∙ sym (ap (λ (q : Caller). q.counts) grown));
     tries = ([], append-nil p.tries ∙ sym (ap (λ (q : Caller). q.tries) grown));
+    log = step.grows.2;
   })
 
   pub one_more : Carried pass before (done ++ l ∷ []) d' after
@@ -375,7 +377,7 @@ carried_ok pass back script from to d text after (Err e) is carried = tt
 
 -- a pass that has seen more is of the same database
 pub own_later : (db : Database) (p q : Caller) → IsOf db p → IsLater p q → IsOf db q
-own_later db p q own later = (later.database ∙ own.0, later.schema ∙ own.1)
+own_later db p q own later = (later.database ∙ own.0, later.schema ∙ own.1, later.book ∙ own.2)
 
 -- and holds what is watched
 pub holds_now : (pass : Caller) (script : List Line) (from at : ℕ) (d : Desk) (text now : Bytes) → CarriedOn pass script from at text d now → Holds (caller_of d.«open») d.watching

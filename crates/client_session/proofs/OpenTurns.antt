@@ -4,7 +4,12 @@ use Rattle.std.specs.Prelude.{codes, nat_lt}
 use Rattle.std.specs.declared.alloc.AllocError.{AllocError}
 use Rattle.std.proofs.lemmas.List.{append-nil, length-append}
 use Rattle.mdb_datum.specs.Bytes.{Bytes}
-use Rattle.mem_txn.specs.Changes.{Changes, begun}
+use Rattle.watch_word.specs.Logs as logs
+use Rattle.watch_word.specs.Logs.{Log}
+use Rattle.mdb_schema.specs.History.{History}
+use Rattle.mem_txn.specs.CellHistory.{Forest}
+use Rattle.mem_txn.proofs.OneHistory.{later_itself}
+use Rattle.mem_txn.specs.Changes.{Changes, after_commit, begun}
 use Rattle.mem_txn.specs.Checked.{IsBeginning}
 use Rattle.mem_txn.proofs.SeenBegins.{begins_itself}
 use Rattle.mem_txn.specs.Database.{Caller, HasRead, HasSeen, Reading, reading_of}
@@ -22,7 +27,7 @@ use Rattle.client_script.specs.Turn.{commit_limit, outcome, turn}
 use Rattle.client_script.specs.declared.command.Command.{Command}
 use Rattle.client_script.specs.declared.command.Command.TheVariants as command
 use Rattle.client_session.specs.Answered.{IsLater}
-use Rattle.client_session.specs.Steps.{HasNotLost}
+use Rattle.client_session.specs.Steps.{HasDoneOnce}
 use Rattle.client_session.specs.declared.open.Open.{Open}
 use Rattle.client_session.specs.declared.open.Open.TheVariants as opens
 use Rattle.client_session.specs.declared.reply.Reply.TheVariants as replies
@@ -32,8 +37,18 @@ use Rattle.client_session.proofs.ToldCounts.{TellsNone, told_none}
 use Rattle.mdb_schema.specs.Schema.{DbSchema}
 
 -- a caller that has seen no more
-pub no_more : (p : Caller) → p ≡ record p { seen = p.seen ++ []; trees = p.trees ++ []; own = p.own ++ [] }
+no_more : (p : Caller) → p ≡ record p { seen = p.seen ++ []; trees = p.trees ++ []; own = p.own ++ [] }
 no_more p = λ i. record p { seen = sym (append-nil p.seen) i; trees = sym (append-nil p.trees) i; own = sym (append-nil p.own) i }
+
+-- what is the same caller has made no commit
+pub none_made : (p q : Caller) (cs : History) → cs ≡ [] → q ≡ p → (trees : List Forest) × (q ≡ record p { seen = p.seen ++ cs; trees = p.trees ++ trees; own = p.own ++ cs; log = q.log }) × logs.IsLater p.log q.log
+none_made p q cs none same =
+    let more : p ≡ record p { seen = p.seen ++ cs; trees = p.trees ++ []; own = p.own ++ cs } =
+    no_more p ∙ ap (λ (ds : History). let r : Caller = record p { seen = p.seen ++ ds; trees = p.trees ++ []; own = p.own ++ ds } in r) (sym none) in (
+      [],
+      subst (λ (x : Caller). x ≡ record p { seen = p.seen ++ cs; trees = p.trees ++ []; own = p.own ++ cs; log = x.log }) (sym same) more,
+      subst (λ (x : Caller). logs.IsLater p.log x.log) (sym same) (later_itself p.log),
+    )
 
 -- what is read at once is read from what the caller has seen
 was_read : (p : Caller) → WasRead p (reading_of p)
@@ -50,12 +65,12 @@ read_turns pass = record {
     last = search (arith);
   };
   stands = (search (arith), refl, was_read pass);
-  grows = ([], no_more pass);
+  grows = none_made pass pass [] refl refl;
   numbered = refl;
 }
 
 pub later_self : (p : Caller) → IsLater p p
-later_self p = record { number = refl; database = refl; schema = refl; book = refl; seen = ([], append-nil p.seen); trees = ([], append-nil p.trees); counts = ([], append-nil p.counts); tries = ([], append-nil p.tries) }
+later_self p = record { number = refl; database = refl; schema = refl; book = refl; seen = ([], append-nil p.seen); trees = ([], append-nil p.trees); counts = ([], append-nil p.counts); tries = ([], append-nil p.tries); log = later_itself p.log }
 
 pub later_same : (p q : Caller) → q ≡ p → IsLater p q
 later_same p q same = subst (λ (r : Caller). IsLater p r) (sym same) (later_self p)
@@ -79,6 +94,7 @@ later_seen old new seen = record {
   trees = seen.trees;
   counts = seen.counts;
   tries = seen.tries;
+  log = seen.log;
 }
 
 -- a caller that has looked
@@ -114,7 +130,7 @@ end_turns pass txn = record {
     last = le;
   };
   stands = tt;
-  grows = ([], no_more pass);
+  grows = none_made pass pass [] refl refl;
   numbered = refl;
 }
 
@@ -137,7 +153,7 @@ write_turns old txn few changes items = record {
     last = subst (λ (c : Changes). length old.seen ≤ length c.caller.seen) (sym changes) (search (arith));
   };
   stands = ap (λ (c : Changes). c.spoiled) changes;
-  grows = ([], ap (λ (c : Changes). c.caller) changes ∙ no_more old);
+  grows = none_made old (changes_of txn).caller [] refl (ap (λ (c : Changes). c.caller) changes);
   numbered = refl;
 }
 
@@ -165,7 +181,7 @@ spent_turns pass spent = record {
     last = le;
   };
   stands = tt;
-  grows = ([], no_more pass);
+  grows = none_made pass pass [] refl refl;
   numbered = refl;
 }
 
@@ -183,7 +199,7 @@ pub try_began : (callers : ℕ) (p : Caller) (t : Tried Bytes) (txn : WriteTxn B
 try_began callers p t txn is answers = subst (λ (x : Tried Bytes). AnswersTry callers p (Ok x)) is answers
 
 -- the one try found the turn free
-pub won_from : (self : Open) (old new : Caller) → self ≡ opens.Nothing old → HasWon old new → HasNotLost command.Write (caller_of self) new
+pub won_from : (self : Open) (old new : Caller) → self ≡ opens.Nothing old → HasWon old new → HasDoneOnce command.Write (caller_of self) new
 won_from self old new is won = inr (subst (λ (s : Open). HasWon (caller_of s) new) (sym is) won)
 
 abort_turns : (pass : Caller) (txn : WriteTxn Bytes) → pass ≡ (changes_of txn).caller → TurnsTo command.Abort (opens.Writing txn) (opens.Nothing pass) aborted
@@ -197,7 +213,7 @@ abort_turns pass txn same = record {
     last = subst (λ (p : Caller). v.last ≤ length p.seen) (sym same) le;
   };
   stands = tt;
-  grows = ([], same ∙ no_more (changes_of txn).caller);
+  grows = none_made (changes_of txn).caller pass [] refl same;
   numbered = refl;
 }
 
@@ -215,7 +231,7 @@ commit_turns txn c is_committed = record {
     last = rw (is_committed.pass, length-append (changes_of txn).caller.seen _) (search (arith));
   };
   stands = tt;
-  grows = (is_committed.trees ∷ [], is_committed.pass);
+  grows = (is_committed.trees ∷ [], is_committed.pass ∙ ap (λ (l : Log). after_commit (changes_of txn) is_committed.trees l) (sym (ap (λ (p : Caller). p.log) is_committed.pass)), subst (λ (p : Caller). logs.IsLater (changes_of txn).caller.log p.log) (sym is_committed.pass) is_committed.later);
   numbered = numbers is_committed.number;
 }
   where
@@ -261,13 +277,49 @@ open_turns c o stands grows numbered says = refused_once c o (codes "transaction
 
 pub read_refused : (o : Open) → Stands o → ((p : Caller) → o ≡ opens.Nothing p → ⊥) → LooksAndTurns command.Read o o (refused (codes "transaction-open"))
 read_refused (opens.Nothing p) stands not = absurd (not p refl)
-read_refused (opens.Reading p txn) stands not = open_turns command.Read (opens.Reading p txn) stands ([], no_more p) refl (λ v is. rw is refl)
-read_refused (opens.Writing txn) stands not = open_turns command.Read (opens.Writing txn) stands ([], no_more (changes_of txn).caller) refl (λ v is. rw is refl)
+read_refused (opens.Reading p txn) stands not = open_turns command.Read (opens.Reading p txn) stands (none_made p p [] refl refl) refl (λ v is. rw is refl)
+read_refused (opens.Writing txn) stands not = open_turns command.Read (opens.Writing txn) stands (none_made (changes_of txn).caller (changes_of txn).caller [] refl refl) refl (λ v is. rw is refl)
 
 pub write_refused : (o : Open) → Stands o → ((p : Caller) → o ≡ opens.Nothing p → ⊥) → LooksAndTurns command.Write o o (refused (codes "transaction-open"))
 write_refused (opens.Nothing p) stands not = absurd (not p refl)
-write_refused (opens.Reading p txn) stands not = open_turns command.Write (opens.Reading p txn) stands ([], no_more p) refl (λ v is. rw is refl)
-write_refused (opens.Writing txn) stands not = open_turns command.Write (opens.Writing txn) stands ([], no_more (changes_of txn).caller) refl (λ v is. rw is refl)
+write_refused (opens.Reading p txn) stands not = open_turns command.Write (opens.Reading p txn) stands (none_made p p [] refl refl) refl (λ v is. rw is refl)
+write_refused (opens.Writing txn) stands not = open_turns command.Write (opens.Writing txn) stands (none_made (changes_of txn).caller (changes_of txn).caller [] refl refl) refl (λ v is. rw is refl)
+
+-- ---- a rule is broken
+
+nothing_turns : (c : Command) (p : Caller) (rule : Bytes) → ((v : Client) → v.transaction ≡ closed → outcome v (turn p.schema p.seen (length p.seen) v c) ≡ (refused rule, v)) → TurnsTo c (opens.Nothing p) (opens.Nothing p) (refused rule)
+nothing_turns c p rule says = record {
+  turns = λ v is le. record { next = v; says = by_turn (says v is); transaction = is; snapshots = refl; watching = refl; last = le };
+  stands = tt;
+  grows = none_made p p [] refl refl;
+  numbered = refl;
+}
+
+pub nothing_refused : (c : Command) (self : Open) (p : Caller) (rule : Bytes) → self ≡ opens.Nothing p → ((v : Client) → v.transaction ≡ closed → outcome v (turn p.schema p.seen (length p.seen) v c) ≡ (refused rule, v)) → TurnsTo c self (opens.Nothing p) (refused rule)
+nothing_refused c self p rule is says = subst (λ (o : Open). TurnsTo c o (opens.Nothing p) (refused rule)) (sym is) (nothing_turns c p rule says)
+
+reading_turns : (c : Command) (p : Caller) (txn : Reading) (rule : Bytes) → Stands (opens.Reading p txn) → ((v : Client) → v.transaction ≡ reading txn.view.number → outcome v (turn p.schema p.seen (length p.seen) v c) ≡ (refused rule, v)) → TurnsTo c (opens.Reading p txn) (opens.Reading p txn) (refused rule)
+reading_turns c p txn rule stands says = record {
+  turns = λ v is le. record { next = v; says = by_turn (says v is); transaction = is; snapshots = refl; watching = refl; last = le };
+  stands = stands;
+  grows = none_made p p [] refl refl;
+  numbered = refl;
+}
+
+pub reading_refused : (c : Command) (self : Open) (p : Caller) (txn : Reading) (rule : Bytes) → self ≡ opens.Reading p txn → Stands self → ((v : Client) → v.transaction ≡ reading txn.view.number → outcome v (turn p.schema p.seen (length p.seen) v c) ≡ (refused rule, v)) → TurnsTo c self (opens.Reading p txn) (refused rule)
+reading_refused c self p txn rule is stands says = subst (λ (o : Open). TurnsTo c o (opens.Reading p txn) (refused rule)) (sym is) (reading_turns c p txn rule (subst Stands is stands) says)
+
+pub end_refused : (o : Open) → Stands o → ((p : Caller) → o ≡ opens.Nothing p → ⊥) → ((p : Caller) (txn : Reading) → o ≡ opens.Reading p txn → ⊥) → TurnsTo command.End o o (refused (codes "write-open"))
+end_refused (opens.Nothing p) stands not nor = absurd (not p refl)
+end_refused (opens.Reading p txn) stands not nor = absurd (nor p txn refl)
+end_refused (opens.Writing txn) stands not nor = record {
+  turns = λ v is le. record { next = v; says = by_turn (rw is refl); transaction = is; snapshots = refl; watching = refl; last = le };
+  stands = stands;
+  grows = none_made (changes_of txn).caller (changes_of txn).caller [] refl refl;
+  numbered = refl;
+}
+
+-- ---- turns that look at no further commits
 
 turns_once : (c : Command) (o o' : Open) (r : Reply) → TellsNone c → Stands o → TurnsTo c o o' r → LooksAndTurns c o o' r
 turns_once c o o' r is stands turns = record {

@@ -5,10 +5,10 @@ use Rattle.mdb_schema.specs.Guarded.{IsUnchanged}
 use Rattle.mdb_schema.specs.Schema.{DbSchema}
 use Rattle.mem_txn.specs.Database.{Caller}
 use Rattle.mem_txn.specs.Held.{HeldWatch}
-use Rattle.watch_set.specs.Checks.{AreQuiet, AreQuietLooks}
+use Rattle.watch_set.specs.Checks.{AreQuietLooks, IsQuietLook}
 use Rattle.watch_set.specs.GuardedLooks.{AreGuarded, IsGuardedBy}
 use Rattle.watch_set.specs.Members.{Member, watches_of}
-use Rattle.watch_set.proofs.GuardedChains.{Follows, chain-follows, follows-itself, follows-on, quiet_is_guarded}
+use Rattle.watch_set.proofs.GuardedChains.{Follows, follows-itself, follows-on, look-follows, quiet_is_guarded}
 use Rattle.client_script.specs.Client.{Watch}
 use Rattle.client_script.specs.Watching as told
 use Rattle.client_session.specs.Steps.{WasQuiet, WereQuiet}
@@ -19,7 +19,7 @@ use Rattle.client_session.proofs.QuietBefore.{unchanged_before, unchanged_longer
 
 pub looks_follow : (looks : ℕ) (old new : Caller) (hs : List HeldWatch) → AreQuietLooks looks old hs new → Follows old new
 looks_follow zero old new hs same = subst (Follows old) (sym same) (follows-itself old)
-looks_follow (suc looks) old new hs (mid, first, last) = follows-on old mid new (looks_follow looks old mid hs first) (chain-follows mid new hs last)
+looks_follow (suc looks) old new hs (mid, first, last) = follows-on old mid new (looks_follow looks old mid hs first) (look-follows mid new hs last)
 
 -- ---- quiet up to what the client was told
 
@@ -45,11 +45,11 @@ module _ (old mid new : Caller) (more : Follows mid new) (n : ℕ) (few : n ≤ 
   first_still (suc place) (m ∷ ms) all = (quiet_still m.held all.0, first_still place ms all.1)
 
   -- all members
-  pub members_quiet : (ms : List Member) → AreQuiet old (watches_of ms) mid → told.AreQuiet new.schema new.seen new.number (map member_of ms) n
+  pub members_quiet : (ms : List Member) → IsQuietLook old (watches_of ms) mid → told.AreQuiet new.schema new.seen new.number (map member_of ms) n
   members_quiet ms quiet = members_still ms (quiet_is_guarded old mid (watches_of ms) quiet)
 
   -- those before a place
-  pub first_quiet : (place : ℕ) (ms : List Member) → AreQuiet old (take place (watches_of ms)) mid → told.AreQuiet new.schema new.seen new.number (take place (map member_of ms)) n
+  pub first_quiet : (place : ℕ) (ms : List Member) → IsQuietLook old (take place (watches_of ms)) mid → told.AreQuiet new.schema new.seen new.number (take place (map member_of ms)) n
   first_quiet place ms quiet = first_still place ms (quiet_is_guarded old mid (take place (watches_of ms)) quiet)
 
 -- ---- quiet at one look
@@ -63,12 +63,12 @@ module _ (old new : Caller) where
   were_quiet (m ∷ ms) hs ws all rest = (was_quiet m.name m.held all.0, were_quiet ms hs ws all.1 rest)
 
   -- the members alone
-  pub look_quiet : (ms : List Member) → AreQuiet old (watches_of ms) new → WereQuiet old new (map member_of ms)
+  pub look_quiet : (ms : List Member) → IsQuietLook old (watches_of ms) new → WereQuiet old new (map member_of ms)
   look_quiet ms quiet =
       subst (WereQuiet old new) (append-nil (map member_of ms))
       (were_quiet ms [] [] (subst (λ (hs : List HeldWatch). AreGuarded old new hs) (sym (append-nil (watches_of ms))) (quiet_is_guarded old new (watches_of ms) quiet)) (λ none. tt))
 
   -- and what cancels the wait
-  pub look_quiet_until : (ms : List Member) (name : Bytes) (h : HeldWatch) → AreQuiet old (watches_of ms ++ h ∷ []) new → WereQuiet old new (map member_of ms ++ watch_of name h ∷ [])
+  pub look_quiet_until : (ms : List Member) (name : Bytes) (h : HeldWatch) → IsQuietLook old (watches_of ms ++ h ∷ []) new → WereQuiet old new (map member_of ms ++ watch_of name h ∷ [])
   look_quiet_until ms name h quiet =
       were_quiet ms (h ∷ []) (watch_of name h ∷ []) (quiet_is_guarded old new (watches_of ms ++ h ∷ []) quiet) (λ all. (was_quiet name h all.0, tt))

@@ -52,8 +52,8 @@ use Rattle.client_session.specs.inner.RuleName.{rule_name, question_name}
 use Rattle.mdb_encode.specs.ArgRefusal.{arg_count, arg_kind, arg_out_of_range, arg_bad_uuid, arg_too_long, no_prefix_form}
 use Rattle.client_session.specs.declared.open.Open.{Open}
 use Rattle.client_session.specs.declared.open.Open.TheVariants as opens
-use Rattle.client_session.specs.inner.OpenView.{TurnsTo, caller_of, transaction_of, view_at_commit, Stands, IsNumbered, made}
-use Rattle.client_session.proofs.OpenTurns.{no_more}
+use Rattle.client_session.specs.inner.OpenView.{TurnsTo, caller_of, transaction_of, Stands, IsNumbered, made}
+use Rattle.client_session.proofs.OpenTurns.{none_made}
 
 -- a reply that tells no commit
 pub none_numbered : (p : Caller) (t : Transaction) (r : said.Reply) → number_printed r ≡ [] → made p.number t r ≡ [] → IsNumbered p t r
@@ -80,7 +80,7 @@ accepted c w table reply is_write txn txn' after steps changes items sound makes
     last = subst (λ (t : Changes). v.last ≤ length t.caller.seen) (sym changes) le;
   };
   stands = ap (λ (t : Changes). t.spoiled) changes ∙ sound;
-  grows = ([], ap (λ (t : Changes). t.caller) changes ∙ no_more (changes_of txn).caller ∙ ap (λ (cs : History). record (changes_of txn).caller { seen = (changes_of txn).caller.seen ++ cs; trees = (changes_of txn).caller.trees ++ []; own = (changes_of txn).caller.own ++ cs }) (sym (makes (changes_of txn).caller.number (transaction_of (opens.Writing txn)))));
+  grows = none_made (changes_of txn).caller (changes_of txn').caller _ (makes (changes_of txn).caller.number (transaction_of (opens.Writing txn))) (ap (λ (t : Changes). t.caller) changes);
   numbered = none_numbered (changes_of txn).caller (transaction_of (opens.Writing txn)) (reply after.1) prints (makes (changes_of txn).caller.number (transaction_of (opens.Writing txn)));
 }
 
@@ -159,7 +159,7 @@ same_turns c txn txn' rule breaks changes items sound = record {
     last = subst (λ (t : Changes). v.last ≤ length t.caller.seen) (sym changes) le;
   };
   stands = ap (λ (t : Changes). t.spoiled) changes ∙ sound;
-  grows = ([], ap (λ (t : Changes). t.caller) changes ∙ no_more (changes_of txn).caller);
+  grows = none_made (changes_of txn).caller (changes_of txn').caller [] refl (ap (λ (t : Changes). t.caller) changes);
   numbered = refl;
 }
 
@@ -193,7 +193,7 @@ spent_turns c writes txn txn' ws reply allowed full changes items sound = record
     last = subst (λ (t : Changes). v.last ≤ length t.caller.seen) (sym changes) le;
   };
   stands = ap (λ (t : Changes). t.spoiled) changes ∙ sound;
-  grows = ([], ap (λ (t : Changes). t.caller) changes ∙ no_more (changes_of txn).caller);
+  grows = none_made (changes_of txn).caller (changes_of txn').caller [] refl (ap (λ (t : Changes). t.caller) changes);
   numbered = refl;
 }
 
@@ -324,7 +324,7 @@ wiped_turns c wiping is_wipe txn txn' gone lists changes items sound = record {
     last = subst (λ (t : Changes). v.last ≤ length t.caller.seen) (sym changes) le;
   };
   stands = ap (λ (t : Changes). t.spoiled) changes ∙ sound;
-  grows = ([], ap (λ (t : Changes). t.caller) changes ∙ no_more (changes_of txn).caller);
+  grows = none_made (changes_of txn).caller (changes_of txn').caller [] refl (ap (λ (t : Changes). t.caller) changes);
   numbered = refl;
 }
 
@@ -453,7 +453,7 @@ kept_turns c old new r caller same stands says makes prints = record {
     last = subst (λ (p : Caller). v.last ≤ length p.seen) (sym caller) le;
   };
   stands = stands;
-  grows = ([], caller ∙ no_more (caller_of old) ∙ ap (λ (cs : History). record (caller_of old) { seen = (caller_of old).seen ++ cs; trees = (caller_of old).trees ++ []; own = (caller_of old).own ++ cs }) (sym (makes (caller_of old).number (transaction_of old))));
+  grows = none_made (caller_of old) (caller_of new) _ (makes (caller_of old).number (transaction_of old)) caller;
   numbered = none_numbered (caller_of old) (transaction_of old) r prints (makes (caller_of old).number (transaction_of old));
 }
 
@@ -548,7 +548,7 @@ defer_turns self txn txn' text item is copied changes items sound = subst (λ (s
     last = subst (λ (t : Changes). v.last ≤ length t.caller.seen) (sym changes) le;
   };
   stands = ap (λ (t : Changes). t.spoiled) changes ∙ sound;
-  grows = ([], ap (λ (t : Changes). t.caller) changes ∙ no_more (changes_of txn).caller);
+  grows = none_made (changes_of txn).caller (changes_of txn').caller [] refl (ap (λ (t : Changes). t.caller) changes);
   numbered = refl;
 })
 

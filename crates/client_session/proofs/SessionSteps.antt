@@ -15,13 +15,13 @@ use Rattle.client_session.proofs.OpenTurns.{later_self}
 use Rattle.client_session.specs.Answered.{AreTold, HasAnswered, HasStopped, IsLater, IsUntold, Tells}
 use Rattle.client_session.specs.Cells.{RunsByCells}
 use Rattle.client_session.specs.Progress.{Progress}
-use Rattle.client_session.specs.Steps.{AnswersStep, HasNotLost, IsBlocked, Waits}
+use Rattle.client_session.specs.Steps.{AnswersStep, HasDoneOnce, IsBlocked, Waits}
 use Rattle.client_session.specs.declared.desk.Desk.{Desk}
 use Rattle.client_session.specs.declared.stepped.Stepped.TheVariants as stepped
 use Rattle.client_session.specs.inner.Carried.{AddsSome, AnswersLine, CarriedOn, CarriesOut, SoFar, StepsLine, Stops, StopsLine}
 use Rattle.client_session.specs.inner.DeskView.{Follows, HoldsUp, IsHeldUp, IsWaiting}
-use Rattle.client_session.specs.inner.OpenView.{caller_of}
-use Rattle.client_session.specs.inner.StoredSession.{HasDone, IsUnfinished, caller_in}
+use Rattle.client_session.specs.inner.OpenView.{caller_of, is_writing, writes}
+use Rattle.client_session.specs.inner.StoredSession.{HasDone, IsUnfinished, caller_in, writing_in}
 
 -- the fields, as contracts see them
 abbrev pub progress_of : ℕ → List Line → Option Desk → ℕ → Bytes → Bool → Progress
@@ -31,8 +31,13 @@ progress_of client script desk n text failed = record {
   caller = caller_in desk;
   answered = n;
   text = text;
+  writing = writing_in desk;
   failed = failed;
 }
+
+-- the same with or without an open write transaction
+abbrev pub with_writing : Bool → Progress → Progress
+with_writing b s = record s { writing = b }
 
 -- ---- the replies so far
 
@@ -44,38 +49,42 @@ are_told s replies client runs written =
 
 -- ---- a call that answers no line
 
-pub tells_nothing : (s : Progress) (replies : List Reply) → AreTold s replies → Tells s s
-tells_nothing s replies told = record {
+told_still : (s : Progress) (b : Bool) (replies : List Reply) → AreTold s replies → AreTold (with_writing b s) replies
+told_still s b replies told = record { session = told.session; cells = told.cells; written = told.written }
+
+pub tells_nothing : (s : Progress) (b : Bool) (replies : List Reply) → AreTold s replies → Tells s (with_writing b s)
+tells_nothing s b replies told = record {
   before = replies;
   told_before = told;
   replies = [];
-  told = subst (λ (rs : List Reply). AreTold s rs) (sym (append-nil replies)) told;
+  told = subst (λ (rs : List Reply). AreTold (with_writing b s) rs) (sym (append-nil replies)) (told_still s b replies told);
   later = later_self s.caller;
   read = [];
   counts = sym (append-nil s.caller.counts);
   loads = tt;
 }
 
-pub answers_nothing : (s : Progress) (replies : List Reply) → AreTold s replies → HasAnswered s s
+pub answers_nothing : (s : Progress) (b : Bool) (replies : List Reply) → AreTold s replies → HasAnswered s (with_writing b s)
 unfolding tells_nothing
-answers_nothing s replies told = record {
-  tells = tells_nothing s replies told;
+answers_nothing s b replies told = record {
+  tells = tells_nothing s b replies told;
   made = [];
   own = sym (append-nil s.caller.own);
   told = refl;
   rising = le_refl (length s.caller.seen);
 }
 
-pub stops_nothing : (s : Progress) (replies : List Reply) → AreTold s replies → HasStopped s s
+pub stops_nothing : (s : Progress) (replies : List Reply) → AreTold s replies → s.writing ≡ false → HasStopped s s
 unfolding tells_nothing
-stops_nothing s replies told = record {
-  tells = tells_nothing s replies told;
+stops_nothing s replies told closed = record {
+  tells = tells_nothing s s.writing replies told;
   made = [];
   untold = [];
   own = sym (append-nil s.caller.own);
   told = refl;
   rising = le_refl (length s.caller.seen);
   last = tt;
+  closed = closed;
 }
 
 -- ---- a call that answers some lines
@@ -111,9 +120,9 @@ answers_some s t same c = record {
   rising = c.rising;
 }
 
-pub stops_some : (s t : Progress) → t.script ≡ s.script → Stops s.caller t.caller s.script s.answered t.answered s.text t.text → HasStopped s t
+pub stops_some : (s t : Progress) → t.script ≡ s.script → t.writing ≡ false → Stops s.caller t.caller s.script s.answered t.answered s.text t.text → HasStopped s t
 unfolding tells_some
-stops_some s t same c = record {
+stops_some s t same closed c = record {
   tells = tells_some s t same c.some;
   made = c.made;
   untold = c.untold;
@@ -121,6 +130,7 @@ stops_some s t same c = record {
   told = c.told;
   rising = c.rising;
   last = subst (λ (ls : List Line). IsUntold ls t.answered c.untold) (sym same) c.last;
+  closed = closed;
 }
 
 -- ---- what is kept
@@ -136,8 +146,8 @@ goes_on script desk n text failed d h is ok more = record {
 }
 
 -- some lines were answered, and then none is left, or memory was wanting
-pub has_added : (pass : Caller) (script : List Line) (from to : ℕ) (old text : Bytes) (d : Desk) (failed : Bool) → AddsSome pass (caller_of d.«open») script from to old text → to ≤ length script → (failed ≡ false → to ≡ length script) → HasDone script (Some d) to text failed
-has_added pass script from to old text d failed some within all =
+pub has_added : (pass : Caller) (script : List Line) (from to : ℕ) (old text : Bytes) (d : Desk) (failed : Bool) → AddsSome pass (caller_of d.«open») script from to old text → to ≤ length script → (failed ≡ false → to ≡ length script) → (failed ≡ true → is_writing d.«open» ≡ false) → HasDone script (Some d) to text failed
+has_added pass script from to old text d failed some within all closed =
     let adds = some.adds in
     let p = caller_of d.«open» in
     record {
@@ -148,11 +158,12 @@ has_added pass script from to old text d failed some within all =
       runs = subst (λ (n : ℕ). RunsByCells (cells_seen p) n at_start (take to script) (some.before.replies ++ adds.replies) adds.client) (sym adds.later.number) adds.runs;
       written = adds.written;
       follows = λ ok more d' is. let end = all ok in absurd (omega (arith, end, more));
+      closed = closed;
     }
 
 -- lines were answered from one place on to another, and the desk has what the client knows then
-pub has_carried : (pass : Caller) (script : List Line) (from to : ℕ) (old text : Bytes) (d : Desk) (failed : Bool) → CarriedOn pass script from to old d text → to ≤ length script → HasDone script (Some d) to text failed
-has_carried pass script from to old text d failed on within =
+pub has_carried : (pass : Caller) (script : List Line) (from to : ℕ) (old text : Bytes) (d : Desk) (failed : Bool) → CarriedOn pass script from to old d text → to ≤ length script → failed ≡ false → HasDone script (Some d) to text failed
+has_carried pass script from to old text d failed on within ok =
     let c = on.carried in
     let p = caller_of d.«open» in
     record {
@@ -162,7 +173,8 @@ has_carried pass script from to old text d failed on within =
       client = c.client;
       runs = subst (λ (n : ℕ). RunsByCells (cells_seen p) n at_start (take to script) (on.before.replies ++ c.replies) c.client) (sym c.later.number) c.runs;
       written = c.written;
-      follows = λ ok more d' is. let same : d ≡ d' = cc in subst (λ (x : Desk). Follows x c.client) same c.follows;
+      follows = λ _ more d' is. let same : d ≡ d' = cc in subst (λ (x : Desk). Follows x c.client) same c.follows;
+      closed = λ fails. cc;
     }
 
 -- ---- a call, by the fields before and after
@@ -171,17 +183,21 @@ module _ (s : Progress) (client : ℕ) (script : List Line) (desk desk' : Option
   pub kept_told : HasDone script desk n text failed → (replies : List Reply) × AreTold s replies
   kept_told h = (h.replies, subst (λ (x : Progress). AreTold x h.replies) view_is (are_told (progress_of client script desk n text failed) h.replies h.client h.runs h.written))
 
-  pub same_told : (t : Progress) → t ≡ s → HasDone script desk n text failed → Tells s t
+  pub same_told : (t : Progress) (b : Bool) → t ≡ with_writing b s → HasDone script desk n text failed → Tells s t
   unfolding kept_told
-  same_told t same h = subst (λ (x : Progress). Tells s x) (sym same) (tells_nothing s (kept_told h).0 (kept_told h).1)
+  same_told t b same h = subst (λ (x : Progress). Tells s x) (sym same) (tells_nothing s b (kept_told h).0 (kept_told h).1)
 
-  pub same_answered : (t : Progress) → t ≡ s → HasDone script desk n text failed → HasAnswered s t
+  pub same_answered : (t : Progress) (b : Bool) → t ≡ with_writing b s → HasDone script desk n text failed → HasAnswered s t
   unfolding kept_told
-  same_answered t same h = subst (λ (x : Progress). HasAnswered s x) (sym same) (answers_nothing s (kept_told h).0 (kept_told h).1)
+  same_answered t b same h = subst (λ (x : Progress). HasAnswered s x) (sym same) (answers_nothing s b (kept_told h).0 (kept_told h).1)
 
-  pub same_stopped : HasDone script desk n text failed → HasStopped s s
+  -- after want of memory nothing is open
+  pub closed_by : HasDone script desk n text failed → s.failed ≡ true → s.writing ≡ false
+  closed_by h fails = sym (ap (λ (x : Progress). x.writing) view_is) ∙ h.closed (ap (λ (x : Progress). x.failed) view_is ∙ fails)
+
+  pub same_stopped : HasDone script desk n text failed → s.failed ≡ true → HasStopped s s
   unfolding kept_told
-  same_stopped h = stops_nothing s (kept_told h).0 (kept_told h).1
+  same_stopped h fails = stops_nothing s (kept_told h).0 (kept_told h).1 (closed_by h fails)
 
   -- both desks are there
   by_fields : (P : Progress → Progress → Type 0) (d d' : Desk) (n' : ℕ) (text' : Bytes) (failed' : Bool) → desk ≡ Some d → desk' ≡ Some d' → P (progress_of client script (Some d) n text failed) (progress_of client script (Some d') n' text' failed') → P s (progress_of client script desk' n' text' failed')
@@ -201,12 +217,12 @@ module _ (s : Progress) (client : ℕ) (script : List Line) (desk desk' : Option
   answered_ok d d' n' text' failed' (Ok x) is is' c = all_answered d d' n' text' failed' is is' c
   answered_ok d d' n' text' failed' (Err e) is is' c = tt
 
-  pub some_stopped : (d d' : Desk) (n' : ℕ) (text' : Bytes) (failed' : Bool) → desk ≡ Some d → desk' ≡ Some d' → Stops (caller_of d.«open») (caller_of d'.«open») script n n' text text' → HasStopped s (progress_of client script desk' n' text' failed')
-  some_stopped d d' n' text' failed' is is' c = by_fields HasStopped d d' n' text' failed' is is' (stops_some (progress_of client script (Some d) n text failed) (progress_of client script (Some d') n' text' failed') refl c)
+  pub some_stopped : (d d' : Desk) (n' : ℕ) (text' : Bytes) (failed' : Bool) → desk ≡ Some d → desk' ≡ Some d' → is_writing d'.«open» ≡ false → Stops (caller_of d.«open») (caller_of d'.«open») script n n' text text' → HasStopped s (progress_of client script desk' n' text' failed')
+  some_stopped d d' n' text' failed' is is' closed c = by_fields HasStopped d d' n' text' failed' is is' (stops_some (progress_of client script (Some d) n text failed) (progress_of client script (Some d') n' text' failed') refl closed c)
 
-  pub stopped_on_err : (d d' : Desk) (n' : ℕ) (text' : Bytes) (failed' : Bool) (r : Result (Unit {0}) AllocError) → desk ≡ Some d → desk' ≡ Some d' → OnErr r (Stops (caller_of d.«open») (caller_of d'.«open») script n n' text text') → OnErr r (HasStopped s (progress_of client script desk' n' text' failed'))
-  stopped_on_err d d' n' text' failed' (Ok x) is is' c = tt
-  stopped_on_err d d' n' text' failed' (Err e) is is' c = some_stopped d d' n' text' failed' is is' c
+  pub stopped_on_err : (d d' : Desk) (n' : ℕ) (text' : Bytes) (failed' : Bool) (r : Result (Unit {0}) AllocError) → desk ≡ Some d → desk' ≡ Some d' → is_writing d'.«open» ≡ false → OnErr r (Stops (caller_of d.«open») (caller_of d'.«open») script n n' text text') → OnErr r (HasStopped s (progress_of client script desk' n' text' failed'))
+  stopped_on_err d d' n' text' failed' (Ok x) is is' closed c = tt
+  stopped_on_err d d' n' text' failed' (Err e) is is' closed c = some_stopped d d' n' text' failed' is is' closed c
 
 -- ---- a step
 
@@ -217,7 +233,7 @@ unfinished_fields s client script desk n text failed view_is unfinished = subst 
 pub was_stopped : {P : Type 0} (r : Result Bool AllocError) (e : AllocError) → r ≡ Err e → OnErr r P → P
 was_stopped {P} r e is holds = subst (λ (x : Result Bool AllocError). OnErr x P) is holds
 
-pub line_answered : (callers : ℕ) (l : Line) (d d' : Desk) (text text' : Bytes) (r : Result Bool AllocError) (b : Bool) → r ≡ Ok b → b ≡ true → OnOk r (StepsLine callers l d d' text text' r) → AnswersLine l d d' text text' × HasNotLost l.command (caller_of d.«open») (caller_of d'.«open»)
+pub line_answered : (callers : ℕ) (l : Line) (d d' : Desk) (text text' : Bytes) (r : Result Bool AllocError) (b : Bool) → r ≡ Ok b → b ≡ true → OnOk r (StepsLine callers l d d' text text' r) → AnswersLine l d d' text text' × HasDoneOnce l.command (caller_of d.«open») (caller_of d'.«open»)
 line_answered callers l d d' text text' r b is so told = subst (λ (x : Result Bool AllocError). OnOk x (StepsLine callers l d d' text text' x)) (is ∙ ap Ok so) told
 
 pub line_held_up : (callers : ℕ) (l : Line) (d d' : Desk) (text text' : Bytes) (r : Result Bool AllocError) (b : Bool) → r ≡ Ok b → b ≡ false → OnOk r (StepsLine callers l d d' text text' r) → IsHeldUp callers l.command d d' × (text' ≡ text)
@@ -239,6 +255,7 @@ module _ (client : ℕ) (script : List Line) (d d' : Desk) (n : ℕ) (text text'
     runs = let p = caller_of d.«open» in runs_of (cells_seen p) p.number at_start (take n script) so_far.replies so_far.client so_far.runs;
     written = so_far.written;
     stayed = held.quiet so_far.client so_far.follows;
+    look = held.look;
     later = held.looks.later;
     tries = held.tries;
     own = held.looks.own;
@@ -282,7 +299,7 @@ module _ (s : Progress) (client : ℕ) (script : List Line) (desk desk' : Option
   kept : (n' : ℕ) (failed' : Bool) → HasDone script (Some d') n' text' failed' → HasDone script desk' n' text' failed'
   kept n' failed' done = subst (λ (o : Option Desk). HasDone script o n' text' failed') (sym is') done
 
-  module _ (callers : ℕ) (l : Line) (n' : ℕ) (failed' : Bool) (one : n' ≡ n + 1) (there : slice_get script n ≡ Some l) (line : AnswersLine l d d' text text' × HasNotLost l.command (caller_of d.«open») (caller_of d'.«open»)) where
+  module _ (callers : ℕ) (l : Line) (n' : ℕ) (failed' : Bool) (one : n' ≡ n + 1) (ok : failed' ≡ false) (there : slice_get script n ≡ Some l) (line : AnswersLine l d d' text text' × HasDoneOnce l.command (caller_of d.«open») (caller_of d'.«open»)) where
     on_next : CarriedOn old script n n' text d' text'
     unfolding old
     on_next = subst (λ (k : ℕ). CarriedOn old script n k text d' text') (sym one) (next old script n n d d' text text text' l there here line.0)
@@ -295,7 +312,7 @@ module _ (s : Progress) (client : ℕ) (script : List Line) (desk desk' : Option
     unfolding old
     next_kept =
         let lt = unfinished.1 in
-        kept n' failed' (has_carried old script n n' text text' d' failed' on_next (omega (arith, lt, one)))
+        kept n' failed' (has_carried old script n n' text text' d' failed' on_next (omega (arith, lt, one)) ok)
 
     pub next_told : Tells s (progress_of client script desk' n' text' failed')
     unfolding old new
@@ -308,7 +325,7 @@ module _ (s : Progress) (client : ℕ) (script : List Line) (desk desk' : Option
       (subst (λ (x : Progress). slice_get x.script x.answered ≡ Some l) view_is there, refl),
       one ∙ ap (λ (x : Progress). x.answered + 1) view_is,
       all_answered s client script desk desk' n text failed view_is d d' n' text' failed' is is' carries_next,
-      by_fields s client script desk desk' n text failed view_is (λ x y. HasNotLost l.command x.caller y.caller) d d' n' text' failed' is is' line.1,
+      by_fields s client script desk desk' n text failed view_is (λ x y. HasDoneOnce l.command x.caller y.caller) d d' n' text' failed' is is' line.1,
     )
 
   -- nothing was answered, but the caller may have seen more
@@ -320,28 +337,28 @@ module _ (s : Progress) (client : ℕ) (script : List Line) (desk desk' : Option
   unfolding old new
   seen_told failed' later same = some_told s client script desk desk' n text failed view_is d d' n text' failed' is is' (seen_some later same)
 
-  pub seen_stopped : (l : Line) (failed' : Bool) → slice_get script n ≡ Some l → IsLater (caller_of d.«open») (caller_of d'.«open») → text' ≡ text → StopsLine l d (caller_of d'.«open») → HasStopped s (progress_of client script desk' n text' failed')
+  pub seen_stopped : (l : Line) (failed' : Bool) → slice_get script n ≡ Some l → IsLater (caller_of d.«open») (caller_of d'.«open») → text' ≡ text → is_writing d'.«open» ≡ false → StopsLine l d (caller_of d'.«open») → HasStopped s (progress_of client script desk' n text' failed')
   unfolding old new
-  seen_stopped l failed' there later same stops = some_stopped s client script desk desk' n text failed view_is d d' n text' failed' is is' (stops_here old new script n n d text text text' l there later same stops here)
+  seen_stopped l failed' there later same closed stops = some_stopped s client script desk desk' n text failed view_is d d' n text' failed' is is' closed (stops_here old new script n n d text text text' l there later same stops here)
 
-  pub seen_kept : (failed' : Bool) → failed' ≡ true → IsLater (caller_of d.«open») (caller_of d'.«open») → text' ≡ text → HasDone script desk' n text' failed'
+  pub seen_kept : (failed' : Bool) → failed' ≡ true → IsLater (caller_of d.«open») (caller_of d'.«open») → text' ≡ text → is_writing d'.«open» ≡ false → HasDone script desk' n text' failed'
   unfolding old new
-  seen_kept failed' fails later same = kept n failed' (has_added old script n n text text' d' failed' (seen_some later same) h.within (λ ok. cc))
+  seen_kept failed' fails later same closed = kept n failed' (has_added old script n n text text' d' failed' (seen_some later same) h.within (λ ok. cc) (λ _. closed))
 
   -- the line is still to do
-  module _ (callers : ℕ) (l : Line) (failed' : Bool) (same : text' ≡ text) (held : IsHeldUp callers l.command d d') where
+  module _ (callers : ℕ) (l : Line) (failed' : Bool) (ok : failed' ≡ false) (same : text' ≡ text) (held : IsHeldUp callers l.command d d') where
     pub held_up_kept : HasDone script desk' n text' failed'
     unfolding old
     held_up_kept =
         let on : CarriedOn old script n n text d' text = record { before = here.before; carried = seen_more old here.before.replies (take n script) d d' text here.carried held.looks held.snapshots held.watching } in
-        kept n failed' (subst (λ (t : Bytes). HasDone script (Some d') n t failed') (sym same) (has_carried old script n n text text d' failed' on h.within))
+        kept n failed' (subst (λ (t : Bytes). HasDone script (Some d') n t failed') (sym same) (has_carried old script n n text text d' failed' on h.within ok))
 
-    pub held_up_stepped : failed' ≡ false → slice_get script n ≡ Some l → AnswersStep callers s (progress_of client script desk' n text' failed') (Ok (stepped.Blocked l.number))
-    held_up_stepped ok there = (
+    pub held_up_stepped : slice_get script n ≡ Some l → AnswersStep callers s (progress_of client script desk' n text' failed') (Ok (stepped.Blocked l.number))
+    held_up_stepped there = (
       l,
       (subst (λ (x : Progress). slice_get x.script x.answered ≡ Some l) view_is there, refl),
       by_fields s client script desk desk' n text failed view_is (λ x y. IsBlocked callers x y l.command) d d' n text' failed' is is' (blocked client script d d' n text text' failed failed' (goes_on script desk n text failed d h is unfinished.0 unfinished.1) callers l.command held.why),
-      by_fields s client script desk desk' n text failed view_is (λ x y. y ≡ record x { caller = y.caller }) d d' n text' failed' is is' (λ i. progress_of client script (Some d') n (same i) (both i)),
+      by_fields s client script desk desk' n text failed view_is (λ x y. y ≡ record x { caller = y.caller }) d d' n text' failed' is is' (let looks = held.looks in λ i. with_writing (writes (looks.transaction i)) (progress_of client script (Some d') n (same i) (both i))),
     )
       where
         both : failed' ≡ failed

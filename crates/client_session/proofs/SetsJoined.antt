@@ -1,5 +1,5 @@
 -- A set that a watch was added to, as a client knows it.
-use Rattle.std.proofs.Common.{◌≡◌, ◌∙◌, ◌+◌, ◌++◌, Bool, true, false, cond, List, [], ◌∷◌, length, Contains, Option, Some, None, refl, sym, ap, subst, ◌⊎◌, inl, inr, arith}
+use Rattle.std.proofs.Common.{◌≡◌, ◌∙◌, ◌+◌, ◌++◌, ℕ, Bool, true, false, cond, List, [], ◌∷◌, length, Contains, Option, Some, None, refl, sym, ap, subst, ◌⊎◌, inl, inr, arith}
 use Rattle.std.specs.Prelude.{if◌then◌else◌, option_map}
 use Rattle.std.specs.BTreeMap.{get_by_text}
 use Rattle.std.specs.Str.{bytes_eq}
@@ -11,7 +11,7 @@ use Rattle.mdb_schema.proofs.Membership.{Contains-cons_cases, Contains-map, Cont
 use Rattle.mem_txn.specs.Checked.{IdsTellCells, IsHeldBy}
 use Rattle.mem_txn.specs.Database.{Caller, cells_seen}
 use Rattle.mem_txn.specs.Held.{HeldWatch}
-use Rattle.watch_set.specs.Members.{AreDistinct, AreHeldBy, CellName, Member, cell_name, has_cell, watches_of, with_watch}
+use Rattle.watch_set.specs.Members.{AreDistinct, AreHeldBy, Member, cell_id, has_cell, watches_of, with_watch}
 use Rattle.watch_set.proofs.CellsDiffer.{distinct_after, held_after}
 use Rattle.client_script.specs.Client.{Client, Watch, WatchSet, set_named}
 use Rattle.client_script.specs.Reply.{Reply, sized}
@@ -38,7 +38,7 @@ record Joins (p : Caller) (new : List Member) (set : Bytes) (w : Watch) (v : Cli
   added : IsAdded set w v (sized (length new)) (with_set known v)
   same : IsSet p new known
 
-module _ (p : Caller) (ms : List Member) (set name : Bytes) (h : HeldWatch) (v : Client) (known : IsSet p ms (set_for set v)) (all : AreHeldBy p (watches_of ms)) (own : IsHeldBy p h) where
+module _ (p : Caller) (ids : IdsTellCells p) (ms : List Member) (set name : Bytes) (h : HeldWatch) (v : Client) (known : IsSet p ms (set_for set v)) (all : AreHeldBy p (watches_of ms)) (own : IsHeldBy p h) where
   abbrev was : WatchSet
   was = set_for set v
 
@@ -55,11 +55,11 @@ module _ (p : Caller) (ms : List Member) (set name : Bytes) (h : HeldWatch) (v :
   count = ap length known.members ∙ length-map ms member_of
 
   -- what was ever added has its cell, as the watch has
-  have_cells : (new : List Member) → ((c : CellName) → has_cell c ms ≡ true → has_cell c new ≡ true) → has_cell (cell_name h) new ≡ true → (x : Watch) → Contains (was.added ++ w ∷ []) x → HasCellOf p new x
+  have_cells : (new : List Member) → ((c : ℕ) → has_cell c ms ≡ true → has_cell c new ≡ true) → has_cell (cell_id h) new ≡ true → (x : Watch) → Contains (was.added ++ w ∷ []) x → HasCellOf p new x
   have_cells new stays has x within = elim (Contains-append_cases was.added (w ∷ []) x within) [
     | inl before ↦
         let c = known.added x before in
-        record { held = c.held; of = c.of; query = c.query; number = c.number; cell = stays (cell_name c.held) c.cell }
+        record { held = c.held; of = c.of; query = c.query; number = c.number; cell = stays (cell_id c.held) c.cell }
     | inr last ↦ elim (Contains-cons_cases w [] x last) [
       | inl same ↦ record {
         held = h;
@@ -77,16 +77,16 @@ module _ (p : Caller) (ms : List Member) (set name : Bytes) (h : HeldWatch) (v :
   some_added x (inl before) = Contains-append_left was.added (w ∷ []) x (known.some x before)
   some_added x (inr last) = Contains-append_right was.added (w ∷ []) x last
 
-  joins : (b : Bool) → has_cell (cell_name h) ms ≡ b → Joins p (if b then ms else ms ++ member ∷ []) set w v
+  joins : (b : Bool) → has_cell (cell_id h) ms ≡ b → Joins p (if b then ms else ms ++ member ∷ []) set w v
   joins true e =
-      let found = member_of_cell (cell_name h) ms e in
+      let found = member_of_cell (cell_id h) ms e in
       record {
         known = joined was.members;
         name = refl;
         added = inr (record {
           member = member_of found.0;
           there = subst (λ (ws : List Watch). Contains ws (member_of found.0)) (sym known.members) (Contains-map member_of ms found.0 found.1);
-          index = one_index_held p found.0.held h (member_held p ms found.0 all found.1) own found.2;
+          index = one_index_held p ids found.0.held h (member_held p ms found.0 all found.1) own found.2;
           reply = ap sized (sym count);
           kept = refl;
         });
@@ -102,8 +102,8 @@ module _ (p : Caller) (ms : List Member) (set name : Bytes) (h : HeldWatch) (v :
     added = inl (record {
       new = λ among.
           let c = known.added among.like among.there in
-          let same : cell_name c.held ≡ cell_name h = one_cell p c.held h c.of own (c.query ∙ among.query) (c.number ∙ among.number) in
-          both_ways (has_cell (cell_name h) ms) e (ap (λ (n : CellName). has_cell n ms) (sym same) ∙ c.cell);
+          let same : cell_id c.held ≡ cell_id h = one_cell p c.held h c.of own (c.query ∙ among.query) (c.number ∙ among.number) in
+          both_ways (has_cell (cell_id h) ms) e (ap (λ (n : ℕ). has_cell n ms) (sym same) ∙ c.cell);
       reply = ap sized (length-append ms (member ∷ []) ∙ ap (λ n. n + 1) (sym count));
       kept = refl;
     });
@@ -114,9 +114,9 @@ module _ (p : Caller) (ms : List Member) (set name : Bytes) (h : HeldWatch) (v :
     };
   }
 
-  holds_joined : AreDistinct ms → (b : Bool) → has_cell (cell_name h) ms ≡ b → HoldsSet p (if b then ms else ms ++ member ∷ [])
+  holds_joined : AreDistinct ms → (b : Bool) → has_cell (cell_id h) ms ≡ b → HoldsSet p (if b then ms else ms ++ member ∷ [])
   holds_joined distinct true e =
-      let found = member_of_cell (cell_name h) ms e in
+      let found = member_of_cell (cell_id h) ms e in
       let within = found.1.1 in
       record { some = omega (arith, within); distinct = distinct; held = all }
   holds_joined distinct false e =
@@ -187,10 +187,10 @@ set_added p old new v set name h r ids knows holds own watches adds =
     let kept = get_by_text old.sets.kept set in
     let known : IsSet p ms (set_for set v) = set_known p set kept (set_named set v.watching.sets) (knows.sets set) in
     let all : AreHeldBy p (watches_of ms) = all_held p kept (holds.sets set) in
-    let j = joins p ms set name h v known all own (has_cell (cell_name h) ms) refl in
+    let j = joins p ids ms set name h v known all own (has_cell (cell_id h) ms) refl in
     let joined = with_watch name h ms in
     let s = j.known in
-    let after = holds_joined p ms set name h v known all own (all_distinct p kept (holds.sets set)) (has_cell (cell_name h) ms) refl in
+    let after = holds_joined p ids ms set name h v known all own (all_distinct p kept (holds.sets set)) (has_cell (cell_id h) ms) refl in
     record {
       next = with_set s v;
       added = subst (λ (x : Reply). IsAdded set (watch_of name h) v x (with_set s v)) (sym (ap (reply_of p.schema) adds.reply)) j.added;

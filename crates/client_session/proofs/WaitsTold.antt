@@ -10,7 +10,7 @@ use Rattle.mem_txn.specs.Checked.{IsBeginning, IsHeldBy}
 use Rattle.mem_txn.specs.Database.{Caller, cells_seen}
 use Rattle.mem_txn.specs.Held.{HeldWatch}
 use Rattle.watch_set.specs.Checks as checks
-use Rattle.watch_set.specs.Checks.{AnswersLook, AnswersWait, AnswersWoken, HasChecked, with_until}
+use Rattle.watch_set.specs.Checks.{AnswersLook, AnswersWait, FindsWoken, with_until}
 use Rattle.watch_set.specs.Members.{AreHeldBy, Member, watches_of}
 use Rattle.watch_set.specs.declared.woken.Woken.{Woken}
 use Rattle.watch_set.specs.declared.woken.Woken.TheVariants as woken
@@ -32,10 +32,11 @@ use Rattle.client_session.proofs.HeldOn.{holds_longer, knows_longer}
 use Rattle.client_session.proofs.IndexPlaces.{some_once}
 use Rattle.mem_txn.specs.CellHistory.{AreComplete, MovesAreTouches}
 use Rattle.mem_txn.proofs.HeldAlong.{length_longer}
-use Rattle.client_session.proofs.LooksTold.{called_no_set, called_none, called_set, called_watch, checked_begins, fired_touched, judged_so, named_watch, prints_count, unknown, until_free, wait_free}
+use Rattle.client_session.proofs.LooksTold.{called_no_set, called_none, called_set, called_watch, fired_touched, judged_so, named_watch, prints_count, unknown, until_free, wait_free}
 use Rattle.client_session.proofs.SetsJoined.{set_there}
 use Rattle.client_session.proofs.QuietMembers.{first_quiet, look_quiet, look_quiet_until, looks_follow, members_quiet}
-use Rattle.watch_set.proofs.GuardedChains.{Follows, chain-follows, follows-itself, follows-on, follows-seen}
+use Rattle.watch_set.proofs.ChecksInTurn.{is_one_look}
+use Rattle.watch_set.proofs.GuardedChains.{Follows, follows-itself, follows-seen}
 
 -- ---- what is waited for
 
@@ -102,7 +103,7 @@ wait_quiet g set None old new ms u there quiet v may =
     record {
       awaited = map member_of ms;
       judged = ap (λ (j : Judged WatchSet). j >>= (λ (x : WatchSet). Ok x.members)) s.1 ∙ ap (λ (ws : List Watch). Ok ws) known.members;
-      quiet = look_quiet old new ms (subst (λ (o : Option HeldWatch). checks.AreQuiet old (with_until (watches_of ms) o) new) found.1 quiet);
+      quiet = look_quiet old new ms (subst (λ (o : Option HeldWatch). checks.IsQuietLook old (with_until (watches_of ms) o) new) found.1 quiet);
     }
 wait_quiet g set (Some until) old new ms u there quiet v may =
     let found = found_until (get_by_text g.sets.kept set) (get_by_text g.watches.kept until) ms u there in
@@ -112,7 +113,7 @@ wait_quiet g set (Some until) old new ms u there quiet v may =
     record {
       awaited = map member_of ms ++ watch_of until h ∷ [];
       judged = ap (λ (j : Judged (WatchSet × Watch)). j >>= (λ (x : WatchSet × Watch). Ok (x.0.members ++ x.1 ∷ []))) s.1 ∙ ap (λ (ws : List Watch). Ok (ws ++ watch_of until h ∷ [])) known.members;
-      quiet = look_quiet_until old new ms until h (subst (λ (o : Option HeldWatch). checks.AreQuiet old (with_until (watches_of ms) o) new) found.3 quiet);
+      quiet = look_quiet_until old new ms until h (subst (λ (o : Option HeldWatch). checks.IsQuietLook old (with_until (watches_of ms) o) new) found.3 quiet);
     }
 
 -- ---- one has fired
@@ -121,27 +122,25 @@ module _ (old last new : Caller) (first : Follows old last) (law : MovesAreTouch
   within_last : v.last ≤ length last.seen
   within_last = let more = length_longer old.seen last.seen first.seen in omega (arith, few, more)
 
-  woken_is : (place at : ℕ) (m : Member) (mid : Caller) → AreHeldBy new (watches_of ms) → slice_get ms place ≡ Some m → checks.AreQuiet last (take place (watches_of ms)) mid → checks.HasFired mid new m.held at
+  woken_is : (place at : ℕ) (m : Member) (mid : Caller) → AreHeldBy new (watches_of ms) → slice_get ms place ≡ Some m → checks.IsQuietLook last (take place (watches_of ms)) mid → checks.HasFired last mid new m.held at
       → IsWoken new.schema new.seen new.number (length new.seen) v s (woken_by m.name at)
   woken_is place at m mid all there quiet fired =
-      let looked = fired.1.0 in
       record {
         place = place;
         member = member_of m;
         there = ap (λ (ws : List Watch). slice_get ws place) set_is.members ∙ slice_get-map member_of ms place ∙ ap (λ (o : Option Member). option_map member_of o) there;
-        fired = fired_touched new m.held at law (member_held new ms m all (Contains-slice_get ms place m there)) looked.number fired.1.1;
+        fired = fired_touched new m.held at law (member_held new ms m all (Contains-slice_get ms place m there)) fired.1.1 fired.1.2;
         quiet = subst (λ (ws : List Watch). told.AreQuiet new.schema new.seen new.number (take place ws) v.last) (sym set_is.members) (first_quiet last mid new (follows-seen mid new fired.0) v.last within_last place ms quiet);
-        reply = ap (λ (n : ℕ). woken_by m.name n) looked.number;
+        reply = ap (λ (n : ℕ). woken_by m.name n) fired.1.1;
       }
 
-  stopped_is : (until : Bytes) (h : HeldWatch) (at : ℕ) (mid : Caller) → IsHeldBy new h → checks.AreQuiet last (watches_of ms) mid → checks.HasFired mid new h at
+  stopped_is : (until : Bytes) (h : HeldWatch) (at : ℕ) (mid : Caller) → IsHeldBy new h → checks.IsQuietLook last (watches_of ms) mid → checks.HasFired last mid new h at
       → IsStopped new.schema new.seen new.number (length new.seen) v s (watch_of until h) (stopped_at at)
   stopped_is until h at mid held quiet fired =
-      let looked = fired.1.0 in
       record {
-        fired = fired_touched new h at law held looked.number fired.1.1;
+        fired = fired_touched new h at law held fired.1.1 fired.1.2;
         quiet = subst (λ (ws : List Watch). told.AreQuiet new.schema new.seen new.number ws v.last) (sym set_is.members) (members_quiet last mid new (follows-seen mid new fired.0) v.last within_last ms quiet);
-        reply = ap stopped_at looked.number;
+        reply = ap stopped_at fired.1.1;
       }
 
 module _ (g : Watching) (set : Bytes) (old last new : Caller) (holds : Holds old g) (first : Follows old last) (begins : IsBeginning old new) (law : MovesAreTouches (cells_seen new)) (complete : AreComplete (cells_seen new)) (ms : List Member) where
@@ -151,27 +150,22 @@ module _ (g : Watching) (set : Bytes) (old last new : Caller) (holds : Holds old
   all : get_by_text g.sets.kept set ≡ Some ms → AreHeldBy new (watches_of ms)
   all there = let set_holds = still.sets set ms there in set_holds.held
 
-  read_before : (mid : Caller) (hs : List HeldWatch) → checks.AreQuiet last hs mid → Follows old mid
-  read_before mid hs quiet = follows-on old last mid first (chain-follows last mid hs quiet)
-
   -- the member that has fired has another cell
-  member_moved : (v : Client) (place at : ℕ) (m : Member) (mid : Caller) → Knows old g v.watching → get_by_text g.sets.kept set ≡ Some ms → slice_get ms place ≡ Some m → checks.HasFired mid new m.held at → MemberHasMoved (cells_seen new) v set m.name at
+  member_moved : (v : Client) (place at : ℕ) (m : Member) (mid : Caller) → Knows old g v.watching → get_by_text g.sets.kept set ≡ Some ms → slice_get ms place ≡ Some m → checks.HasFired last mid new m.held at → MemberHasMoved (cells_seen new) v set m.name at
   member_moved v place at m mid knows there within fired =
-      let looked = fired.1.0 in
       let known = set_there old g v set ms knows there in
       let among = Contains-slice_get ms place m within in (
         member_of m,
         subst (λ (ws : List Watch). Contains ws (member_of m)) (sym known.members) (Contains-map member_of ms m among),
         refl,
-        fired_moved new m.held m.name at complete (member_held new ms m (all there) among) looked.number fired.1.1,
+        fired_moved new m.held m.name at complete (member_held new ms m (all there) among) fired.1.1 fired.1.2,
       )
 
-  alone : (place at : ℕ) (m : Member) (mid : Caller) → get_by_text g.sets.kept set ≡ Some ms → slice_get ms place ≡ Some m → checks.AreQuiet last (take place (watches_of ms)) mid → checks.HasFired mid new m.held at
+  alone : (place at : ℕ) (m : Member) (mid : Caller) → get_by_text g.sets.kept set ≡ Some ms → slice_get ms place ≡ Some m → checks.IsQuietLook last (take place (watches_of ms)) mid → checks.HasFired last mid new m.held at
       → TellsLook g (command.Wait set) old new (woken_by m.name at)
   alone place at m mid there within quiet fired =
-      let before = read_before mid (take place (watches_of ms)) quiet in
       record {
-        prints = prints_count old mid new at (woken_by m.name at) before.counts fired.1.0 refl;
+        prints = prints_count old last new at (woken_by m.name at) first.counts fired.1.0 fired.1.1 refl;
         told = λ v may.
             let s = wait_found old g set v may ms there in
             record {
@@ -184,11 +178,10 @@ module _ (g : Watching) (set : Bytes) (old last new : Caller) (holds : Holds old
       }
 
   beside_until : (until : Bytes) (h : HeldWatch) (place at : ℕ) (m : Member) (mid : Caller) → get_by_text g.sets.kept set ≡ Some ms → get_by_text g.watches.kept until ≡ Some h
-      → slice_get ms place ≡ Some m → checks.AreQuiet last (take place (watches_of ms)) mid → checks.HasFired mid new m.held at → TellsLook g (command.WaitUntil set until) old new (woken_by m.name at)
+      → slice_get ms place ≡ Some m → checks.IsQuietLook last (take place (watches_of ms)) mid → checks.HasFired last mid new m.held at → TellsLook g (command.WaitUntil set until) old new (woken_by m.name at)
   beside_until until h place at m mid there named within quiet fired =
-      let before = read_before mid (take place (watches_of ms)) quiet in
       record {
-        prints = prints_count old mid new at (woken_by m.name at) before.counts fired.1.0 refl;
+        prints = prints_count old last new at (woken_by m.name at) first.counts fired.1.0 fired.1.1 refl;
         told = λ v may.
             let s = until_found old g set v may until ms h there named in
             record {
@@ -200,19 +193,18 @@ module _ (g : Watching) (set : Bytes) (old last new : Caller) (holds : Holds old
             };
       }
 
-  by_until : (until : Bytes) (h : HeldWatch) (at : ℕ) (mid : Caller) → get_by_text g.sets.kept set ≡ Some ms → get_by_text g.watches.kept until ≡ Some h → checks.AreQuiet last (watches_of ms) mid → checks.HasFired mid new h at
+  by_until : (until : Bytes) (h : HeldWatch) (at : ℕ) (mid : Caller) → get_by_text g.sets.kept set ≡ Some ms → get_by_text g.watches.kept until ≡ Some h → checks.IsQuietLook last (watches_of ms) mid → checks.HasFired last mid new h at
       → TellsLook g (command.WaitUntil set until) old new (stopped_at at)
   by_until until h at mid there named quiet fired =
-      let before = read_before mid (watches_of ms) quiet in
       record {
-        prints = prints_count old mid new at (stopped_at at) before.counts fired.1.0 refl;
+        prints = prints_count old last new at (stopped_at at) first.counts fired.1.0 fired.1.1 refl;
         told = λ v may.
             let s = until_found old g set v may until ms h there named in
             record {
               next = told_number (length new.seen) v;
               says = judged_so v (until_judged v set until) (s.0, watch_of until h) (stopped_at at) (told_number (length new.seen) v) _ s.1
                   (inr (stopped_is old last new first law ms s.0 s.2 v may.last until h at mid (still.watches until h named) quiet fired), refl);
-              cells = let looked = fired.1.0 in (watch_of until h, named_watch old g v until h may.knows named, fired_moved new h until at complete (still.watches until h named) looked.number fired.1.1);
+              cells = (watch_of until h, named_watch old g v until h may.knows named, fired_moved new h until at complete (still.watches until h named) fired.1.1 fired.1.2);
               knows = knows_longer old new g v.watching begins may.knows;
               holds = still;
             };
@@ -224,47 +216,50 @@ module _ (g : Watching) (set : Bytes) (old last new : Caller) (holds : Holds old
       let same : m ≡ x = some_once (slice_get ms place) m x there is in
       ap (λ (y : Member). woken_by y.name at) same ∙ sym (ap (reply_of old.schema) told)
 
-  pub woken_told : (until : Option Bytes) (u : Option HeldWatch) (w : Woken) (r : own.Reply) → awaited_in g set until ≡ Some (ms, u) → AnswersWoken last new ms u w → RepliesWoken ms w r → TellsLook g (wait_for set until) old new (reply_of old.schema r)
-  woken_told None u (woken.Fired place at) r there (m, within, mid, quiet, fired) is =
+  pub woken_told : (until : Option Bytes) (u : Option HeldWatch) (w : Woken) (r : own.Reply) → awaited_in g set until ≡ Some (ms, u) → AnswersLook last new ms u (Some w) → RepliesWoken ms w r → TellsLook g (wait_for set until) old new (reply_of old.schema r)
+  woken_told None u (woken.Fired place at) r there (read, once, told) is =
       let found = found_alone (get_by_text g.sets.kept set) ms u there in
-      subst (λ (x : Reply). TellsLook g (command.Wait set) old new x) (replied place at m r within is) (alone place at m mid found.0 within quiet fired)
-  woken_told None u (woken.Stopped at) r there told is =
+      let (m, within, mid, quiet, fired) = told in
+      subst (λ (x : Reply). TellsLook g (command.Wait set) old new x) (replied place at m r within is) (alone place at m mid found.0 within (read, once, quiet) fired)
+  woken_told None u (woken.Stopped at) r there (read, once, told) is =
       let found = found_alone (get_by_text g.sets.kept set) ms u there in
-      let none : AnswersWoken last new ms None (woken.Stopped at) = subst (λ (o : Option HeldWatch). AnswersWoken last new ms o (woken.Stopped at)) found.1 told in
+      let none : FindsWoken last read new ms None (woken.Stopped at) = subst (λ (o : Option HeldWatch). FindsWoken last read new ms o (woken.Stopped at)) found.1 told in
       absurd none
-  woken_told (Some until) u (woken.Fired place at) r there (m, within, mid, quiet, fired) is =
+  woken_told (Some until) u (woken.Fired place at) r there (read, once, told) is =
       let found = found_until (get_by_text g.sets.kept set) (get_by_text g.watches.kept until) ms u there in
-      subst (λ (x : Reply). TellsLook g (command.WaitUntil set until) old new x) (replied place at m r within is) (beside_until until found.0 place at m mid found.1 found.2 within quiet fired)
-  woken_told (Some until) u (woken.Stopped at) r there told is =
+      let (m, within, mid, quiet, fired) = told in
+      subst (λ (x : Reply). TellsLook g (command.WaitUntil set until) old new x) (replied place at m r within is) (beside_until until found.0 place at m mid found.1 found.2 within (read, once, quiet) fired)
+  woken_told (Some until) u (woken.Stopped at) r there (read, once, told) is =
       let found = found_until (get_by_text g.sets.kept set) (get_by_text g.watches.kept until) ms u there in
-      let some : AnswersWoken last new ms (Some found.0) (woken.Stopped at) = subst (λ (o : Option HeldWatch). AnswersWoken last new ms o (woken.Stopped at)) found.3 told in
-      subst (λ (x : Reply). TellsLook g (command.WaitUntil set until) old new x) (sym (ap (reply_of old.schema) is)) (by_until until found.0 at some.0 found.1 found.2 some.1 some.2)
+      let some : FindsWoken last read new ms (Some found.0) (woken.Stopped at) = subst (λ (o : Option HeldWatch). FindsWoken last read new ms o (woken.Stopped at)) found.3 told in
+      subst (λ (x : Reply). TellsLook g (command.WaitUntil set until) old new x) (sym (ap (reply_of old.schema) is)) (by_until until found.0 at some.0 found.1 found.2 (read, once, some.1) some.2)
 
 pub wait_told : (g : Watching) (set : Bytes) (old new : Caller) (ms : List Member) (until : Option Bytes) (u : Option HeldWatch) (w : Woken) (r : own.Reply) → awaited_in g set until ≡ Some (ms, u) → Holds old g → IsBeginning old new
     → MovesAreTouches (cells_seen new) → AreComplete (cells_seen new) → AnswersWait old new ms u w → RepliesWoken ms w r → TellsLook g (wait_for set until) old new (reply_of old.schema r)
 wait_told g set old new ms until u w r there holds begins law complete (looks, last, quiet, told) is =
     woken_told g set old last new holds (looks_follow looks old last (with_until (watches_of ms) u) quiet) begins law complete ms until u w r there told is
 
-pub look_told : (g : Watching) (set : Bytes) (old new : Caller) (ms : List Member) (until : Option Bytes) (u : Option HeldWatch) (w : Woken) (r : own.Reply) → awaited_in g set until ≡ Some (ms, u) → Holds old g
-    → HasChecked old new (with_until (watches_of ms) u) → MovesAreTouches (cells_seen new) → AreComplete (cells_seen new) → AnswersWoken old new ms u w → RepliesWoken ms w r → TellsLook g (wait_for set until) old new (reply_of old.schema r)
-look_told g set old new ms until u w r there holds checked law complete told is =
-    woken_told g set old old new holds (follows-itself old) (checked_begins old new (with_until (watches_of ms) u) checked) law complete ms until u w r there told is
+-- the member that a look tells is there
+look_there : (old new : Caller) (ms : List Member) (until : Option HeldWatch) (w : Woken) → AnswersLook old new ms until (Some w) → IsThere ms w
+look_there old new ms until (woken.Fired place at) (read, once, told) = (told.0, told.1)
+look_there old new ms until (woken.Stopped at) a = tt
 
--- the member that a wait tells is there
 pub woken_there : (old new : Caller) (ms : List Member) (until : Option HeldWatch) (w : Woken) → AnswersWait old new ms until w → IsThere ms w
-woken_there old new ms until (woken.Fired place at) (looks, last, quiet, told) = (told.0, told.1)
-woken_there old new ms until (woken.Stopped at) a = tt
+woken_there old new ms until w (looks, last, quiet, told) = look_there last new ms until w told
 
 -- ---- one look at all
 
 pub once_there : (old new : Caller) (ms : List Member) (until : Option HeldWatch) (w : Option Woken) → AnswersLook old new ms until w → IfSome w (IsThere ms)
 once_there old new ms until None a = tt
-once_there old new ms until (Some (woken.Fired place at)) told = (told.0, told.1)
-once_there old new ms until (Some (woken.Stopped at)) a = tt
+once_there old new ms until (Some w) told = look_there old new ms until w told
 
 pub once_told : (g : Watching) (set : Bytes) (old new : Caller) (ms : List Member) (until : Option Bytes) (u : Option HeldWatch) (w : Option Woken) (r : Option own.Reply) → awaited_in g set until ≡ Some (ms, u) → Holds old g
-    → HasChecked old new (with_until (watches_of ms) u) → MovesAreTouches (cells_seen new) → AreComplete (cells_seen new) → AnswersLook old new ms u w → RepliesOnce ms w r → TellsOnce g (wait_for set until) old new (option_map (reply_of old.schema) r)
-once_told g set old new ms until u None None there holds checked law complete told is = λ v may. wait_quiet g set until old new ms u there told v may
-once_told g set old new ms until u None (Some r) there holds checked law complete told is = absurd is
-once_told g set old new ms until u (Some w) None there holds checked law complete told is = absurd is
-once_told g set old new ms until u (Some w) (Some r) there holds checked law complete told is = look_told g set old new ms until u w r there holds checked law complete told is
+    → IsBeginning old new → MovesAreTouches (cells_seen new) → AreComplete (cells_seen new) → AnswersLook old new ms u w → RepliesOnce ms w r → TellsOnce g (wait_for set until) old new (option_map (reply_of old.schema) r)
+once_told g set old new ms until u None None there holds begins law complete told is =
+    (is_one_look old new ms u None told, λ v may. wait_quiet g set until old new ms u there told v may)
+once_told g set old new ms until u None (Some r) there holds begins law complete told is = absurd is
+once_told g set old new ms until u (Some w) None there holds begins law complete told is = absurd is
+once_told g set old new ms until u (Some w) (Some r) there holds begins law complete told is = (
+  inr (is_one_look old new ms u (Some w) told),
+  woken_told g set old old new holds (follows-itself old) begins law complete ms until u w r there told is,
+)

@@ -9,7 +9,7 @@ use Rattle.mdb_schema.specs.Query.{Query}
 use Rattle.mdb_schema.specs.Schema.{DbSchema}
 use Rattle.mdb_schema.specs.Tests.{needed}
 use Rattle.mem_txn.proofs.SeenBegins.{begins_itself}
-use Rattle.mem_txn.specs.Checked.{IdsTellCells}
+use Rattle.mem_txn.specs.Checked.{IdsTellCells, LooksOnce}
 use Rattle.mem_txn.specs.Database.{Caller, Reading, cells_seen}
 use Rattle.mem_txn.specs.Transactions.{changes_of}
 use Rattle.mem_txn.specs.declared.write_txn.WriteTxn.{WriteTxn}
@@ -28,7 +28,7 @@ use Rattle.client_session.proofs.DeskTurns.{desk_with, none_grown}
 use Rattle.client_session.proofs.FollowsOn.{follows_then, reading_longer}
 use Rattle.client_session.proofs.OpenTurns.{beginning_later, looks_self}
 use Rattle.client_session.proofs.RequestTurns.{none_numbered}
-use Rattle.client_session.specs.Steps.{HasNotLost, HasStayedQuiet}
+use Rattle.client_session.specs.Steps.{HasDoneOnce, HasStayedQuiet, IsOneLook}
 use Rattle.client_session.specs.declared.desk.Desk.{Desk}
 use Rattle.client_session.specs.declared.kept.Kept.{Kept}
 use Rattle.client_session.specs.declared.kept.Kept.TheVariants as kinds
@@ -36,7 +36,7 @@ use Rattle.client_session.specs.declared.«open».Open.{Open}
 use Rattle.client_session.specs.declared.«open».Open.TheVariants as opens
 use Rattle.client_session.specs.declared.reply.Reply.{Reply}
 use Rattle.client_session.specs.declared.watching.Watching.{Watching}
-use Rattle.client_session.specs.inner.DeskView.{Follows, HoldsUp, IsHeldUp, IsKeptOf, IsLook, IsWaiting, LooksAndReplies, LooksOnce, Replied, RepliesTo, StepsTo}
+use Rattle.client_session.specs.inner.DeskView.{Follows, HoldsUp, IsHeldUp, IsKeptOf, IsLook, IsWaiting, AnswersOnce, LooksAndReplies, Replied, RepliesTo, StepsTo}
 use Rattle.client_session.specs.inner.OpenView.{Stands, caller_of, made, transaction_of}
 use Rattle.client_session.specs.inner.ReplyOf.{reply_of}
 use Rattle.client_session.specs.inner.WatchingView.{AsksWatch, HasLookedOn, Holds, IsReadBy, IsSeenIn, Knows, MayLook, TellsLook, TellsOnce, WatchTold, wait_for}
@@ -168,6 +168,23 @@ asks_kept d g name snapshot q k r (Ok x) there read asks = λ v follows.
       holds = asked.holds;
     })
 
+unkept : (p : Caller) (found : Option Sight) → IsKeptOf p None found → found ≡ None
+unkept p None keeps = refl
+unkept p (Some s) keeps = absurd keeps
+
+-- of a snapshot that isn't there
+pub asks_unkept : (d : Desk) (name snapshot : Bytes) (q : Query) → get_by_text d.snapshots.kept snapshot ≡ None → RepliesTo (command.WatchIn name snapshot q) d d (said.refused (codes "unknown-name"))
+asks_unkept d name snapshot q there v follows =
+    let p = caller_of d.«open» in
+    let none : snapshot_named snapshot v.snapshots ≡ None = unkept p (snapshot_named snapshot v.snapshots) (subst (λ (o : Option Kept). IsKeptOf p o (snapshot_named snapshot v.snapshots)) there (follows.kept snapshot)) in
+    watch_replied (command.WatchIn name snapshot q) d d.watching (said.refused (codes "unknown-name")) v follows (record {
+      next = v;
+      says = ap (λ (o : Option Sight). outcome v (watch_turn p.schema p.seen v (needed (codes "unknown-name") o) name q)) none;
+      cells = tt;
+      knows = follows.knows;
+      holds = follows.holds;
+    })
+
 -- ---- a check and a wait
 
 -- what is open may be looked beside
@@ -201,9 +218,10 @@ module _ (c : Command) (d : Desk) (o : Open) (free : no_write_open (transaction_
     loads = λ v follows. told.prints.loads;
   }
 
-  pub looked_in_vain : ((v : Client) → MayLook (caller_of d.«open») d.watching v → HasStayedQuiet (caller_of d.«open») (caller_of o) v c) → IsWaiting c d (desk_with d o)
+  pub looked_in_vain : LooksOnce (caller_of d.«open») (caller_of o) → ((v : Client) → MayLook (caller_of d.«open») d.watching v → HasStayedQuiet (caller_of d.«open») (caller_of o) v c) → IsWaiting c d (desk_with d o)
   unfolding p
-  looked_in_vain quiet = record {
+  looked_in_vain look quiet = record {
+    look = look;
     looks = record {
       later = on.later;
       own = on.own;
@@ -234,25 +252,31 @@ looked_reading c c' d pass new txn (Ok r) is opened stands on told =
     (subst (λ (x : Open). TellsLook d.watching c (caller_of x) new (reply_of (caller_of x).schema r)) (sym opened) told))
 
 -- the same of one look
-pub once_closed : (c : Command) (d : Desk) (pass new : Caller) (told : Result (Option Reply) AllocError) → d.«open» ≡ opens.Nothing pass → HasLookedOn pass new → IfOk told (λ r. TellsOnce d.watching c pass new (option_map (reply_of pass.schema) r)) → IfOk told (λ r. LooksOnce c d (desk_with d (opens.Nothing new)) (option_map (reply_of (caller_of d.«open»).schema) r))
+pub once_closed : (c : Command) (d : Desk) (pass new : Caller) (told : Result (Option Reply) AllocError) → d.«open» ≡ opens.Nothing pass → HasLookedOn pass new → IfOk told (λ r. TellsOnce d.watching c pass new (option_map (reply_of pass.schema) r)) → IfOk told (λ r. AnswersOnce c d (desk_with d (opens.Nothing new)) (option_map (reply_of (caller_of d.«open»).schema) r))
 once_closed c d pass new (Err e) opened on told = tt
-once_closed c d pass new (Ok (Some r)) opened on told = looked_closed c c d pass new (Ok r) refl opened on told
+once_closed c d pass new (Ok (Some r)) opened on told =
+    (looked_closed c c d pass new (Ok r) refl opened on told.1, subst (λ (x : Open). IsOneLook (caller_of x) new) (sym opened) told.0)
 once_closed c d pass new (Ok None) opened on told =
     looked_in_vain c d (opens.Nothing new) (ap (λ (x : Open). no_write_open (transaction_of x)) opened) (sym (ap transaction_of opened)) tt (subst (λ (x : Open). HasLookedOn (caller_of x) new) (sym opened) on)
-    (subst (λ (x : Open). (v : Client) → MayLook (caller_of x) d.watching v → HasStayedQuiet (caller_of x) new v c) (sym opened) told)
+    (subst (λ (x : Open). LooksOnce (caller_of x) new) (sym opened) told.0)
+    (subst (λ (x : Open). (v : Client) → MayLook (caller_of x) d.watching v → HasStayedQuiet (caller_of x) new v c) (sym opened) told.1)
 
-pub once_reading : (c : Command) (d : Desk) (pass new : Caller) (txn : Reading) (told : Result (Option Reply) AllocError) → d.«open» ≡ opens.Reading pass txn → Stands d.«open» → HasLookedOn pass new → IfOk told (λ r. TellsOnce d.watching c pass new (option_map (reply_of pass.schema) r)) → IfOk told (λ r. LooksOnce c d (desk_with d (opens.Reading new txn)) (option_map (reply_of (caller_of d.«open»).schema) r))
+pub once_reading : (c : Command) (d : Desk) (pass new : Caller) (txn : Reading) (told : Result (Option Reply) AllocError) → d.«open» ≡ opens.Reading pass txn → Stands d.«open» → HasLookedOn pass new → IfOk told (λ r. TellsOnce d.watching c pass new (option_map (reply_of pass.schema) r)) → IfOk told (λ r. AnswersOnce c d (desk_with d (opens.Reading new txn)) (option_map (reply_of (caller_of d.«open»).schema) r))
 once_reading c d pass new txn (Err e) opened stands on told = tt
-once_reading c d pass new txn (Ok (Some r)) opened stands on told = looked_reading c c d pass new txn (Ok r) refl opened stands on told
+once_reading c d pass new txn (Ok (Some r)) opened stands on told =
+    (looked_reading c c d pass new txn (Ok r) refl opened stands on told.1, subst (λ (x : Open). IsOneLook (caller_of x) new) (sym opened) told.0)
 once_reading c d pass new txn (Ok None) opened stands on told =
     looked_in_vain c d (opens.Reading new txn) (ap (λ (x : Open). no_write_open (transaction_of x)) opened) (sym (ap transaction_of opened)) (reading_longer pass new txn (beginning_later pass new on.later) (subst Stands opened stands)) (subst (λ (x : Open). HasLookedOn (caller_of x) new) (sym opened) on)
-    (subst (λ (x : Open). (v : Client) → MayLook (caller_of x) d.watching v → HasStayedQuiet (caller_of x) new v c) (sym opened) told)
+    (subst (λ (x : Open). LooksOnce (caller_of x) new) (sym opened) told.0)
+    (subst (λ (x : Open). (v : Client) → MayLook (caller_of x) d.watching v → HasStayedQuiet (caller_of x) new v c) (sym opened) told.1)
 
 -- a wait that makes one look is a step
-pub steps_once : (n : ℕ) (c c' : Command) (d d' : Desk) (s : DbSchema) (told : Result (Option Reply) AllocError) → c' ≡ c → ((old new : Caller) → HasNotLost c old new) → (IsWaiting c d d' → HoldsUp n c d d') → IfOk told (λ r. LooksOnce c d d' (option_map (reply_of s) r)) → IfOk told (λ r. StepsTo n c' d d' (option_map (reply_of s) r))
-steps_once n c c' d d' s (Err e) is free held told = tt
-steps_once n c c' d d' s (Ok (Some r)) is free held told = subst (λ (x : Command). LooksAndReplies x d d' (reply_of s r) × HasNotLost x (caller_of d.«open») (caller_of d'.«open»)) (sym is) (told, free (caller_of d.«open») (caller_of d'.«open»))
-steps_once n c c' d d' s (Ok None) is free held told = subst (λ (x : Command). IsHeldUp n x d d') (sym is) (record { looks = told.looks; snapshots = told.snapshots; watching = told.watching; why = held told })
+pub steps_once : (n : ℕ) (c c' : Command) (d d' : Desk) (s : DbSchema) (told : Result (Option Reply) AllocError) → c' ≡ c → ((old new : Caller) → IsOneLook old new → HasDoneOnce c old new) → (IsWaiting c d d' → HoldsUp n c d d') → IfOk told (λ r. AnswersOnce c d d' (option_map (reply_of s) r)) → IfOk told (λ r. StepsTo n c' d d' (option_map (reply_of s) r))
+steps_once n c c' d d' s (Err e) is once held told = tt
+steps_once n c c' d d' s (Ok (Some r)) is once held told =
+    subst (λ (x : Command). LooksAndReplies x d d' (reply_of s r) × HasDoneOnce x (caller_of d.«open») (caller_of d'.«open»)) (sym is)
+    (told.0, once (caller_of d.«open») (caller_of d'.«open») told.1)
+steps_once n c c' d d' s (Ok None) is once held told = subst (λ (x : Command). IsHeldUp n x d d') (sym is) (record { looks = told.looks; snapshots = told.snapshots; watching = told.watching; why = held told })
 
 -- beside a write transaction
 write_told : (c : Command) → IsLook c → (schema : DbSchema) (H : History) (client now : ℕ) (v : Client) → no_write_open v.transaction ≡ Err (codes "write-open") → IsWatchTold schema H client now v c (said.refused (codes "write-open")) v
@@ -297,6 +321,7 @@ look_refused c d txn is opened stands = record {
 }
 
 -- the same of a wait
-pub wait_refused : (set : Bytes) (until : Option Bytes) (d : Desk) (txn : WriteTxn Bytes) → d.«open» ≡ opens.Writing txn → Stands d.«open» → LooksAndReplies (wait_for set until) d d (said.refused (codes "write-open"))
-wait_refused set None d txn opened stands = look_refused (command.Wait set) d txn tt opened stands
-wait_refused set (Some until) d txn opened stands = look_refused (command.WaitUntil set until) d txn tt opened stands
+pub wait_refused : (set : Bytes) (until : Option Bytes) (d : Desk) (txn : WriteTxn Bytes) → d.«open» ≡ opens.Writing txn → Stands d.«open»
+    → AnswersOnce (wait_for set until) d d (Some (said.refused (codes "write-open")))
+wait_refused set None d txn opened stands = (look_refused (command.Wait set) d txn tt opened stands, inl refl)
+wait_refused set (Some until) d txn opened stands = (look_refused (command.WaitUntil set until) d txn tt opened stands, inl refl)

@@ -2,9 +2,11 @@
 -- in the history that its pass has seen, the commits that this call told are just those that its
 -- pass has made in it, and the numbers that its looks tell (of transactions that begin, of checks
 -- and of waits) are counts that its pass has read in it.
-use Rattle.std.specs.Prelude.{◌≡◌, ◌-◌, ◌<◌, ◌≤◌, ◌++◌, ℕ, List, [], ◌∷◌, Option, Some, length, map, take, slice_get, ⊤}
+use Rattle.std.specs.Prelude.{◌≡◌, ◌-◌, ◌<◌, ◌≤◌, ◌++◌, ℕ, true, false, List, [], ◌∷◌, Option, Some, length, map, take, slice_get, ⊤}
+use Rattle.std.specs.Prelude.{IsOk, Result}
 use mathlib.Core.List.{IsPrefix}
 use Rattle.mdb_schema.specs.History.{Commit, History}
+use Rattle.watch_word.specs.Logs as log
 use Rattle.mem_txn.specs.Database.{Caller, cells_seen}
 use Rattle.client_session.specs.Cells.{SessionByCells}
 use Rattle.client_session.specs.Counts.{AreAmong, counts_told}
@@ -16,7 +18,7 @@ use Rattle.client_script.specs.declared.line.Line.{Line}
 use Rattle.client_session.specs.Progress.{Progress}
 
 -- the pass of the same caller of the same database, which has seen, read and tried as much or more;
--- the trees after the commits are part of what is seen
+-- the trees after the commits, and the log of firings, are part of what is seen
 pub record IsLater (old new : Caller) : Type 0 where
   pub number : new.number ≡ old.number
   pub database : new.database ≡ old.database
@@ -26,6 +28,7 @@ pub record IsLater (old new : Caller) : Type 0 where
   pub trees : IsPrefix old.trees new.trees
   pub counts : IsPrefix old.counts new.counts
   pub tries : IsPrefix old.tries new.tries
+  pub log : log.IsLater old.log new.log
 
 -- the commit of a number, counted from 1
 abbrev pub commit_at : History → ℕ → Option Commit
@@ -76,7 +79,7 @@ IsUntold script at (c ∷ []) =
 IsUntold script at (c ∷ d ∷ cs) = ⊥
 
 -- The same of a call that found no memory, but the last commit may be untold: the line behind those
--- that are answered has made it. So nothing else that was open was committed.
+-- that are answered has made it. So nothing else that was open was committed; it was aborted.
 pub record HasStopped (old new : Progress) : Type 0 where
   pub tells : Tells old new
   pub made : List Commit
@@ -85,3 +88,11 @@ pub record HasStopped (old new : Progress) : Type 0 where
   pub told : map (commit_at new.caller.seen) (printed tells.replies) ≡ map Some made
   pub rising : AreRising (length old.caller.seen) (printed tells.replies) (length new.caller.seen)
   pub last : IsUntold new.script new.answered untold
+  pub closed : new.writing ≡ false
+
+-- a session that found no memory, or has answered each line, stays as it is, but that what is open is
+-- aborted
+pub record StaysEnded {E : Type 0} (old new : Progress) (result : Result (Unit {0}) E) : Type 0 where
+  pub failed : old.failed ≡ true → new ≡ old
+  pub done : old.failed ≡ false → old.answered ≡ length old.script
+      → IsOk result × (new ≡ record old { writing = false })

@@ -4,14 +4,16 @@ use Rattle.mdb_datum.specs.Bytes.{Bytes}
 use Rattle.mem_txn.specs.Database.{Caller}
 use Rattle.client_script.specs.declared.line.Line.{Line}
 
--- the client's number, its script, its pass, how many lines of the script are answered, the text of
--- these answers, and whether a call found no memory
+-- The client's number, its script, its pass, how many lines of the script are answered, the text of
+-- these answers, whether a write transaction is open, which keeps the writer's turn from others, and
+-- whether a call found no memory.
 pub record Progress : Type 0 where
   pub client : ℕ
   pub script : List Line
   pub caller : Caller
   pub answered : ℕ
   pub text : Bytes
+  pub writing : Bool
   pub failed : Bool
 
 -- a session of which nothing is carried out yet
@@ -22,5 +24,6 @@ begun client script caller = record {
   caller = caller;
   answered = 0;
   text = [];
+  writing = false;
   failed = false;
 }

@@ -1,8 +1,9 @@
 -- What one step of a session does.
 use Rattle.std.specs.Prelude.{◌≡◌, ◌⊎◌, ◌≤◌, ◌+◌, ◌++◌, ℕ, List, [], ◌∷◌}
-use Rattle.std.specs.Prelude.{Some, Result, Ok, Err, length, slice_get, take, ⊤}
+use Rattle.std.specs.Prelude.{Some, Result, Ok, Err, false, length, slice_get, take, ⊤}
 use Rattle.std.specs.declared.alloc.AllocError.{AllocError}
 use Rattle.mdb_schema.specs.Tests.{◌>>=◌}
+use Rattle.mem_txn.specs.Checked.{LooksOnce}
 use Rattle.mem_txn.specs.Database.{Caller}
 use Rattle.mem_txn.specs.Transactions.{HasLost, HasWon}
 use Rattle.client_script.specs.Client.{Client, Judged, Watch, at_start}
@@ -21,10 +22,17 @@ use Rattle.client_session.specs.declared.stepped.Stepped.TheVariants as stepped
 abbrev pub IsNext : Progress → Line → ℕ → Type 0
 IsNext s l number = (slice_get s.script s.answered ≡ Some l) × (number ≡ l.number)
 
--- no try at `write` has found the turn taken: there was none, or it found the turn free
-abbrev pub HasNotLost : Command → Caller → Caller → Type 0
-HasNotLost command.Write old new = (new.tries ≡ old.tries) ⊎ HasWon old new
-HasNotLost c old new = ⊤
+-- it was looked at once, or not at all: then no count was read
+abbrev pub IsOneLook : Caller → Caller → Type 0
+IsOneLook old new = (new.counts ≡ old.counts) ⊎ LooksOnce old new
+
+-- A line that is answered has done what may have to wait once, and not again: at `write` no try has
+-- found the turn taken, for there was none, or it found the turn free; at a wait there was one look.
+abbrev pub HasDoneOnce : Command → Caller → Caller → Type 0
+HasDoneOnce command.Write old new = (new.tries ≡ old.tries) ⊎ HasWon old new
+HasDoneOnce (command.Wait set) old new = IsOneLook old new
+HasDoneOnce (command.WaitUntil set until) old new = IsOneLook old new
+HasDoneOnce c old new = ⊤
 
 -- ---- waits that find nothing
 
@@ -60,8 +68,8 @@ pub record HasStayedQuiet (old new : Caller) (v : Client) (c : Command) : Type 0
   pub judged : awaited_by c v ≡ Ok awaited
   pub quiet : WereQuiet old new awaited
 
--- The line is a wait, and all that it waits for was quiet, by what the client knows after the
--- replies whose text is kept. Nothing else was done but to look.
+-- The line is a wait, and one look has found all that it waits for quiet, by what the client knows
+-- after the replies whose text is kept. Nothing else was done.
 pub record Waits (old new : Progress) (c : Command) : Type 0 where
   pub replies : List Reply
   pub client : Client
@@ -69,6 +77,7 @@ pub record Waits (old new : Progress) (c : Command) : Type 0 where
       Runs p.schema p.seen p.number at_start (take old.answered old.script) replies client
   pub written : old.text ≡ lines_text (take old.answered old.script) replies
   pub stayed : HasStayedQuiet old.caller new.caller client c
+  pub look : LooksOnce old.caller new.caller
   pub later : IsLater old.caller new.caller
   pub tries : new.caller.tries ≡ old.caller.tries
   pub own : new.caller.own ≡ old.caller.own
@@ -79,14 +88,15 @@ abbrev pub IsBlocked : ℕ → Progress → Progress → Command → Type 0
 IsBlocked callers old new command.Write = HasLost callers old.caller new.caller
 IsBlocked callers old new c = Waits old new c
 
--- The next line is answered. Or it is still to do, and all else is as before. Or no line is left.
--- After want of memory the answers are as before.
+-- The next line is answered. Or it is still to do, and all else is as before. Or no line is left, and
+-- what is open is aborted. After want of memory the answers are as before.
 abbrev pub AnswersStep : ℕ → Progress → Progress → Result Stepped AllocError → Type 0
 AnswersStep callers old new (Ok (stepped.Answered line)) =
     (l : Line) × IsNext old l line × (new.answered ≡ old.answered + 1) × HasAnswered old new
-    × HasNotLost l.command old.caller new.caller
+    × HasDoneOnce l.command old.caller new.caller
 AnswersStep callers old new (Ok (stepped.Blocked line)) =
     (l : Line) × IsNext old l line × IsBlocked callers old new l.command
     × (new ≡ record old { caller = new.caller })
-AnswersStep callers old new (Ok stepped.Ended) = (old.answered ≡ length old.script) × (new ≡ old)
+AnswersStep callers old new (Ok stepped.Ended) =
+    (old.answered ≡ length old.script) × (new ≡ record old { writing = false })
 AnswersStep callers old new (Err e) = (new.answered ≡ old.answered) × (new.text ≡ old.text)

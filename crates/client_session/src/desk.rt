@@ -9,9 +9,9 @@ ghost use Rattle.client_session.specs.Answered.{IsLater};
 ghost use Rattle.client_script.specs.declared.command.Command.TheVariants as command;
 ghost use Rattle.client_script.specs.Client.{at_start};
 ghost use Rattle.client_session.specs.inner.DeskView.{Follows, IsLook, IsRequest, KeepsOrSizes};
-ghost use Rattle.client_session.specs.inner.DeskView.{LooksAndReplies, LooksOnce, RepliesTo};
+ghost use Rattle.client_session.specs.inner.DeskView.{AnswersOnce, LooksAndReplies, RepliesTo};
 ghost use Rattle.client_session.specs.inner.DeskView.{StepsTo};
-ghost use Rattle.client_session.specs.inner.OpenView.{caller_of, IsOpen, Stands};
+ghost use Rattle.client_session.specs.inner.OpenView.{caller_of, is_writing, IsOpen, Stands};
 ghost use Rattle.client_session.specs.inner.KeptView.{seen_in};
 ghost use Rattle.client_session.specs.inner.ReplyOf.{reply_of};
 ghost use Rattle.client_session.specs.inner.WatchingView.{HasLookedOn, Holds, TellsLook, wait_for};
@@ -42,6 +42,7 @@ impl Desk {
     pub(crate) fn new(alloc: Global, pass: Pass) -> Desk
         ensures start { Follows result at_start }
         ensures caller { caller_of result.open ≡ pass }
+        ensures closed { is_writing result.open ≡ false }
     {
         Desk {
             open: Open::Nothing(pass),
@@ -301,7 +302,7 @@ impl Desk {
         requires own { IsOf db.now (caller_of self.old.open) }
         requires stands { Stands self.old.open }
         requires holds { Holds (caller_of self.old.open) self.old.watching }
-        ensures turn { IfOk result (λ r. LooksOnce (wait_for set.now (option_copied until.entry))
+        ensures turn { IfOk result (λ r. AnswersOnce (wait_for set.now (option_copied until.entry))
             self.old self.new (option_map (reply_of (caller_of self.old.open).schema) r)) }
         ensures caller { IsLater (caller_of self.old.open) (caller_of self.new.open) }
         ensures unmade { (caller_of self.new.open).own ≡ (caller_of self.old.open).own }
@@ -363,7 +364,8 @@ impl Desk {
     /// A desk with the pass alone, after what is open was ended or aborted. It takes no memory.
     pub(crate) fn closed(self, alloc: Global, db: &Db) -> Desk
         requires own { IsOf db.now (caller_of self.open) }
-        ensures { caller_of result.open ≡ caller_of self.open }
+        ensures caller { caller_of result.open ≡ caller_of self.open }
+        ensures closed { is_writing result.open ≡ false }
     {
         Desk::new(alloc, self.close(db))
     }

@@ -6,7 +6,7 @@ ghost use Rattle.client_script.specs.Reply.{line_text};
 ghost use Rattle.client_session.specs.inner.Added.{IsAdded};
 ghost use Rattle.client_session.specs.inner.Carried.{AddsSome, AnswersLine, CarriedOn, CarriesOut};
 ghost use Rattle.client_session.specs.inner.Carried.{SoFar, StepsLine, Stops, StopsLine};
-ghost use Rattle.client_session.specs.inner.OpenView.{caller_of, Stands};
+ghost use Rattle.client_session.specs.inner.OpenView.{caller_of, is_writing, Stands};
 ghost use Rattle.client_session.specs.inner.ReplyOf.{reply_of};
 ghost use Rattle.client_session.specs.inner.WatchingView.{Holds};
 
@@ -43,6 +43,7 @@ pub(crate) fn carry_out<R: Wait, G: Gate>(
         script.now from result.1 text.old.items text.new.items) }
     ensures all { OnOk result.2 (result.1 ≡ length script.now) }
     ensures place { result.1 ≤ length script.now }
+    ensures closed { is_writing result.0.open ≡ false }
 {
     let alloc = *text.allocator();
     let (desk, answered, told) = answer_lines(rt, db, gate, client, script, from, desk, text);
@@ -150,6 +151,7 @@ pub(crate) fn step_line<R: Wait>(
         text.old.items text.new.items result.1) }
     ensures kept { OnErr result.1 (text.new.items ≡ text.old.items) }
     ensures stopped { OnErr result.1 (StopsLine line.now desk (caller_of result.0.open)) }
+    ensures closed { OnErr result.1 (is_writing result.0.open ≡ false) }
     ensures caller { IsLater (caller_of desk.open) (caller_of result.0.open) }
 {
     let alloc = *text.allocator();

@@ -1,8 +1,8 @@
 //! A client's session.
-ghost use Rattle.std.specs.Prelude.{◌≡◌, ◌+◌, IsOk, IsSome, List, None, OnErr, OnOk, Some};
+ghost use Rattle.std.specs.Prelude.{◌≡◌, ◌+◌, IsSome, List, None, OnErr, OnOk, Some};
 ghost use Rattle.std.specs.Prelude.{◌<◌, false, true, is_err, length, slice_get};
 ghost use Rattle.client_script.specs.Reply.{Reply};
-ghost use Rattle.client_session.specs.Answered.{AreTold, HasAnswered, HasStopped, IsLater, Tells};
+ghost use Rattle.client_session.specs.Answered.{AreTold, HasAnswered, HasStopped, StaysEnded, Tells};
 ghost use Rattle.client_session.specs.Progress.{begun};
 ghost use Rattle.client_session.specs.Steps.{AnswersStep};
 ghost use Rattle.client_session.specs.declared.desk.Desk.{Desk};
@@ -37,7 +37,7 @@ pub struct Session {
 
 impl Model for Session {
     ghost use Rattle.client_session.specs.Progress.{Progress};
-    ghost use Rattle.client_session.specs.inner.StoredSession.{HasDone, caller_in, progress_code};
+    ghost use Rattle.client_session.specs.inner.StoredSession.{HasDone, caller_in, progress_code, writing_in};
 
     ghost Value = { Progress };
 
@@ -49,6 +49,7 @@ impl Model for Session {
       caller = caller_in s.desk;
       answered = s.answered;
       text = s.text.items;
+      writing = writing_in s.desk;
       failed = s.failed;
     } };
 
@@ -72,10 +73,10 @@ impl Session {
     }
 
     /// Carries out every line that is left, and keeps the answers. A transaction that the script
-    /// leaves open is aborted. It waits for the writer's turn at `write`, and at a wait till a
-    /// watch fires, which may be never. After `AllocError` an open transaction was aborted, unless
-    /// its `commit` was made and found no memory for the answer; the answers kept are those to some
-    /// first lines, and each later call answers it again.
+    /// leaves open is aborted, so none is open then. It waits for the writer's turn at `write`, and
+    /// at a wait till a watch fires, which may be never. After `AllocError` an open transaction was
+    /// aborted, unless its `commit` was made and found no memory for the answer; the answers kept
+    /// are those to some first lines, and each later call answers it again.
     pub fn run<R: Wait, G: Gate>(&mut self, rt: &R, db: &Db, gate: &G) -> Result<(), AllocError>
         requires own { IsOf db.now self.old.caller }
         ensures told { Tells self.old self.new }
@@ -86,12 +87,10 @@ impl Session {
           caller = self.new.caller;
           answered = self.new.answered;
           text = self.new.text;
+          writing = false;
           failed = is_err result;
         } }
-        ensures caller { IsLater self.old.caller self.new.caller }
-        ensures failed { self.old.failed ≡ true → self.new ≡ self.old }
-        ensures done { self.old.failed ≡ false → self.old.answered ≡ length self.old.script
-            → IsOk result × (self.new ≡ self.old) }
+        ensures ended { StaysEnded self.old self.new result }
     {
         if self.failed {
             return Err(AllocError);
@@ -117,9 +116,9 @@ impl Session {
           caller = self.new.caller;
           answered = self.new.answered;
           text = self.new.text;
+          writing = self.new.writing;
           failed = is_err result;
         } }
-        ensures caller { IsLater self.old.caller self.new.caller }
         ensures failed { self.old.failed ≡ true → self.new ≡ self.old }
     {
         if self.failed {
@@ -145,9 +144,9 @@ impl Session {
           caller = self.new.caller;
           answered = self.new.answered;
           text = self.new.text;
+          writing = false;
           failed = is_err result;
         } }
-        ensures caller { IsLater self.old.caller self.new.caller }
     {
         let desk = take_desk(&mut self.desk);
         let (client, from) = (self.client, self.answered);
@@ -179,9 +178,9 @@ impl Session {
           caller = self.new.caller;
           answered = self.new.answered;
           text = self.new.text;
+          writing = self.new.writing;
           failed = is_err result;
         } }
-        ensures caller { IsLater self.old.caller self.new.caller }
     {
         let line = line_at(&self.script, self.answered);
         let number = line.number;
@@ -199,7 +198,7 @@ impl Session {
     fn close(&mut self, db: &Db)
         requires own { IsOf db.now self.old.caller }
         requires done { self.old.answered ≡ length self.old.script }
-        ensures { self.new ≡ self.old }
+        ensures { self.new ≡ record self.old { writing = false } }
     {
         let desk = take_desk(&mut self.desk);
         let alloc = *self.text.allocator();

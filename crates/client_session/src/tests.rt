@@ -1,6 +1,7 @@
 //! Whole sessions: scripts with the text of their answers, worked from the format of both.
 ghost use Rattle.std.specs.Prelude.{◌≡◌, IfOk};
-ghost use Rattle.mem_txn.specs.Database.{Opening, new_callers};
+ghost use Rattle.mem_txn.specs.CellHistory.{Forest};
+ghost use Rattle.mem_txn.specs.Database.{new_callers};
 
 use crate::{Session, Stepped};
 use client_script::{Script, read_script};
@@ -43,7 +44,7 @@ fn script_of(alloc: Global, text: &str) -> Result<Script, AllocError> {
 /// A new database over the tables of users, and the pass of its one caller.
 fn new_db(alloc: Global) -> Result<(Db, Passes), AllocError>
     ensures passes { IfOk result
-        (λ made. (opening : Opening) × (made.1 ≡ new_callers made.0 opening 1)) }
+        (λ made. (opening : Forest) × (made.1 ≡ new_callers made.0 opening 1)) }
     ensures alone { IfOk result (λ made. made.0.callers ≡ 1) }
 {
     Db::create(alloc, schema_of(alloc, users::SCHEMA)?, 1)

@@ -2,6 +2,7 @@
 use Rattle.std.proofs.Common.{◌≡◌, ℕ, zero, suc, List, [], ◌∷◌, ◌++◌, sym, ◌∙◌, subst, inl, inr, ⊎_elim, arith, Result, Ok, Err, IfOk, Option, Some, None, IfSome}
 use mathlib.Core.Logic.{dite}
 use native.Mathlib.Decide.{dec_le}
+use Rattle.watch_word.specs.Logs.{Log}
 use Rattle.db_front.specs.Commits.{commits_by}
 use Rattle.db_front.specs.Passes.{FrontId, Known, fresh, all_fresh, HasPass, AreAll, AreIn, HasMade, AreMade}
 
@@ -22,11 +23,11 @@ module _ {V : Type 0} where
   has_last c [] p e = inl e
   has_last c (q ∷ ps) p e = inr (has_last c ps p e)
 
-  pub fresh_all : (t : FrontId) (o : V) (n : ℕ) → AreAll n (all_fresh t o n)
-  fresh_all t o zero c pos few = absurd (omega (arith, pos, few))
-  fresh_all t o (suc n) c pos few = dite (dec_le c n)
-      (λ low. has_before c (all_fresh t o n) (fresh t o (suc n) ∷ []) (fresh_all t o n c pos low))
-      (λ last. has_last c (all_fresh t o n) (fresh t o (suc n)) (omega (arith, few, last)))
+  pub fresh_all : (t : FrontId) (o : V) (l : Log) (n : ℕ) → AreAll n (all_fresh t o l n)
+  fresh_all t o l zero c pos few = absurd (omega (arith, pos, few))
+  fresh_all t o l (suc n) c pos few = dite (dec_le c n)
+      (λ low. has_before c (all_fresh t o l n) (fresh t o l (suc n) ∷ []) (fresh_all t o l n c pos low))
+      (λ last. has_last c (all_fresh t o l n) (fresh t o l (suc n)) (omega (arith, few, last)))
 
   -- a pass is taken out first, and comes back last
   pub all_turned : (n : ℕ) (old rest new : List (Known V)) (p q : Known V) → AreAll n old → old ≡ p ∷ rest → q.number ≡ p.number → new ≡ rest ++ q ∷ [] → AreAll n new

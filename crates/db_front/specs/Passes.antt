@@ -1,8 +1,10 @@
 -- What callers see of passes and of what they share.
-use Rattle.std.specs.Prelude.{◌≡◌, ℕ, zero, suc, ◌+◌, ◌^◌, ◌<◌, ◌≤◌, ◌⊎◌, List, [], ◌∷◌, ◌++◌, length, Option, Result, IfOk, IfSome, IfNone}
+use Rattle.std.specs.Prelude.{◌≡◌, ℕ, zero, suc, ◌+◌, ◌^◌, ◌<◌, ◌≤◌, ◌⊎◌, List, [], ◌∷◌, ◌++◌, length, Option, Result, IfOk, OnOk, OnErr, IfSome, IfNone}
 use mathlib.Core.List.{IsPrefix}
 use Rattle.atomic_table.specs.Seated.{TableId}
+use Rattle.watch_word.specs.Logs.{Log}
 use Rattle.db_front.specs.AnyPass as any
+use Rattle.db_front.specs.Commits.{IsLastOf}
 
 -- which front it is: its table, and how many callers it has
 abbrev pub FrontId : Type 0
@@ -10,7 +12,8 @@ FrontId = TableId × ℕ
 
 -- A pass: its caller's number, the list of commits that it has seen, its own commits, the counts
 -- that it has read, the words that its tries for the writer's turn found. The stage is 1 with the
--- writer's turn, 2 where it has published, else 0.
+-- writer's turn, 2 where it has published, else 0. The log is as far as its caller has seen it: the
+-- layer above keeps it here, since it alone knows how two logs are joined.
 pub record Known (V : Type 0) : Type 0 where
   pub table : FrontId
   pub number : ℕ
@@ -19,6 +22,7 @@ pub record Known (V : Type 0) : Type 0 where
   pub counts : List ℕ
   pub tries : List ℕ
   pub stage : ℕ
+  pub log : Log
 
 -- a list of passes, and how many it has room for
 pub record Held (V : Type 0) : Type 0 where
@@ -30,9 +34,9 @@ pub record Group : Type 0 where
   pub table : FrontId
   pub callers : ℕ
 
--- a pass that has done nothing
-abbrev pub fresh : {V : Type 0} → FrontId → V → ℕ → Known V
-fresh t o c = record {
+-- a pass that has done nothing, with the opening log
+abbrev pub fresh : {V : Type 0} → FrontId → V → Log → ℕ → Known V
+fresh t o l c = record {
   table = t;
   number = c;
   seen = (0, o) ∷ [];
@@ -40,12 +44,13 @@ fresh t o c = record {
   counts = [];
   tries = [];
   stage = 0;
+  log = l;
 }
 
 -- the passes 1 to n
-abbrev pub all_fresh : {V : Type 0} → FrontId → V → ℕ → List (Known V)
-all_fresh t o zero = []
-all_fresh t o (suc n) = all_fresh t o n ++ fresh t o (suc n) ∷ []
+abbrev pub all_fresh : {V : Type 0} → FrontId → V → Log → ℕ → List (Known V)
+all_fresh t o l zero = []
+all_fresh t o l (suc n) = all_fresh t o l n ++ fresh t o l (suc n) ∷ []
 
 module _ {V : Type 0} where
   -- caller c has a pass in the list
@@ -75,14 +80,39 @@ abbrev pub AreIdle : {V : Type 0} → FrontId → List (Known V) → Type 0
 AreIdle t [] = Unit {0}
 AreIdle t (p ∷ ps) = (p.table ≡ t) × (p.stage ≡ 0) × AreIdle t ps
 
+-- the two answers of a try
+abbrev pub IfBegun : {T E : Type 0} → Result (Option T) E → (T → Type 0) → Type 0
+IfBegun r P = IfOk r (λ o. IfSome o P)
+
+abbrev pub IfTaken : {T E : Type 0} → Result (Option T) E → Type 0 → Type 0
+IfTaken r P = IfOk r (λ o. IfNone o P)
+
+-- all commits are finished, or all but the last
+abbrev pub AllOrAllButLast : ℕ → ℕ → Type 0
+AllOrAllButLast finished number = (finished ≡ number) ⊎ (finished + 1 ≡ number)
+
 module _ {V : Type 0} where
+  -- the pass is of this front, and without the writer's turn
+  abbrev pub MayBegin : Group → Known V → Type 0
+  MayBegin shared p = (p.table ≡ shared.table) × (p.stage ≡ 0)
+
+  -- with the writer's turn after `Ok`, without it after `Err`
+  abbrev pub HasTurnIfOk : {T E : Type 0} → Result T E → Known V → Type 0
+  HasTurnIfOk r p = OnOk r (p.stage ≡ 1) × OnErr r (p.stage ≡ 0)
+
   -- the number of commits of the list that the pass now has seen, which it read in this call
   abbrev pub IsNumber : Known V → Known V → ℕ → Type 0
   IsNumber old new number =
       (number + 1 ≡ length new.seen) × (new.counts ≡ old.counts ++ number ∷ [])
       × (number ≤ 2 ^ 63)
 
-  -- the same, where all these commits are finished
+  -- how many of these commits are finished: all, or all but the last; all, where the last one is
+  -- the pass's own and it was without the writer's turn
+  pub record TellsFinished (old new : Known V) (number finished : ℕ) : Type 0 where
+    pub near : AllOrAllButLast finished number
+    pub own : old.stage ≡ 0 → IsLastOf old.number new.seen → finished ≡ number
+
+  -- the number of commits, where all of them are finished
   abbrev pub IsFinished : Known V → Known V → ℕ → ℕ → Type 0
   IsFinished old new number finished = IsNumber old new number × (finished ≡ number)
 
@@ -138,13 +168,11 @@ module _ {V : Type 0} where
   abbrev pub HasWonTurn : Known V → Known V → Type 0
   HasWonTurn old new = Won old new × (new.stage ≡ 1)
 
--- all commits are finished, or all but the last
-abbrev pub AllOrAllButLast : ℕ → ℕ → Type 0
-AllOrAllButLast finished number = (finished ≡ number) ⊎ (finished + 1 ≡ number)
-
--- the two answers of a try
-abbrev pub IfBegun : {T E : Type 0} → Result (Option T) E → (T → Type 0) → Type 0
-IfBegun r P = IfOk r (λ o. IfSome o P)
-
-abbrev pub IfTaken : {T E : Type 0} → Result (Option T) E → Type 0 → Type 0
-IfTaken r P = IfOk r (λ o. IfNone o P)
+  -- The one try that was made, with its answer: `Some` with the turn, `None` where it found the
+  -- number of another of so many callers, `Err` where it found the turn free and there was no
+  -- memory.
+  pub record HasTried {T E : Type 0} (stands : List (ℕ × V) → V → Type 0) (callers : ℕ)
+      (answer : Result (Option T) E) (old new : Known V) : Type 0 where
+    pub won : IfBegun answer (λ s. HasWonTurn old new)
+    pub taken : IfTaken answer (Lost callers old new)
+    pub memory : OnErr answer (HasLeft stands old new)

@@ -3,7 +3,8 @@ ghost use Rattle.std.specs.Prelude.{◌≡◌, IfOk};
 ghost use Rattle.std.specs.Arc.{arc_value};
 
 use crate::shown::Shown;
-use std::alloc::AllocError;
+use crate::version::{Version, copy_of};
+use std::alloc::{AllocError, Global};
 use std::marker::Model;
 use std::sync::Arc;
 use watch_word::Front;
@@ -30,6 +31,17 @@ impl<V: Drop> Card<V> {
         ensures { IfOk result (λ c. c ≡ self.now) }
     {
         let value = Arc::try_clone(&self.value)?;
+        let log = self.log.share();
+        Ok(Card { value, log })
+    }
+
+    /// A card with a copy of the value, for another caller.
+    pub(crate) fn copy(&self, alloc: Global) -> Result<Card<V>, AllocError>
+    where
+        V: Version,
+        ensures { IfOk result (λ c. c ≡ self.now) }
+    {
+        let value = copy_of(alloc, &self.value)?;
         let log = self.log.share();
         Ok(Card { value, log })
     }

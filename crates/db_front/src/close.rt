@@ -32,6 +32,7 @@ fn absorb<V: Version>(board: &Board<V>, place: &mut Place<V>, pass: Pass<V>)
         place: other,
         number: _,
         last: _,
+        log: _,
     } = pass;
     board.join_seat::<Hand>(place, other);
 }
@@ -106,6 +107,7 @@ impl<V: Version> Shared<V> {
             × AreMade self.callers h passes.passes }
     {
         let Shared {
+            alloc: _,
             table,
             callers: _,
             sleepers,
@@ -118,6 +120,7 @@ impl<V: Version> Shared<V> {
             mut place,
             number,
             last: _,
+            log: _,
         } = first;
         gather(&table.shared, &mut place, passes);
         settle(rt, table, &sleepers, place, number)

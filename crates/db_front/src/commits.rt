@@ -6,6 +6,7 @@ ghost use Rattle.atomic_table.specs.Table.{rest as other_slots};
 ghost use Rattle.watch_word.specs.Logs.{Log};
 ghost use Rattle.db_front.specs.Commits.{HasFirings};
 ghost use Rattle.db_front.specs.Steps.{IsTurn};
+ghost use Rattle.db_front.specs.inner.Copies.{AreCopies};
 ghost use Rattle.db_front.specs.inner.Seats.{IsAt, IsFree, IsSame, HoldsTo, committing};
 
 use crate::board::{Board, COUNT, DONE, Place, turn_of};
@@ -75,7 +76,20 @@ fn lay<V: Version>(
     drop(old);
 }
 
-/// Puts the value into the slots of the callers below the last one, and gives their turns back.
+/// One of the copies, or a further owner of the value where none is left.
+fn next_copy<V: Drop, R: Wait>(rt: &R, copies: &mut Vec<Arc<V>>, value: &Arc<V>) -> Arc<V>
+    requires { AreCopies (arc_value value.now) copies.old.items }
+    ensures copy { arc_value result ≡ arc_value value.now }
+    ensures others { AreCopies (arc_value value.now) copies.new.items }
+{
+    match copies.pop() {
+        Some(copy) => copy,
+        None => again(rt, value),
+    }
+}
+
+/// Puts a copy of the value into each slot of the callers below the last one, and gives their turns
+/// back.
 fn lay_others<V: Version, R: Wait>(
     rt: &R,
     board: &Board<V>,
@@ -83,12 +97,14 @@ fn lay_others<V: Version, R: Wait>(
     place: &mut Place<V>,
     callers: u64,
     spare: Option<Arc<V>>,
+    mut copies: Vec<Arc<V>>,
 )
     requires table { IsAt board.now.table_id board.now.key.1 place.old }
     requires callers { (0 < callers) × (callers ≡ board.now.key.1) }
     requires held { HoldsTo (callers - 1) place.old.me.0 place.old }
     requires spare { IfNone spare (callers ≤ 1) }
     requires stands { IfSome spare (λ a. V.stands place.old.me.0.seen (arc_value a)) }
+    requires copies { IfSome spare (λ a. AreCopies (arc_value a) copies.items) }
     ensures seat { IsSame place.old place.new }
     ensures gave { place.new.me ≡ (record place.old.me.0 { outs = [] }, []) }
 {
@@ -97,13 +113,13 @@ fn lay_others<V: Version, R: Wait>(
     };
     let mut left = callers - 1;
     while left > 0 {
-        let owner = again(rt, &value);
-        lay(board, sleepers, place, turn_of(left), owner);
+        let copy = next_copy(rt, &mut copies, &value);
+        lay(board, sleepers, place, turn_of(left), copy);
         left -= 1;
     }
 }
 
-/// An owner from which those for the slots below the last one are made, if there are any.
+/// A further owner of the value, if there are slots below the last one.
 fn spare_of<V: Drop, R: Wait>(rt: &R, value: &Arc<V>, callers: u64) -> Option<Arc<V>>
     ensures none { IfNone result (callers ≤ 1) }
     ensures some { IfSome result (λ a. arc_value a ≡ arc_value value.now) }
@@ -135,7 +151,10 @@ pub(crate) fn commit<V: Version, R: Wait>(
     ensures committed { place.new.me ≡ (committing place.old.me.0 ready, []) }
     ensures count { result + 1 ≡ length place.new.me.0.seen }
 {
-    let Ready { value: next } = ready;
+    let Ready {
+        value: next,
+        copies,
+    } = ready;
     let spare = spare_of(rt, &next, callers);
     let turn = turn_of(callers);
     take_others(rt, board, sleepers, place, number, callers);
@@ -145,7 +164,7 @@ pub(crate) fn commit<V: Version, R: Wait>(
     let count = board.fetch_add::<Commit>(place, COUNT, 1);
     board.store::<Back>(place, turn, 0);
     wake(board, sleepers, turn);
-    lay_others(rt, board, sleepers, place, callers, spare);
+    lay_others(rt, board, sleepers, place, callers, spare, copies);
     drop(value);
     count + 1
 }

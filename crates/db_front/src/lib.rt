@@ -13,13 +13,18 @@
 //! compile. `close` takes the passes back, and `publish` the value made ready.
 //!
 //! Each caller has a slot of its own with the value and the log, and a shown turn at it. `look`
-//! takes the own turn alone, so readers don't wait for each other. `publish` takes every shown turn
-//! and `finish` each of them once more, so the cost of a commit grows with the number of callers. A
-//! turn is held to share the value and its log or to change them, and never while values are made.
+//! takes the own turn alone, so readers don't wait for each other. Nor do they share a count of
+//! owners: `ready` makes a copy of the value for each caller ([`Version::copy`]), and `publish` lays
+//! them into the slots. `publish` takes every shown turn and `finish` each of them once more, so the
+//! cost of a commit grows with the number of callers. A turn is held to share the value and its log
+//! or to change them, and never while values are made.
 //!
 //! Who waits for something to change announces it by `next_commit`, looks, and sleeps by
-//! [`NextCommit::wait`] where it found nothing; `finish` wakes all that sleep so. `end_waits` wakes
-//! them for good, for nobody may be left to commit.
+//! [`NextCommit::wait`] where it found nothing; `finish` wakes all that sleep so, where it is told
+//! to. `end_waits` wakes them for good, for nobody may be left to commit.
+//!
+//! The layer above keeps in each pass the log that its caller has seen, by [`Pass::keep`]. No call
+//! here reads it.
 //!
 //! A look costs a fixed number of atomic steps, where it needn't wait. A caller that finds a turn
 //! taken looks at it for a short while, and then sleeps until it is given back. A call that takes a

@@ -23,24 +23,32 @@ use std::sync::Arc;
 use watch_word::Front;
 
 /// The pass of the next number, which is split off.
-fn deal_one<V: Version>(board: &Board<V>, place: &mut Place<V>, number: u64) -> Pass<V>
+fn deal_one<V: Version>(board: &Board<V>, place: &mut Place<V>, number: u64, log: &Front) -> Pass<V>
     requires table { IsAt board.now.table_id board.now.key.1 place.old }
     requires next { (0 < number) × (number < board.now.key.1) }
     requires dealing { place.old.me ≡ (dealing board.now.key number, []) }
     ensures table { place.new.table_id ≡ place.old.table_id }
     ensures dealing { place.new.me ≡ (dealing board.now.key (number + 1), []) }
-    ensures pass { result ≡ fresh (board.now.table_id, board.now.key.1) board.now.key.0 number }
+    ensures pass { result
+        ≡ fresh (board.now.table_id, board.now.key.1) board.now.key.0 log.now number }
 {
     let other = board.split_seat::<Hand>(place);
     Pass {
         place: other,
         number,
         last: 0,
+        log: log.share(),
     }
 }
 
 /// The passes below the last one.
-fn deal<V: Version>(board: &Board<V>, place: &mut Place<V>, passes: &mut Passes<V>, callers: u64)
+fn deal<V: Version>(
+    board: &Board<V>,
+    place: &mut Place<V>,
+    passes: &mut Passes<V>,
+    callers: u64,
+    log: &Front,
+)
     requires table { IsAt board.now.table_id board.now.key.1 place.old }
     requires callers { (0 < callers) × (callers ≡ board.now.key.1) }
     requires dealing { place.old.me ≡ (dealing board.now.key 1, []) }
@@ -49,11 +57,12 @@ fn deal<V: Version>(board: &Board<V>, place: &mut Place<V>, passes: &mut Passes<
     ensures dealing { place.new.me ≡ (dealing board.now.key callers, []) }
     ensures passes { passes.new ≡ record {
       room = callers;
-      passes = all_fresh (board.now.table_id, board.now.key.1) board.now.key.0 (callers - 1);
+      passes
+          = all_fresh (board.now.table_id, board.now.key.1) board.now.key.0 log.now (callers - 1);
     } }
 {
     for number in 1..callers {
-        let pass = deal_one(board, place, number);
+        let pass = deal_one(board, place, number, log);
         passes.give(pass);
     }
 }
@@ -65,21 +74,23 @@ fn deal_all<V: Version>(
     board: &Board<V>,
     mut place: Place<V>,
     callers: u64,
+    log: &Front,
 ) -> Result<Passes<V>, AllocError>
     requires table { IsAt board.now.table_id board.now.key.1 place }
     requires callers { (0 < callers) × (callers ≡ board.now.key.1) }
     requires dealing { place.me ≡ (dealing board.now.key 1, []) }
     ensures { IfOk result (λ p. p ≡ record {
       room = callers;
-      passes = all_fresh (board.now.table_id, board.now.key.1) board.now.key.0 callers;
+      passes = all_fresh (board.now.table_id, board.now.key.1) board.now.key.0 log.now callers;
     }) }
 {
     let mut passes = Passes::with_room(alloc, callers as usize)?;
-    deal(board, &mut place, &mut passes, callers);
+    deal(board, &mut place, &mut passes, callers, log);
     passes.give(Pass {
         place,
         number: callers,
         last: 0,
+        log: log.share(),
     });
     Ok(passes)
 }
@@ -103,7 +114,7 @@ fn places<V: Version>(alloc: Global, count: usize) -> Result<Vec<Option<Card<V>>
     Ok(slots)
 }
 
-/// The slots, with a card for each caller.
+/// The slots, with a card for each caller, of whose value it has a copy of its own.
 fn slots_of<V: Version>(
     alloc: Global,
     card: &Card<V>,
@@ -115,7 +126,7 @@ fn slots_of<V: Version>(
 {
     let mut slots = places(alloc, size_of(callers))?;
     for caller in 1..callers + 1 {
-        slots[turn_of(caller)] = Some(card.share()?);
+        slots[turn_of(caller)] = Some(card.copy(alloc)?);
     }
     Ok(slots)
 }
@@ -173,7 +184,7 @@ fn lay<V: Version>(
 }
 
 /// A front that shows the value with the number 0, and the passes of the callers 1 to `callers`, in
-/// order. `AllocError` means want of memory.
+/// order, each with the opening log. `AllocError` means want of memory.
 pub fn make_shared<V: Version>(
     alloc: Global,
     value: Arc<V>,
@@ -183,19 +194,24 @@ pub fn make_shared<V: Version>(
     requires callers { (1 ≤ callers) × (callers ≤ 64) }
     requires stands { V.stands ((0, arc_value value) ∷ []) (arc_value value) }
     requires log { V.fired ((0, arc_value value) ∷ []) log }
-    ensures callers { IfOk result (λ t. t.0.callers ≡ callers) }
+    ensures callers { IfOk result
+        (λ t. (t.0.callers ≡ callers) × (length t.1.passes ≡ callers)) }
     ensures passes { IfOk result (λ t. t.1 ≡ record {
       room = callers;
-      passes = all_fresh t.0.table (arc_value value) callers;
+      passes = all_fresh t.0.table (arc_value value) log callers;
     }) }
-    ensures count { IfOk result (λ t. length t.1.passes ≡ callers) }
     ensures all { IfOk result (λ t. AreAll t.0.callers t.1.passes) }
     ensures idle { IfOk result (λ t. AreIdle t.0.table t.1.passes) }
 {
-    let (table, place) = lay(alloc, Card { value, log }, callers as u64)?;
-    let passes = deal_all(alloc, &table.shared, place, callers as u64)?;
+    let card = Card {
+        value,
+        log: log.share(),
+    };
+    let (table, place) = lay(alloc, card, callers as u64)?;
+    let passes = deal_all(alloc, &table.shared, place, callers as u64, &log)?;
     Ok((
         Shared {
+            alloc,
             table,
             callers: callers as u64,
             sleepers: Sleepers::none(),

@@ -1,19 +1,19 @@
 //! What callers share, and the calls on it.
-ghost use Rattle.std.specs.Prelude.{IfOk, OnOk, OnErr, ◌≡◌, ◌+◌, ◌-◌, ◌<◌, ◌≤◌, ◌^◌, [], ◌∷◌, ◌++◌};
+ghost use Rattle.std.specs.Prelude.{IfOk, ◌≡◌, ◌+◌, ◌-◌, ◌<◌, ◌≤◌, ◌^◌, [], ◌∷◌, ◌++◌};
 ghost use Rattle.std.specs.Prelude.{length};
 ghost use Rattle.std.specs.Arc.{arc_value};
-ghost use Rattle.db_front.specs.Commits.{HasFirings, IsLastOf};
-ghost use Rattle.db_front.specs.Passes.{AllOrAllButLast, HasBegun, HasLeft, HasLooked, HasTurned};
-ghost use Rattle.db_front.specs.Passes.{HasWonTurn, IfBegun, IfTaken, IsFinished, IsNumber, Lost};
+ghost use Rattle.db_front.specs.Commits.{HasFirings};
+ghost use Rattle.db_front.specs.Passes.{HasBegun, HasLooked, HasTried, HasTurned, HasTurnIfOk};
+ghost use Rattle.db_front.specs.Passes.{IfBegun, IsFinished, IsNumber, MayBegin, TellsFinished};
 
 use crate::board::BoardTable;
 use crate::commits::{commit, end};
 use crate::pass::Pass;
 use crate::shown::{Ready, Shown};
 use crate::turns::{Sleepers, leave_turn, see, see_begun, take_turn, try_turn};
-use crate::version::Version;
+use crate::version::{Version, copies_of};
 use crate::waits::{NextCommit, Waits};
-use std::alloc::AllocError;
+use std::alloc::{AllocError, Global};
 use std::marker::Model;
 use std::sync::{Arc, Wait};
 use watch_word::Front;
@@ -22,6 +22,7 @@ use watch_word::Front;
 /// and how many callers it has. A pass belongs to the object that it was made with.
 #[derive(Drop)]
 pub struct Shared<V: Version> {
+    pub(crate) alloc: Global,
     pub(crate) table: BoardTable<V>,
     pub(crate) callers: u64,
     pub(crate) sleepers: Sleepers,
@@ -56,15 +57,12 @@ impl<V: Version> Shared<V> {
         ensures stood { (v : V) × V.stands pass.new.seen v }
         ensures value { IfOk result (λ s. V.stands pass.new.seen (arc_value s.value)) }
         ensures number { IfOk result (λ s. IsNumber pass.old pass.new s.number) }
-        ensures finished { IfOk result (λ s. AllOrAllButLast s.finished s.number) }
-        ensures own { pass.old.stage ≡ 0 → IsLastOf pass.old.number pass.new.seen
-            → IfOk result (λ s. s.finished ≡ s.number) }
+        ensures finished { IfOk result (λ s. TellsFinished pass.old pass.new s.number s.finished) }
         ensures log { IfOk result (λ s. HasFirings V.fired s.finished pass.new.seen s.log) }
     {
         let board = &self.table.shared;
         let sleepers = &self.sleepers;
         let (number, finished, shared) = see(rt, board, sleepers, &mut pass.place, pass.number);
-        pass.last = number;
         match shared {
             Ok(card) => Ok(card.shown(number, finished)),
             Err(e) => Err(e),
@@ -76,20 +74,17 @@ impl<V: Version> Shared<V> {
     ///
     /// After `AllocError`, which comes as in `look`, the pass doesn't have the turn.
     pub fn begin<R: Wait>(&self, rt: &R, pass: &mut Pass<V>) -> Result<Shown<V>, AllocError>
-        requires own { pass.old.table ≡ self.now.table }
-        requires out { pass.old.stage ≡ 0 }
+        requires { MayBegin self.now pass.old }
         ensures pass { HasBegun pass.old pass.new }
         ensures stood { (v : V) × V.stands pass.new.seen v }
         ensures value { IfOk result (λ s. V.stands pass.new.seen (arc_value s.value)) }
         ensures number { IfOk result (λ s. IsFinished pass.old pass.new s.number s.finished) }
         ensures log { IfOk result (λ s. HasFirings V.fired s.number pass.new.seen s.log) }
-        ensures held { OnOk result (pass.new.stage ≡ 1) }
-        ensures memory { OnErr result (pass.new.stage ≡ 0) }
+        ensures turn { HasTurnIfOk result pass.new }
     {
         let board = &self.table.shared;
         take_turn(rt, board, &self.sleepers, &mut pass.place, pass.number);
         let (number, shared) = see_begun(rt, board, &self.sleepers, &mut pass.place, pass.number);
-        pass.last = number;
         match shared {
             Ok(card) => Ok(card.shown(number, number)),
             Err(e) => Err(e),
@@ -105,15 +100,12 @@ impl<V: Version> Shared<V> {
         rt: &R,
         pass: &mut Pass<V>,
     ) -> Result<Option<Shown<V>>, AllocError>
-        requires own { pass.old.table ≡ self.now.table }
-        requires out { pass.old.stage ≡ 0 }
+        requires { MayBegin self.now pass.old }
         ensures pass { HasTurned pass.old pass.new }
         ensures value { IfBegun result (λ s. V.stands pass.new.seen (arc_value s.value)) }
         ensures number { IfBegun result (λ s. IsFinished pass.old pass.new s.number s.finished) }
         ensures log { IfBegun result (λ s. HasFirings V.fired s.number pass.new.seen s.log) }
-        ensures won { IfBegun result (λ s. HasWonTurn pass.old pass.new) }
-        ensures taken { IfTaken result (Lost self.now.callers pass.old pass.new) }
-        ensures memory { OnErr result (HasLeft V.stands pass.old pass.new) }
+        ensures turn { HasTried V.stands self.now.callers result pass.old pass.new }
     {
         let board = &self.table.shared;
         let found = try_turn(board, &mut pass.place, pass.number);
@@ -121,19 +113,19 @@ impl<V: Version> Shared<V> {
             return Ok(None);
         }
         let (number, shared) = see_begun(rt, board, &self.sleepers, &mut pass.place, pass.number);
-        pass.last = number;
         match shared {
             Ok(card) => Ok(Some(card.shown(number, number))),
             Err(e) => Err(e),
         }
     }
 
-    /// Makes a value ready to be published. The further owners of it, one for each slot, are made
-    /// by `publish`, which takes no memory.
+    /// Makes a value ready to be published. It takes the memory for a copy of it for each caller but
+    /// one, so that `publish` takes none.
     pub fn ready(&self, value: Arc<V>) -> Result<Ready<V>, AllocError>
         ensures { IfOk result (λ r. r ≡ arc_value value) }
     {
-        Ok(Ready { value })
+        let copies = copies_of(self.alloc, &value, self.callers)?;
+        Ok(Ready { value, copies })
     }
 
     /// The commit event, made while every shown turn is held. It gives the new number. It takes no
@@ -164,10 +156,13 @@ impl<V: Version> Shared<V> {
         count
     }
 
-    /// Shows the log in each slot, then the finished number, gives the writer's turn back, and wakes
-    /// all that sleep until a commit is finished. It takes no memory, and may wait while another
-    /// caller looks.
-    pub fn finish<R: Wait>(&self, rt: &R, pass: &mut Pass<V>, log: Front)
+    /// Shows the log in each slot, then the finished number, and gives the writer's turn back. It
+    /// takes no memory, and may wait while another caller looks.
+    ///
+    /// It wakes those who sleep until a commit is finished only where `wake` is true: whoever
+    /// finishes a commit that fires no cell on which somebody sleeps says false. No clause speaks of
+    /// it.
+    pub fn finish<R: Wait>(&self, rt: &R, pass: &mut Pass<V>, log: Front, wake: bool)
         requires own { pass.old.table ≡ self.now.table }
         requires published { pass.old.stage ≡ 2 }
         requires log { HasFirings V.fired (length pass.old.seen - 1) pass.old.seen log }
@@ -184,7 +179,9 @@ impl<V: Version> Shared<V> {
             pass.last,
             log,
         );
-        self.waits.wake();
+        if wake {
+            self.waits.wake();
+        }
     }
 
     /// Gives the writer's turn back without a commit. It takes no memory and waits for nobody.
@@ -196,9 +193,9 @@ impl<V: Version> Shared<V> {
         leave_turn(&self.table.shared, &self.sleepers, &mut pass.place);
     }
 
-    /// Announces that the caller may sleep until the next commit is finished; `None` once waits have
-    /// been ended. A caller that then looks, finds nothing and sleeps misses no commit: each was
-    /// finished before that look, or it wakes the caller. It takes no memory.
+    /// Announces that the caller may sleep until the next commit is finished that wakes; `None` once
+    /// waits have been ended. A caller that then looks, finds nothing and sleeps misses no such
+    /// commit: each was finished before that look, or it wakes the caller. It takes no memory.
     pub fn next_commit(&self) -> Option<NextCommit<'_>> {
         self.waits.announce()
     }

@@ -6,7 +6,7 @@ use watch_word::Front;
 /// The value after a list of commits.
 #[derive(Drop)]
 pub struct Shown<V: Drop> {
-    /// A further owner of the value.
+    /// An owner of the value. Its count of owners is the caller's own.
     pub value: Arc<V>,
     /// The number of commits that the value stands for.
     pub number: u64,
@@ -16,9 +16,11 @@ pub struct Shown<V: Drop> {
     pub log: Front,
 }
 
-/// A value to be published. Contracts see it as the value. It can't be dropped: `publish` takes it.
+/// A value to be published, with a copy for each caller but one. Contracts see it as the value. It
+/// can't be dropped: `publish` takes it.
 pub struct Ready<V: Drop> {
     pub(crate) value: Arc<V>,
+    pub(crate) copies: Vec<Arc<V>>,
 }
 
 impl<V: Drop> Model for Ready<V> {
@@ -27,4 +29,8 @@ impl<V: Drop> Model for Ready<V> {
     ghost Value = { V };
 
     ghost view = { λ r. arc_value r.value };
+
+    ghost use Rattle.db_front.specs.inner.Copies.{AreCopies};
+
+    ghost invariant = { λ r. AreCopies (arc_value r.value) r.copies.items };
 }

@@ -1,8 +1,10 @@
 //! Commits of one, two and sixty-four callers, with values that list who committed.
-ghost use Rattle.std.specs.Prelude.{◌≡◌, ◌+◌, ◌<◌, ◌^◌, length, IfOk, OnOk, OnErr};
+ghost use Rattle.std.specs.Prelude.{◌≡◌, ◌+◌, ◌<◌, ◌^◌, ℕ, length, IfOk, OnOk, OnErr};
 ghost use Rattle.std.specs.Arc.{arc_value};
+ghost use Rattle.watch_word.specs.Logs.{Log};
 ghost use Rattle.db_front.specs.Passes.{all_fresh, AreAll, AreIdle};
 
+mod logs;
 mod long;
 
 use crate::{Pass, Passes, Ready, Shared, Shown, Version, make_shared};
@@ -20,19 +22,35 @@ struct Entry {
     own: u64,
 }
 
-/// All commits, in order. The opening value has a token besides, which tells whether it is there.
+/// All commits, in order; seen as how many there are. The opening value has a token besides, which
+/// tells whether it is there.
 #[derive(Drop)]
 struct Roll {
-    entries: Vec<Entry>,
+    entries: Arc<Vec<Entry>>,
     token: Option<Arc<u64>>,
+}
+
+impl Model for Roll {
+    ghost use Rattle.std.specs.Prelude.{ℕ, length};
+    ghost use Rattle.std.specs.Arc.{arc_value};
+
+    ghost Value = { ℕ };
+
+    ghost view = { λ r. length (arc_value r.entries).items };
 }
 
 impl Version for Roll {
     ghost use Rattle.std.specs.Prelude.{◌≡◌, ◌+◌, length};
 
-    ghost stands = { λ h v. length v.entries.items + 1 ≡ length h };
+    ghost stands = { λ h v. v + 1 ≡ length h };
 
     ghost fired = { λ h log. Unit {0} };
+
+    fn copy(&self, _alloc: Global) -> Result<Roll, AllocError> {
+        let token = self.token.clone()?;
+        let entries = Arc::try_clone(&self.entries)?;
+        Ok(Roll { entries, token })
+    }
 }
 
 /// A front without a commit, and its passes.
@@ -44,32 +62,26 @@ fn opened(
     requires { (0 < callers) × (callers < 65) }
     ensures callers { IfOk result (λ t. t.0.callers ≡ callers) }
     ensures all { IfOk result (λ t. AreAll t.0.callers t.1.passes) }
-    ensures fresh { IfOk result (λ t. (o : Roll) × (t.1.passes
-        ≡ all_fresh t.0.table o callers)) }
+    ensures fresh { IfOk result (λ t. (o : ℕ) × (l : Log) × (t.1.passes
+        ≡ all_fresh t.0.table o l callers)) }
     ensures idle { IfOk result (λ t. AreIdle t.0.table t.1.passes) }
     ensures count { IfOk result (λ t. length t.1.passes ≡ callers) }
     ensures room { IfOk result (λ t. t.1.room ≡ callers) }
 {
-    let value = Arc::new(
-        alloc,
-        Roll {
-            entries: Vec::new(alloc),
-            token,
-        },
-    )?;
+    let entries = Arc::new(alloc, Vec::new(alloc))?;
+    let value = Arc::new(alloc, Roll { entries, token })?;
     let (_book, log) = open_book(alloc)?;
     make_shared(alloc, value, log, callers)
 }
 
 /// The value with one entry more.
 fn with_entry(alloc: Global, old: &Roll, entry: Entry) -> Result<Arc<Roll>, AllocError>
-    ensures { IfOk result (λ a. length (arc_value a).entries.items
-        ≡ length old.now.entries.items + 1) }
+    ensures { IfOk result (λ a. arc_value a ≡ old.now + 1) }
 {
-    let mut entries = old.entries.clone()?;
+    let mut entries = Vec::from_slice(alloc, old.entries.as_slice())?;
     entries.push(entry)?;
     let roll = Roll {
-        entries,
+        entries: Arc::new(alloc, entries)?,
         token: None,
     };
     Ok(Arc::new(alloc, roll)?)
@@ -84,8 +96,7 @@ fn readied(
     entry: Entry,
 ) -> Result<Ready<Roll>, AllocError>
     ensures room { OnOk result (shown.now.number < 2 ^ 63) }
-    ensures longer { IfOk result (λ r. length r.entries.items
-        ≡ length (arc_value shown.now.value).entries.items + 1) }
+    ensures longer { IfOk result (λ r. r ≡ arc_value shown.now.value + 1) }
 {
     if shown.number >= 1 << 63 {
         return Err(AllocError);
@@ -102,7 +113,8 @@ fn publish<R: Wait>(
     entry: Entry,
 ) -> Result<Front, AllocError>
     requires { (pass.old.table ≡ shared.now.table) × (pass.old.stage ≡ 0) }
-    ensures pass { (pass.new.table ≡ pass.old.table) × (pass.new.number ≡ pass.old.number) }
+    ensures pass { (pass.new.table ≡ pass.old.table) × (pass.new.number ≡ pass.old.number)
+        × (pass.new.log ≡ pass.old.log) }
     ensures published { OnOk result (pass.new.stage ≡ 2) }
     ensures idle { OnErr result (pass.new.stage ≡ 0) }
 {
@@ -129,10 +141,10 @@ fn commit<R: Wait>(
 ) -> Result<(), AllocError>
     requires { (pass.old.table ≡ shared.now.table) × (pass.old.stage ≡ 0) }
     ensures { (pass.new.table ≡ pass.old.table) × (pass.new.stage ≡ 0)
-        × (pass.new.number ≡ pass.old.number) }
+        × (pass.new.number ≡ pass.old.number) × (pass.new.log ≡ pass.old.log) }
 {
     let log = publish(rt, alloc, shared, pass, entry)?;
-    shared.finish(rt, pass, log);
+    shared.finish(rt, pass, log, true);
     Ok(())
 }
 
@@ -144,7 +156,7 @@ fn numbers<R: Wait>(
 ) -> Result<(u64, u64), AllocError>
     requires { pass.old.table ≡ shared.now.table }
     ensures { (pass.new.table ≡ pass.old.table) × (pass.new.stage ≡ pass.old.stage)
-        × (pass.new.number ≡ pass.old.number) }
+        × (pass.new.number ≡ pass.old.number) × (pass.new.log ≡ pass.old.log) }
 {
     let shown = shared.look(rt, pass)?;
     Ok((shown.number, shown.finished))
@@ -230,7 +242,7 @@ impl Duo {
         let entry = Entry { caller: 1, own: 1 };
         let log = publish(rt, alloc, &self.shared, &mut self.one, entry)?;
         let seen = numbers(rt, &self.shared, &mut self.two);
-        self.shared.finish(rt, &mut self.one, log);
+        self.shared.finish(rt, &mut self.one, log, true);
         seen
     }
 

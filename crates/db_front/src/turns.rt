@@ -64,6 +64,10 @@ const LOOKS: u32 = 1000;
 /// it would only slow down the one that has it.
 const WRITER_LOOKS: u32 = 100;
 
+/// How long the longest sleep for the writer's turn may last, in milliseconds: so long one waits that
+/// missed its wake.
+const LONGEST_SLEEP: u64 = 128;
+
 /// Whether the turn is seen to change in so many looks.
 fn is_seen_to_change<V: Version>(board: &Board<V>, turn: usize, found: u64, looks: u32) -> bool
     requires { turn < board.now.table_id.words }
@@ -92,13 +96,13 @@ fn rest<V: Version, R: Wait>(rt: &R, board: &Board<V>, sleepers: &Sleepers, turn
 }
 
 /// The same of the writer's turn; says whether it slept. A caller that was called just before it
-/// slept isn't called again, so it sleeps for a limited time.
+/// slept isn't called again, so it sleeps for so many milliseconds at most.
 fn rest_for_writer<V: Version, R: Wait>(
     rt: &R,
     board: &Board<V>,
     sleepers: &Sleepers,
     found: u64,
-    limit: Duration,
+    limit: u64,
 ) -> bool
     requires { WRITER < board.now.table_id.words }
 {
@@ -109,9 +113,20 @@ fn rest_for_writer<V: Version, R: Wait>(
     writers.count.fetch_add(1, SeqCst);
     // Whoever was called last may have been awake already.
     writers.called.store(false, SeqCst);
+    let limit = Duration::from_millis(limit);
     board.park_timeout(rt, WRITER, (found % 4294967296) as u32, limit);
     writers.count.fetch_sub(1, SeqCst);
     true
+}
+
+/// How long the next sleep for the writer's turn may last, in milliseconds: twice as long as the one
+/// before it.
+fn next_limit(limit: u64, slept: bool) -> u64 {
+    if slept && limit < LONGEST_SLEEP {
+        limit.saturating_mul(2)
+    } else {
+        limit
+    }
 }
 
 /// Wakes a caller that sleeps until the shown turn is given back. A caller counts itself before it
@@ -273,8 +288,7 @@ pub(crate) fn take_turn<V: Version, R: Wait>(
     ensures seat { IsSame place.old place.new }
     ensures began { Began place.old place.new }
 {
-    // Each sleep may last twice as long as the one before it.
-    let mut limit = Duration::from_millis(1);
+    let mut limit = 1;
     let mut slept = false;
     for _ in rt.forever() {
         let found = board.compare_exchange::<Try>(place, WRITER, 0, number);
@@ -282,8 +296,9 @@ pub(crate) fn take_turn<V: Version, R: Wait>(
             sleepers.let_call(slept);
             return;
         }
-        slept = rest_for_writer(rt, board, sleepers, found, limit) || slept;
-        limit = limit.saturating_mul(2);
+        let rested = rest_for_writer(rt, board, sleepers, found, limit);
+        slept = rested || slept;
+        limit = next_limit(limit, rested);
     }
     unreachable!()
 }

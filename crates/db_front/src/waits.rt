@@ -1,5 +1,5 @@
-//! Sleeping until a commit is finished. Nothing of it is part of the table's rule, and nothing is
-//! claimed of waking.
+//! Sleeping until a commit is finished that wakes. Nothing of it is part of the table's rule, and
+//! nothing is claimed of waking.
 use crossbeam_utils::sync::{EventCount, Key};
 use std::sync::Wait;
 use std::sync::atomic::AtomicBool;
@@ -52,8 +52,8 @@ pub struct NextCommit<'a> {
 }
 
 impl NextCommit<'_> {
-    /// Sleeps until a commit is finished, or all waits are ended. It doesn't sleep where one of them
-    /// came after the wait was announced.
+    /// Sleeps until a commit is finished that wakes, or all waits are ended. It doesn't sleep where
+    /// one of them came after the wait was announced.
     pub fn wait<R: Wait>(self, rt: &R) {
         let NextCommit { key } = self;
         key.wait(rt);

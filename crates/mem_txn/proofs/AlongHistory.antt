@@ -55,7 +55,7 @@ holds_at t u q c (Ok at) is e watched holds =
     ]
 
 -- a question with a cell has a table
-table_of : (q : Query) (o : Option TableRows) (c : Cell) → asked_in q o ≡ Some c → (t : TableRows) × (o ≡ Some t) × (looked_up t.trees q (lookup_of t.schema q) ≡ Some c)
+pub table_of : (q : Query) (o : Option TableRows) (c : Cell) → asked_in q o ≡ Some c → (t : TableRows) × (o ≡ Some t) × (looked_up t.trees q (lookup_of t.schema q) ≡ Some c)
 table_of q None c e = cc
 table_of q (Some t) c e = (t, refl, e)
 

@@ -27,7 +27,7 @@ begun_stand ts schema s us is schemas rows = record {
 
 -- ---- what was opened and written
 
-none_opened : (first : ℕ) (trees : List CellTree) → AreOpened first trees trees
+pub none_opened : (first : ℕ) (trees : List CellTree) → AreOpened first trees trees
 none_opened first [] = tt
 none_opened first (t ∷ trees) = (λ c h. inl h, none_opened first trees)
 

@@ -1,5 +1,7 @@
 -- What the change of a table ends with.
-use Rattle.std.proofs.Common.{◌≡◌, ◌∙◌, ℕ, List, map, Some, None, option_map, Ok, slice_get, inr, refl, sym, ap, subst}
+use Rattle.std.proofs.Common.{◌≡◌, ◌∙◌, ℕ, List, [], ◌∷◌, map, Some, None, option_map, Ok, slice_get, inr, refl, sym, ap, subst}
+use Rattle.std.specs.Prelude.{All}
+use Rattle.std.proofs.lemmas.List.Elements.{All-cons, All-nil}
 use Rattle.std.proofs.lemmas.Option.{same_Some, slice_get-map}
 use Rattle.mdb_datum.specs.Row.{Fields, Pair}
 use Rattle.mdb_schema.specs.Answer.{Asked, Lookup, answer, ask_rows, is_exact, lookup_of}
@@ -17,7 +19,7 @@ use Rattle.table_index.specs.Watched.{HoldsEntries, HoldsRows, QuestionsHold, Qu
 use Rattle.table_index.specs.Written.{KeepsOthers}
 use Rattle.table_index.proofs.Lookups.{looked_there}
 use Rattle.table_index.proofs.WrittenRows.{keeps_others}
-use Rattle.mem_txn.specs.inner.Ended.{EndsWith}
+use Rattle.mem_txn.specs.inner.Ended.{AreMade, EndsWith, IsMade}
 use Rattle.mem_txn.specs.inner.VersionTables.{unwritten}
 
 -- ---- what the trees of a table hold
@@ -77,3 +79,10 @@ ends_frozen t table notices holds frozen kept questions = record {
   made = record { held = holds; questions = questions; kept = kept };
   noticed = frozen;
 }
+
+-- the trees of all such hold their rows
+pub made_held : (ts : List TableChange) (mades : List TableRows) → AreMade ts mades → All HoldsRows mades
+made_held [] [] made = All-nil HoldsRows
+made_held [] (m ∷ mades) made = absurd made
+made_held (t ∷ ts) [] made = absurd made
+made_held (t ∷ ts) (m ∷ mades) made = let one : IsMade t m = made.0 in All-cons HoldsRows m mades one.held (made_held ts mades made.1)

@@ -1,21 +1,25 @@
 -- A watch that is held by a caller is held once it has seen more, and where its question is looked
 -- up.
-use Rattle.std.proofs.Common.{◌≡◌, ◌∙◌, ◌+◌, ◌^◌, ◌≤◌, ◌++◌, ℕ, zero, suc, List, [], ◌∷◌, length, take, slice_get, Option, Some, None, refl, sym, ap, subst, append_assoc, arith}
+use Rattle.std.proofs.Common.{◌≡◌, ◌∙◌, ◌+◌, ◌^◌, ◌≤◌, ◌++◌, ℕ, zero, suc, List, [], ◌∷◌, length, take, slice_get, Option, Some, None, Ok, refl, sym, ap, subst, append_assoc, arith}
 use Rattle.std.proofs.lemmas.List.{length-append, take-append-le}
+use Rattle.std.proofs.lemmas.Option.{same_Some}
 use mathlib.Core.List.{IsPrefix}
+use Rattle.mdb_schema.specs.Answer.{lookup_of}
 use Rattle.mdb_schema.specs.History.{History, after_commits, state_at}
 use Rattle.mdb_schema.specs.Query.{Query}
-use Rattle.mdb_schema.specs.Schema.{DbSchema}
+use Rattle.mdb_schema.specs.Schema.{DbSchema, TableSchema}
 use Rattle.mdb_schema.specs.State.{State, Table, empty_state, table_at}
+use Rattle.notify_walk.proofs.Firings.{later_again}
 use Rattle.table_index.specs.Spot.{SpotOf}
 use Rattle.table_index.specs.Table.{TableRows}
-use Rattle.table_index.specs.Watched.{IsSpot, is_watchable}
-use Rattle.mem_txn.specs.CellHistory.{Forest, asked_in, cell_at, forest_or_none, planted, question_cell, state_after, table_in, trees_after}
+use Rattle.table_index.specs.Watched.{IsSpot, cell_of, is_watchable}
+use Rattle.watch_word.specs.Logs.{Cell}
+use Rattle.mem_txn.specs.CellHistory.{Forest, asked_in, cell_at, forest_or_none, looked_up, planted, question_cell, state_after, table_in, trees_after}
 use Rattle.mem_txn.specs.Checked.{AskedIsHeld, HeldLonger, HeldStays, IsHeldBy}
 use Rattle.mem_txn.specs.Database.{Caller, HasSeen, cells_seen}
 use Rattle.mem_txn.specs.Held.{HeldWatch, IsLookedUp}
 use Rattle.mem_txn.specs.inner.Looks.{IsAsked}
-use Rattle.mem_txn.proofs.AlongHistory.{watched_if}
+use Rattle.mem_txn.proofs.AlongHistory.{table_of, watched_if}
 use Rattle.mem_txn.proofs.StepAtPlace.{named_there}
 
 -- ---- where a question is looked up
@@ -48,10 +52,31 @@ held_asked p h held =
       exact = spot.exact;
     }
 
+-- the cell of its question in a state of the schema is found at the same spot
+pub spot_again : (schema : DbSchema) (s : State) (forest : Forest) (q : Query) (spot : SpotOf) → IsAsked schema q spot → (c : Cell) → asked_in q (table_in schema s forest q.table) ≡ Some c
+    → IsLookedUp (table_in schema s forest q.table) q (record { index = spot.index; key = spot.key; exact = spot.exact; watch = c })
+spot_again schema s forest q spot asked c e =
+    let x = table_of q (table_in schema s forest q.table) c e in
+    let t = x.0 in
+    let at = asked.at in
+    let named = named_there schema s forest q.table t x.1 in
+    let place : asked.place ≡ named.table.place = same_Some asked.place named.table.place (sym asked.found ∙ named.named.place) in
+    let table : asked.table ≡ t.schema = same_Some asked.table t.schema (sym asked.there ∙ (ap (slice_get schema) place ∙ named.there.schema)) in
+    let looked : lookup_of t.schema q ≡ Ok at = subst (λ (u : TableSchema). lookup_of u q ≡ Ok at) table asked.looked in
+    let found : SpotOf = record { index = spot.index; key = spot.key; exact = spot.exact; watch = c } in
+    subst (λ (o : Option TableRows). IsLookedUp o q found) (sym x.1) (record {
+      at = at;
+      looked = looked;
+      index = asked.index;
+      key = asked.key;
+      exact = asked.exact;
+      cell = (λ i. cell_of t.trees (asked.index i) (asked.exact i) (asked.key i)) ∙ (ap (looked_up t.trees q) (sym looked) ∙ x.2);
+    })
+
 -- ---- a longer history
 
 -- an item of a beginning is at its place
-at_prefix : {X : Type 0} (xs ys : List X) (n : ℕ) (x : X) → IsPrefix xs ys → slice_get xs n ≡ Some x → slice_get ys n ≡ Some x
+pub at_prefix : {X : Type 0} (xs ys : List X) (n : ℕ) (x : X) → IsPrefix xs ys → slice_get xs n ≡ Some x → slice_get ys n ≡ Some x
 at_prefix {X} xs ys n x p there = subst (λ (zs : List X). slice_get zs n ≡ Some x) p.1 (further xs p.0 n there)
   where
     further : (us vs : List X) (m : ℕ) → slice_get us m ≡ Some x → slice_get (us ++ vs) m ≡ Some x
@@ -138,7 +163,8 @@ seen_twice old mid new first second = record {
   few = second.few;
   counts = prefix_twice old.counts mid.counts new.counts first.counts second.counts;
   tries = prefix_twice old.tries mid.tries new.tries first.tries second.tries;
-  others = second.others ∙ ap (λ (c : Caller). let r : Caller = record c { seen = new.seen; trees = new.trees; counts = new.counts; tries = new.tries } in r) first.others;
+  log = later_again old.log mid.log new.log first.log second.log;
+  others = second.others ∙ ap (λ (c : Caller). let r : Caller = record c { seen = new.seen; trees = new.trees; counts = new.counts; tries = new.tries; log = new.log } in r) first.others;
 }
 
 -- one that has seen more later on, in few commits

@@ -1,16 +1,21 @@
 -- The ids of a transaction, write after write: whose cells have them, and how many were drawn.
-use Rattle.std.proofs.Common.{◌≡◌, ◌∙◌, ◌+◌, ◌*◌, ◌^◌, ◌++◌, ◌<◌, ◌≤◌, ℕ, false, List, All, [], ◌∷◌, get_or, length, map, set, sym, ap, subst, arith}
+use Rattle.std.proofs.Common.{◌≡◌, ◌∙◌, ◌+◌, ◌*◌, ◌^◌, ◌++◌, ◌<◌, ◌≤◌, ℕ, false, List, All, [], ◌∷◌, Some, get_or, length, map, set, slice_get, refl, sym, ap, subst, arith}
 use Rattle.std.proofs.lemmas.List.{length-append}
 use Rattle.std.proofs.lemmas.List.Elements.{All-cons, All-head, All-map, All-nil, All-set, All-tail}
 use Rattle.mdb_schema.specs.Write.{Write}
-use Rattle.radix_node.specs.Cells.{CellTree}
+use Rattle.radix_node.specs.Cells.{AreApart, CellTree}
 use Rattle.radix_node.specs.Ids.{Book, Counter}
 use Rattle.watch_word.specs.Logs.{Log}
 use Rattle.table_index.specs.Drawn.{HasDrawnCells, MayBeWritten}
 use Rattle.table_index.specs.Table.{AreAllOf, TableRows, TableChange}
 use Rattle.mem_txn.specs.inner.ChangesView.{AreCounted}
-use Rattle.mem_txn.specs.inner.VersionTables.{AreWithin, IsWithin, standing, trees_of, unwritten}
+use Rattle.mem_txn.specs.inner.Ended.{AreMade}
+use Rattle.mem_txn.specs.inner.VersionTables.{AreAllSeparate, AreAllWithin, AreChangesWithin, AreWithin, Draws, IsWithin, standing, trees_of, unwritten}
 use Rattle.mem_txn.specs.inner.Versions.{Turned}
+use Rattle.mem_txn.proofs.BegunTables.{none_opened, standing-unwritten}
+use Rattle.mem_txn.proofs.EndedTables.{made_held}
+use Rattle.mem_txn.proofs.RowsAdded.{opened_more}
+use Rattle.mem_txn.proofs.SeparateForests.{set_separate}
 
 -- ---- ids that were drawn
 
@@ -30,9 +35,28 @@ table_more ids ids' t same le within = record {
 pub forest_more : (ids ids' : Counter) (ts : List TableRows) → ids'.book ≡ ids.book → ids.next ≤ ids'.next → All (AreWithin ids) (trees_of ts) → All (AreWithin ids') (trees_of ts)
 forest_more ids ids' ts same le within k d h = trees_more ids ids' (get_or (trees_of ts) k d) same le (within k d h)
 
+-- the trees of tables as they stand
+standing_each : (ids : Counter) (ts : List TableChange) → All (IsWithin ids) ts → All (AreWithin ids) (trees_of (map standing ts))
+standing_each ids ts all =
+    All-map (AreWithin ids) (λ (r : TableRows). r.trees) (map standing ts)
+    (All-map (λ (r : TableRows). AreWithin ids r.trees) standing ts (λ k d h. (all k d h).trees))
+
+-- with which a transaction ends
+pub standing_within : (ids : Counter) (ts : List TableChange) (news : List TableRows) → news ≡ map standing ts → AreChangesWithin ids ts → AreMade ts news → AreAllWithin ids (trees_of news)
+standing_within ids ts news same all made =
+    let held = made_held ts news made in
+    record {
+      within = subst (λ (us : List TableRows). All (AreWithin ids) (trees_of us)) (sym same) (standing_each ids ts all.within);
+      separate = subst (λ (us : List TableRows). AreAllSeparate (trees_of us)) (sym same) all.separate;
+      apart = All-map (All AreApart) (λ (r : TableRows). r.trees) news (λ k d h. (held k d h).apart);
+    }
+
 -- the table at a place was written
-pub within-set : (ids ids' : Counter) (ts : List TableChange) (at : ℕ) (t : TableChange) → ids'.book ≡ ids.book → ids.next ≤ ids'.next → All (IsWithin ids) ts → IsWithin ids' t → All (IsWithin ids') (set ts at t)
-within-set ids ids' ts at t same le all within = All-set (IsWithin ids') ts at t within (λ k d h. table_more ids ids' (get_or ts k d) same le (all k d h))
+pub within-set : (ids ids' : Counter) (ts : List TableChange) (at : ℕ) (old new : TableChange) → slice_get ts at ≡ Some old → AreChangesWithin ids ts → Draws ids ids' old new → AreChangesWithin ids' (set ts at new)
+within-set ids ids' ts at old new there all drawn = record {
+  within = All-set (IsWithin ids') ts at new drawn.within (λ k d h. table_more ids ids' (get_or ts k d) drawn.book drawn.later (all.within k d h));
+  separate = set_separate ids ts at old new there (standing_each ids ts all.within) all.separate drawn.opened drawn.separate;
+}
 
 -- a table may be written by a counter that has counted its ids
 pub may_be_written : (front : Log) (ids : Counter) (t : TableChange) → t.spoiled ≡ false → front.book ≡ ids.book → IsWithin ids t → MayBeWritten front ids t
@@ -45,24 +69,41 @@ may_be_written front ids t sound book within = record {
 }
 
 -- a write leaves the trees with which the change began
-pub write_within : (log : Log) (n : ℕ) (ids ids' : Counter) (old new : TableChange) → IsWithin ids old → new.start ≡ old.start → HasDrawnCells log n ids ids' old new → IsWithin ids' new
-write_within log n ids ids' old new within start drawn = record {
-  start = record { below = drawn.start; of = subst (AreAllOf ids'.book) (sym start) (subst (λ (b : Book). AreAllOf b old.start) (sym drawn.book) within.start.of) };
-  trees = record { below = drawn.below; of = drawn.of };
+pub write_draws : (log : Log) (n : ℕ) (ids ids' : Counter) (old new : TableChange) → IsWithin ids old → new.start ≡ old.start → HasDrawnCells log n ids ids' old new → Draws ids ids' old new
+write_draws log n ids ids' old new within start drawn = record {
+  within = record {
+    start = record { below = drawn.start; of = subst (AreAllOf ids'.book) (sym start) (subst (λ (b : Book). AreAllOf b old.start) (sym drawn.book) within.start.of) };
+    trees = record { below = drawn.below; of = drawn.of };
+  };
+  opened = opened_more ids.next log ids ids' old.trees old.trees new.trees (omega arith) (none_opened ids.next old.trees) drawn.drawn;
+  separate = drawn.separate;
+  book = drawn.book;
+  later = drawn.later;
 }
 
--- tables that nobody has written to
-pub unwritten_within : (ids : Counter) (ts : List TableRows) → All (AreWithin ids) (trees_of ts) → All (IsWithin ids) (map unwritten ts)
-unwritten_within ids [] all = All-nil (IsWithin ids)
-unwritten_within ids (t ∷ ts) all =
-    let first = All-head (AreWithin ids) t.trees (trees_of ts) all in
-    All-cons (IsWithin ids) (unwritten t) (map unwritten ts) (record { start = first; trees = first }) (unwritten_within ids ts (All-tail (AreWithin ids) t.trees (trees_of ts) all))
+-- nothing was written
+pub none_drawn : (ids : Counter) (old new : TableChange) → new ≡ old → IsWithin ids old → Draws ids ids old new
+none_drawn ids old new same within =
+    subst (λ (t : TableChange). Draws ids ids old t) (sym same) (record {
+      within = within;
+      opened = none_opened ids.next old.trees;
+      separate = λ h. h;
+      book = refl;
+      later = omega arith;
+    })
 
--- the trees of tables as they stand
-pub standing_within : (ids : Counter) (ts : List TableChange) → All (IsWithin ids) ts → All (AreWithin ids) (trees_of (map standing ts))
-standing_within ids ts all =
-    All-map (AreWithin ids) (λ (r : TableRows). r.trees) (map standing ts)
-    (All-map (λ (r : TableRows). AreWithin ids r.trees) standing ts (λ k d h. (all k d h).trees))
+-- tables that nobody has written to
+each_unwritten : (ids : Counter) (ts : List TableRows) → All (AreWithin ids) (trees_of ts) → All (IsWithin ids) (map unwritten ts)
+each_unwritten ids [] all = All-nil (IsWithin ids)
+each_unwritten ids (t ∷ ts) all =
+    let first = All-head (AreWithin ids) t.trees (trees_of ts) all in
+    All-cons (IsWithin ids) (unwritten t) (map unwritten ts) (record { start = first; trees = first }) (each_unwritten ids ts (All-tail (AreWithin ids) t.trees (trees_of ts) all))
+
+pub unwritten_within : (ids : Counter) (ts : List TableRows) → AreAllWithin ids (trees_of ts) → AreChangesWithin ids (map unwritten ts)
+unwritten_within ids ts all = record {
+  within = each_unwritten ids ts all.within;
+  separate = subst (λ (us : List TableRows). AreAllSeparate (trees_of us)) (sym (standing-unwritten ts)) all.separate;
+}
 
 -- ---- how many were drawn
 

@@ -11,11 +11,9 @@ use Rattle.mdb_schema.specs.Schema.{DbSchema, IndexSchema, TableSchema}
 use Rattle.mdb_schema.specs.State.{IsLawfulState, State}
 use Rattle.mdb_schema.specs.Touched.{Touch, rows_written}
 use Rattle.mdb_schema.proofs.LawfulStates.{state_at_lawful}
-use Rattle.radix_node.specs.Cells.{AreBelow, CellTree, cells_of}
+use Rattle.radix_node.specs.Cells.{CellTree, cells_of}
 use Rattle.radix_node.specs.Paths.{Has}
 use Rattle.radix_txn.specs.Notice.{IsOpened}
-use Rattle.radix_txn.proofs.Steps.{lt_or_le}
-use Rattle.radix_txn.proofs.TxnTrees.{counted}
 use Rattle.table_index.specs.Table.{TableRows}
 use Rattle.table_index.specs.Watched.{FiresAt}
 use Rattle.table_index.specs.Written.{EachKept, IsKeyOf, KeptBut}
@@ -24,8 +22,9 @@ use Rattle.watch_word.specs.Logs.{Cell}
 use Rattle.mem_txn.specs.CellHistory.{AreComplete, CellHistory, Forest, KeepUntouched, KeepsUntouched, StayAway, state_after, trees_after}
 use Rattle.mem_txn.specs.Database.{cells_seen}
 use Rattle.mem_txn.specs.inner.Steps.{AreSteps, IsTableStep, tables_with}
-use Rattle.mem_txn.specs.inner.VersionTables.{AreOpened, AreWithin}
+use Rattle.mem_txn.specs.inner.VersionTables.{AreAllWithin, AreOpened}
 use Rattle.mem_txn.specs.inner.Versions.{IsBegun, Version, Versions, caller_of, entry_of}
+use Rattle.mem_txn.proofs.SeparateForests.{id_drawn, opened_at}
 use Rattle.mem_txn.proofs.StepAtPlace.{planted_at, planted_there, step_at}
 use Rattle.mem_txn.proofs.ValuesAlong.{StepAfter, cells_in, forest_of, one_more, stands_at, step_after}
 
@@ -54,14 +53,6 @@ kept_at kind (j ∷ is) (t ∷ olds) (u ∷ news) zero i old new kept e f g =
     let after : u ≡ new = cc in
     subst (λ (x : IndexSchema). KeptBut (kind x) old new) indexes (subst (λ (x : CellTree). KeptBut (kind j) x new) before (subst (λ (x : CellTree). KeptBut (kind j) t x) after kept.0))
 kept_at kind (j ∷ is) (t ∷ olds) (u ∷ news) (suc index) i old new kept e f g = kept_at kind is olds news index i old new kept.1 e f g
-
--- the tree of an index was opened from the one that stood there
-pub opened_at : (first : ℕ) (olds news : List CellTree) (index : ℕ) (new : CellTree) → AreOpened first olds news → slice_get news index ≡ Some new → (old : CellTree) × (slice_get olds index ≡ Some old) × IsOpened first old new
-opened_at first olds [] index new opened e = cc
-opened_at first [] (u ∷ news) index new opened e = absurd opened
-opened_at first (t ∷ olds) (u ∷ news) zero new opened e =
-    let same : u ≡ new = cc in (t, refl, subst (λ (x : CellTree). IsOpened first t x) same opened.0)
-opened_at first (t ∷ olds) (u ∷ news) (suc index) new opened e = opened_at first olds news index new opened.1 e
 
 -- ---- what isn't touched
 
@@ -147,15 +138,10 @@ module _ (h : Versions) (begun : IsBegun h) (steps : AreSteps h) where
       pub drawn : (e : ℕ × Version) → slice_get h n ≡ Some e → c.id < e.1.ids.next
 
     -- a cell of a tree has an id that was drawn
-    pub drawn_at : (s : (ℕ × Version)) (trees : List CellTree) (tree : CellTree) → All (AreWithin s.1.ids) s.1.trees → slice_get s.1.trees table ≡ Some trees → slice_get trees index ≡ Some tree → Has c (cells_of tree)
+    pub drawn_at : (s : (ℕ × Version)) (trees : List CellTree) (tree : CellTree) → AreAllWithin s.1.ids s.1.trees → slice_get s.1.trees table ≡ Some trees → slice_get trees index ≡ Some tree → Has c (cells_of tree)
         → c.id < s.1.ids.next
     drawn_at s trees tree within e f has =
-        let below = all_at (AreBelow s.1.ids.next) trees index tree (all_at (AreWithin s.1.ids) s.1.trees table trees within e).below f in
-        let some = counted c (cells_of tree) has in
-        elim (lt_or_le c.id s.1.ids.next) [
-          | inl less ↦ less
-          | inr most ↦ (let none = below c.id most in absurd (omega (arith, some, none)))
-        ]
+        id_drawn s.1.ids s.1.trees table index c within.within (record { trees = trees; there = e; at = record { tree = tree; there = f; has = has } })
 
     -- behind a step it was drawn too
     pub drawn_next : (n : ℕ) (s : StepAfter h n) → c.id < s.old.1.ids.next → (e : ℕ × Version) → slice_get h (suc n) ≡ Some e → c.id < e.1.ids.next

@@ -3,10 +3,12 @@ pub mod AlongHistory
 pub mod BegunAnswers
 pub mod BegunTables
 pub mod CellsWatched
+pub mod ChecksAnswered
 pub mod EmptyTables
 pub mod EndedTables
 pub mod FiredTables
 pub mod GoneCells
+pub mod HeardAlong
 pub mod HeldAlong
 pub mod IdsCounted
 pub mod KeptAlong
@@ -16,8 +18,11 @@ pub mod MovesTouched
 pub mod NextVersions
 pub mod OneHistory
 pub mod OneIdOneCell
+pub mod OneLook
+pub mod ReadsAnswered
 pub mod RowsAdded
 pub mod SeenBegins
+pub mod SeparateForests
 pub mod SinceBegun
 pub mod SpotsAgain
 pub mod SpotsFound
@@ -29,6 +34,7 @@ pub mod TableAnswers
 pub mod TableFirst
 pub mod TablesFound
 pub mod Threads
+pub mod ToldAcross
 pub mod ValuesAlong
 pub mod WipesAnswered
 pub mod WritesAnswered

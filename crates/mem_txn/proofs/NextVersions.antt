@@ -23,10 +23,11 @@ use Rattle.mem_txn.specs.inner.Commits.{IsNextOf}
 use Rattle.mem_txn.specs.inner.Ended.{AreMade, EndWith, IsMade, starts_of}
 use Rattle.mem_txn.specs.inner.Firing.{AreGone, cells_told}
 use Rattle.mem_txn.specs.inner.Steps.{AreTableSteps, tables_of, tables_with}
-use Rattle.mem_txn.specs.inner.VersionTables.{AreWithin, HasChanged, StandFor, schemas_of, standing, state_of, trees_of}
+use Rattle.mem_txn.specs.inner.VersionTables.{AreAllWithin, HasChanged, StandFor, schemas_of, standing, state_of, trees_of}
 use Rattle.mem_txn.specs.inner.Versions.{AreFew, Turned, Version}
 use Rattle.mem_txn.proofs.StepAtPlace.{planted_starts}
 use Rattle.mem_txn.proofs.EmptyTables.{tables_with-parts}
+use Rattle.mem_txn.proofs.EndedTables.{made_held}
 
 -- ---- writes leave as many tables as there were
 
@@ -49,12 +50,6 @@ writes_count schema s (remove name row ∷ ws) =
     writes_count schema (state_or s (step schema s (remove name row))) ws ∙ step_count schema s name (λ (t : Table). remove_row t.schema row t.rows)
 
 -- ---- tables by their parts
-
-made_held : (ts : List TableChange) (mades : List TableRows) → AreMade ts mades → All HoldsRows mades
-made_held [] [] made = All-nil HoldsRows
-made_held [] (m ∷ mades) made = absurd made
-made_held (t ∷ ts) [] made = absurd made
-made_held (t ∷ ts) (m ∷ mades) made = let one : IsMade t m = made.0 in All-cons HoldsRows m mades one.held (made_held ts mades made.1)
 
 -- each table that changes end with is a step from the one that they began with
 module _ (first : ℕ) (rows : Bytes → List Fields) where
@@ -114,7 +109,7 @@ module _ (writes : List Write) (spoiled : Bool) (turn : Turned) (ids : Counter) 
         (made_steps turn.base.ids.next rows tables (state_seen p) count (subst (All HoldsRows) base_is base.held) since.changed made))
 
   pub makes_next : (number : ℕ) → number ≡ length p.seen → StandFor tables p.schema (present old) → AreSince turn writes tables → (gone : List (List (List Cell))) → EndWith tables news gone → (v : Version)
-      → v ≡ record { view = record { schema = p.schema; number = number + 1; state = state_of news }; trees = trees_of news; writes = writes; ids = ids } → All (AreWithin ids) v.trees → IsNextOf old turn v gone
+      → v ≡ record { view = record { schema = p.schema; number = number + 1; state = state_of news }; trees = trees_of news; writes = writes; ids = ids } → AreAllWithin ids v.trees → IsNextOf old turn v gone
   makes_next number counts stand since gone ends v is within =
       let mine : v.writes ≡ writes = ap (λ (x : Version). x.writes) is in
       let theirs : v.ids ≡ ids = ap (λ (x : Version). x.ids) is in
@@ -130,13 +125,19 @@ module _ (writes : List Write) (spoiled : Bool) (turn : Turned) (ids : Counter) 
         writes = mine;
         next = record {
           view = ap (λ (x : Version). x.view) is ∙ (λ i. let r : View = record { schema = p.schema; number = counts i + 1; state = state i } in r);
-          within = subst (λ (i : Counter). All (AreWithin i) v.trees) (sym theirs) within;
+          within = subst (λ (i : Counter). AreAllWithin i v.trees) (sym theirs) within;
           held = subst (All HoldsRows) (sym same) (made_held tables news ends.made);
           step = record {
             tables = step;
             book = ap (λ (i : Counter). i.book) theirs ∙ counted.book;
             later = subst (λ (i : Counter). turn.base.ids.next ≤ i.next) (sym theirs) counted.later;
             planted = planted_starts tables turn.base.trees p.schema since.starts stand.schemas ∙ ap (λ (v : View). length v.schema) (sym base.view);
+            planted_now =
+                ap length trees
+                ∙ length-map news (λ (t : TableRows). t.trees)
+                ∙ sym (length-map news (λ (t : TableRows). t.schema))
+                ∙ ap length stand.schemas
+                ∙ ap (λ (x : Version). length x.view.schema) (sym is);
           };
           few = subst (λ (i : Counter). AreFew (writes_in p.seen + length v.writes) i) (sym theirs) (subst (λ (ws : List Write). AreFew (writes_in p.seen + length ws) ids) (sym mine) counted.few);
         };

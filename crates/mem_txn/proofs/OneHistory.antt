@@ -9,10 +9,17 @@ use Rattle.db_front.specs.Passes.{FrontId, Known, AreIdle, IsNumber, fresh, all_
 use Rattle.db_front.specs.Passes as front_passes
 use Rattle.mdb_schema.specs.History.{Commit, History}
 use Rattle.mdb_schema.specs.Schema.{DbSchema}
-use Rattle.mem_txn.specs.Database.{AreAll, AreIn, AreMade, AreNamed, AreOf, Caller, Database, HasMade, HasPass, HasRead, HasSeen, IsWhole, commits_by, new_pass, new_passes, view_after}
+use Rattle.watch_word.specs.Logs.{IsLater, Log}
+use Rattle.mem_txn.specs.CellHistory.{CellHistory}
+use Rattle.mem_txn.specs.Checked.{Hears}
+use Rattle.mem_txn.specs.Database.{AreAll, AreIn, AreMade, AreNamed, AreOf, Caller, Database, HasMade, HasPass, HasRead, HasSeen, HaveSeenTrees, IsWhole, commits_by, new_pass, new_passes}
 use Rattle.mem_txn.specs.inner.Steps.{AreSteps}
 use Rattle.mem_txn.specs.inner.Versions.{AreTokens, Forest, IsBegun, IsBookOf, IsToken, StandsFor, Version, Versions, book_in, caller_of, entry_of, history_in, opening, schema_in}
 use Rattle.radix_node.specs.Ids.{Book, Counter}
+
+-- a log is as late as itself
+pub later_itself : (log : Log) → IsLater log log
+later_itself log = (refl, ([], append-nil log.fired))
 
 -- ---- longer lists
 
@@ -65,23 +72,31 @@ pub next_in : (h : Versions) (n : ℕ) (v : Version) → IsBegun h → history_i
 next_in [] n v begun = absurd begun
 next_in (e ∷ es) n v begun = map-append entry_of es ((n, v) ∷ [])
 
--- the caller after its commit, and the end of its turn
-pub committed : (k k' k'' : Known Version) (v : Version) → IsBegun k.seen → k' ≡ record k { seen = k.seen ++ (k.number, v) ∷ []; mine = k.mine ++ (k.number, v) ∷ []; stage = 2 } → k'' ≡ record k' { stage = 0 }
-    → caller_of k'' ≡ record (caller_of k) { seen = (caller_of k).seen ++ record { caller = k.number; writes = v.writes } ∷ []; trees = (caller_of k).trees ++ v.trees ∷ []; own = (caller_of k).own ++ record { caller = k.number; writes = v.writes } ∷ [] }
-committed k k' k'' v begun made left =
+-- a pass that has made a commit, whose turn has ended, and that keeps a log
+made_of : (k k' k'' made : Known Version) (v : Version) (log : Log) → k' ≡ record k { seen = k.seen ++ (k.number, v) ∷ []; mine = k.mine ++ (k.number, v) ∷ []; stage = 2 } → k'' ≡ record k' { stage = 0 } → made ≡ record k'' { log = log }
+    → made ≡ record k { seen = k.seen ++ (k.number, v) ∷ []; mine = k.mine ++ (k.number, v) ∷ []; stage = 0; log = log }
+made_of k k' k'' made v log shown left kept =
+    kept
+    ∙ (ap (λ (z : Known Version). let r : Known Version = record z { log = log } in r) left
+    ∙ ap (λ (z : Known Version). let r : Known Version = record z { stage = 0; log = log } in r) shown)
+
+-- the caller after its commit, the end of its turn, and once it keeps the log
+pub committed : (k k' k'' made : Known Version) (v : Version) (log : Log) → IsBegun k.seen → k' ≡ record k { seen = k.seen ++ (k.number, v) ∷ []; mine = k.mine ++ (k.number, v) ∷ []; stage = 2 } → k'' ≡ record k' { stage = 0 } → made ≡ record k'' { log = log }
+    → caller_of made ≡ record (caller_of k) { seen = (caller_of k).seen ++ record { caller = k.number; writes = v.writes } ∷ []; trees = (caller_of k).trees ++ v.trees ∷ []; own = (caller_of k).own ++ record { caller = k.number; writes = v.writes } ∷ []; log = log }
+committed k k' k'' made v log begun shown left kept =
     let c : Commit = record { caller = k.number; writes = v.writes } in
     let more : IsPrefix k.seen (k.seen ++ (k.number, v) ∷ []) = ((k.number, v) ∷ [], refl) in
     let schema : schema_in (k.seen ++ (k.number, v) ∷ []) ≡ schema_in k.seen = schema_longer k.seen (k.seen ++ (k.number, v) ∷ []) begun more in
     let list : history_in (k.seen ++ (k.number, v) ∷ []) ≡ history_in k.seen ++ c ∷ [] = next_in k.seen k.number v begun in
     let book : book_in (k.seen ++ (k.number, v) ∷ []) ≡ book_in k.seen = book_same k.seen (k.seen ++ (k.number, v) ∷ []) begun more in
     let own : map entry_of (k.mine ++ (k.number, v) ∷ []) ≡ map entry_of k.mine ++ c ∷ [] = map-append entry_of k.mine ((k.number, v) ∷ []) in
-    ap caller_of left ∙ ap caller_of made
-    ∙ (λ i. let r : Caller = record { number = k.number; database = k.table; schema = schema i; book = book i; seen = list i; trees = trees_more k.seen k.number v i; own = own i; counts = k.counts; tries = k.tries } in r)
+    ap caller_of (made_of k k' k'' made v log shown left kept)
+    ∙ (λ i. let r : Caller = record { number = k.number; database = k.table; schema = schema i; book = book i; seen = list i; trees = trees_more k.seen k.number v i; own = own i; counts = k.counts; tries = k.tries; log = log } in r)
 
-pub committed_token : (k k' k'' : Known Version) (v : Version) → IsToken 1 k → AreSteps (k.seen ++ (k.number, v) ∷ []) → k' ≡ record k { seen = k.seen ++ (k.number, v) ∷ []; mine = k.mine ++ (k.number, v) ∷ []; stage = 2 } → k'' ≡ record k' { stage = 0 } → IsToken 0 k''
-committed_token k k' k'' v token steps made left =
-    subst (IsToken 0) (sym (left ∙ ap (λ (z : Known Version). let r : Known Version = record z { stage = 0 } in r) made))
-    (record { at = refl; named = token.named; few = token.few; begun = begun_longer k.seen (k.seen ++ (k.number, v) ∷ []) token.begun ((k.number, v) ∷ [], refl); steps = steps })
+pub committed_token : (k k' k'' made : Known Version) (v : Version) (log : Log) → IsToken 1 k → AreSteps (k.seen ++ (k.number, v) ∷ []) → IsBookOf (k.seen ++ (k.number, v) ∷ []) log.book → k' ≡ record k { seen = k.seen ++ (k.number, v) ∷ []; mine = k.mine ++ (k.number, v) ∷ []; stage = 2 } → k'' ≡ record k' { stage = 0 } → made ≡ record k'' { log = log } → IsToken 0 made
+committed_token k k' k'' made v log token steps book shown left kept =
+    subst (IsToken 0) (sym (made_of k k' k'' made v log shown left kept))
+    (record { at = refl; named = token.named; few = token.few; begun = begun_longer k.seen (k.seen ++ (k.number, v) ∷ []) token.begun ((k.number, v) ∷ [], refl); steps = steps; log = book })
 
 -- ---- a pass that has seen more
 
@@ -92,40 +107,52 @@ module _ (stage : ℕ) (old new : Known Version) (token : IsToken stage old) (se
   few_seen : length new.seen ≤ 2 ^ 63 + 1 → length (history_in new.seen) ≤ 2 ^ 63
   few_seen room = let count = history_length new.seen (begun_longer old.seen new.seen token.begun seen) in omega (arith, count, room)
 
-  pub has_seen : length new.seen ≤ 2 ^ 63 + 1 → new.number ≡ old.number → new.table ≡ old.table → new.mine ≡ old.mine → IsPrefix old.counts new.counts → IsPrefix old.tries new.tries → HasSeen (caller_of old) (caller_of new)
-  has_seen room number table mine counts tries = record {
+  pub has_seen : length new.seen ≤ 2 ^ 63 + 1 → new.number ≡ old.number → new.table ≡ old.table → new.mine ≡ old.mine → IsPrefix old.counts new.counts → IsPrefix old.tries new.tries → new.log ≡ old.log → HasSeen (caller_of old) (caller_of new)
+  has_seen room number table mine counts tries log = record {
     seen = history_longer old.seen new.seen token.begun seen;
     trees = prefix-map (λ (e : ℕ × Version). e.1.trees) old.seen new.seen seen;
     few = few_seen room;
     counts = counts;
     tries = tries;
-    others = λ i. let r : Caller = record { number = number i; database = table i; schema = schema_longer old.seen new.seen token.begun seen i; book = book_same old.seen new.seen token.begun seen i; seen = history_in new.seen; trees = trees_in new.seen; own = map entry_of (mine i); counts = new.counts; tries = new.tries } in r;
+    log = subst (IsLater old.log) (sym log) (later_itself old.log);
+    others = λ i. let r : Caller = record { number = number i; database = table i; schema = schema_longer old.seen new.seen token.begun seen i; book = book_same old.seen new.seen token.begun seen i; seen = history_in new.seen; trees = trees_in new.seen; own = map entry_of (mine i); counts = new.counts; tries = new.tries; log = new.log } in r;
   }
 
   pub has_read : (n : ℕ) → IsNumber old new n → HasRead (caller_of old) (caller_of new) n
   has_read n is = let count = history_length new.seen (begun_longer old.seen new.seen token.begun seen) in let told = is.0 in (omega (arith, count, told), is.1)
 
-  pub token_at : (stage' : ℕ) → new.number ≡ old.number → new.stage ≡ stage' → AreSteps new.seen → IsToken stage' new
-  token_at stage' number at steps = record {
+  pub token_at : (stage' : ℕ) → new.number ≡ old.number → new.stage ≡ stage' → AreSteps new.seen → new.log ≡ old.log → IsToken stage' new
+  token_at stage' number at steps log = record {
     at = at;
     named = subst (λ (n : ℕ). 0 < n) (sym number) token.named;
     few = subst (λ (n : ℕ). n ≤ 64) (sym number) token.few;
     begun = begun_longer old.seen new.seen token.begun seen;
     steps = steps;
+    log = book_longer old.seen new.seen new.log.book (subst (λ (l : Log). IsBookOf old.seen l.book) (sym log) token.log) seen;
   }
 
 -- the two sorts of steps that see more
 pub looked : (old new : Known Version) → IsToken 0 old → new ≡ record old { seen = new.seen; counts = new.counts } → IsPrefix old.seen new.seen → length new.seen ≤ 2 ^ 63 + 1 → IsPrefix old.counts new.counts → HasSeen (caller_of old) (caller_of new)
 looked old new token is seen room counts =
-    has_seen 0 old new token seen room (ap (λ (k : Known Version). k.number) is) (ap (λ (k : Known Version). k.table) is) (ap (λ (k : Known Version). k.mine) is) counts ([], append-nil old.tries ∙ sym (ap (λ (k : Known Version). k.tries) is))
+    has_seen 0 old new token seen room (ap (λ (k : Known Version). k.number) is) (ap (λ (k : Known Version). k.table) is) (ap (λ (k : Known Version). k.mine) is) counts ([], append-nil old.tries ∙ sym (ap (λ (k : Known Version). k.tries) is)) (ap (λ (k : Known Version). k.log) is)
 
 pub turned : (old new : Known Version) → IsToken 0 old → new ≡ record old { seen = new.seen; counts = new.counts; tries = new.tries; stage = new.stage } → IsPrefix old.seen new.seen → length new.seen ≤ 2 ^ 63 + 1 → IsPrefix old.counts new.counts → IsPrefix old.tries new.tries
     → HasSeen (caller_of old) (caller_of new)
 turned old new token is seen room counts tries =
-    has_seen 0 old new token seen room (ap (λ (k : Known Version). k.number) is) (ap (λ (k : Known Version). k.table) is) (ap (λ (k : Known Version). k.mine) is) counts tries
+    has_seen 0 old new token seen room (ap (λ (k : Known Version). k.number) is) (ap (λ (k : Known Version). k.table) is) (ap (λ (k : Known Version). k.mine) is) counts tries (ap (λ (k : Known Version). k.log) is)
 
 pub numbered : (old new : Known Version) (n : ℕ) → IsToken 0 old → IsPrefix old.seen new.seen → IsNumber old new n → HasRead (caller_of old) (caller_of new) (length (caller_of new).seen)
 numbered old new n token seen is = let read = has_read 0 old new token seen n is in subst (λ (k : ℕ). HasRead (caller_of old) (caller_of new) k) read.0 read
+
+-- ---- a pass that keeps a later log
+
+pub hears_of : (old new : Known Version) → new ≡ record old { log = new.log } → IsLater old.log new.log → Hears (caller_of old) (caller_of new)
+hears_of old new is later = record { later = later; others = ap caller_of is }
+
+pub token_kept : (stage : ℕ) (old new : Known Version) → IsToken stage old → new ≡ record old { log = new.log } → IsLater old.log new.log → IsToken stage new
+token_kept stage old new token is later =
+    subst (IsToken stage) (sym is)
+    (record { at = token.at; named = token.named; few = token.few; begun = token.begun; steps = token.steps; log = subst (IsBookOf old.seen) (sym later.0) token.log })
 
 -- ---- the passes of a new database
 
@@ -133,21 +160,22 @@ append_tokens : (ks : List (Known Version)) (k : Known Version) → AreTokens ks
 append_tokens [] k all token = (token, tt)
 append_tokens (j ∷ ks) k all token = (all.0, append_tokens ks k all.1 token)
 
-module _ (t : FrontId) (schema : DbSchema) (trees : Forest) (ids : Counter) where
+module _ (t : FrontId) (schema : DbSchema) (trees : Forest) (ids : Counter) (log : Log) where
   abbrev first : Version
   first = opening schema trees ids
 
-  pub fresh_tokens : AreSteps ((0, opening schema trees ids) ∷ []) → (n : ℕ) → n ≤ 64 → AreTokens (all_fresh t first n)
-  fresh_tokens steps zero few = tt
-  fresh_tokens steps (suc n) few =
-      append_tokens (all_fresh t first n) (fresh t first (suc n)) (fresh_tokens steps n (omega (arith, few))) (record { at = refl; named = omega arith; few = few; begun = refl; steps = steps })
+  pub fresh_tokens : AreSteps ((0, opening schema trees ids) ∷ []) → log.book ≡ ids.book → (n : ℕ) → n ≤ 64 → AreTokens (all_fresh t first log n)
+  fresh_tokens steps book zero few = tt
+  fresh_tokens steps book (suc n) few =
+      append_tokens (all_fresh t first log n) (fresh t first log (suc n)) (fresh_tokens steps book n (omega (arith, few))) (record { at = refl; named = omega arith; few = few; begun = refl; steps = steps; log = book })
 
-  pub fresh_callers : (db : Database) → db.database ≡ t → db.schema ≡ schema → (n : ℕ) → map caller_of (all_fresh t first n) ≡ new_passes db (record { book = ids.book; trees = trees }) n
-  fresh_callers db here same zero = refl
-  fresh_callers db here same (suc n) =
-      let last : caller_of (fresh t first (suc n)) ≡ new_pass db (record { book = ids.book; trees = trees }) (suc n) = λ i. let r : Caller = record { number = suc n; database = sym here i; schema = sym same i; book = ids.book; seen = []; trees = trees ∷ []; own = []; counts = []; tries = [] } in r in
-      map-append caller_of (all_fresh t first n) (fresh t first (suc n) ∷ [])
-      ∙ (λ i. fresh_callers db here same n i ++ last i ∷ [])
+  pub fresh_callers : (db : Database) → db.database ≡ t → db.schema ≡ schema → db.book ≡ ids.book → log ≡ record { book = ids.book; fired = [] } → (n : ℕ) → map caller_of (all_fresh t first log n) ≡ new_passes db trees n
+  fresh_callers db here same book empty zero = refl
+  fresh_callers db here same book empty (suc n) =
+      let log_is : log ≡ record { book = db.book; fired = [] } = empty ∙ (λ i. let l : Log = record { book = sym book i; fired = [] } in l) in
+      let last : caller_of (fresh t first log (suc n)) ≡ new_pass db trees (suc n) = λ i. let r : Caller = record { number = suc n; database = sym here i; schema = sym same i; book = sym book i; seen = []; trees = trees ∷ []; own = []; counts = []; tries = []; log = log_is i } in r in
+      map-append caller_of (all_fresh t first log n) (fresh t first log (suc n) ∷ [])
+      ∙ (λ i. fresh_callers db here same book empty n i ++ last i ∷ [])
 
 -- ---- lists of passes
 
@@ -203,17 +231,36 @@ has_made H (p ∷ ps) c has own = ⊎_elim (λ e. inl (e, subst (λ k. commits_b
 each_made : (n : ℕ) (H : History) (ps : List Caller) → AreAll n ps → AreIn H ps → AreMade n H ps
 each_made n H ps all own c pos few = has_made H ps c (all c pos few) own
 
-schema_of_all : (db : Database) (h : Versions) (ks : List (Known Version)) → 0 < length ks → AreTokens ks → AreOf db (map caller_of ks) → front_passes.AreIn h ks → schema_in h ≡ db.schema
+-- the one history of the database, with its trees
+abbrev pub whole_of : Database → Versions → CellHistory
+whole_of db h = record { schema = db.schema; commits = history_in h; trees = trees_in h }
+
+pub schema_of_all : (db : Database) (h : Versions) (ks : List (Known Version)) → 0 < length ks → AreTokens ks → AreOf db (map caller_of ks) → front_passes.AreIn h ks → schema_in h ≡ db.schema
 schema_of_all db h [] some tokens own all = absurd (omega (arith, some))
 schema_of_all db h (k ∷ ks) some tokens own all = schema_longer k.seen h tokens.0.begun all.1 ∙ own.0.1
 
+trees_in_all : (h : Versions) (ks : List (Known Version)) → front_passes.AreIn h ks → HaveSeenTrees (trees_in h) (map caller_of ks)
+trees_in_all h [] own = tt
+trees_in_all h (k ∷ ks) own = (prefix-map (λ (e : ℕ × Version). e.1.trees) k.seen h own.1, trees_in_all h ks own.2)
+
+pub book_of_all : (db : Database) (h : Versions) (ks : List (Known Version)) → 0 < length ks → AreTokens ks → AreOf db (map caller_of ks) → front_passes.AreIn h ks → book_in h ≡ db.book
+book_of_all db h [] some tokens own all = absurd (omega (arith, some))
+book_of_all db h (k ∷ ks) some tokens own all = book_same k.seen h tokens.0.begun all.1 ∙ own.0.2
+
 pub closed : (db : Database) (h : Versions) (ks : List (Known Version)) (v : Version) (n : ℕ) → 0 < length ks → AreAll db.callers (map caller_of ks) → AreTokens ks → AreOf db (map caller_of ks) → front.IsHistory db.callers h → front_passes.AreIn h ks
-    → n + 1 ≡ length h → n ≤ 2 ^ 63 → StandsFor h v → (H : History) × IsWhole db (map caller_of ks) H × (v.view ≡ view_after db.schema H)
+    → n + 1 ≡ length h → n ≤ 2 ^ 63 → StandsFor h v → IsWhole db (map caller_of ks) (whole_of db h)
 closed db h ks v n some each tokens own history all count few stands =
     let length_is = history_length h stands.begun in
+    let trees_are = length-map h (λ (e : ℕ × Version). e.1.trees) in
     let ours = all_in h ks stands.begun tokens all in
-    let named : AreNamed db.callers (history_in h) = subst (λ (g : Versions). AreNamed db.callers (history_in g)) (sym history.2) (named_in db.callers history.1 history.3) in (
-      history_in h,
-      record { named = named; own = ours; made = each_made db.callers (history_in h) (map caller_of ks) each ours; few = omega (arith, length_is, count, few) },
-      stands.view ∙ ap (λ (s : DbSchema). view_after s (history_in h)) (schema_of_all db h ks some tokens own all),
-    )
+    let named : AreNamed db.callers (history_in h) = subst (λ (g : Versions). AreNamed db.callers (history_in g)) (sym history.2) (named_in db.callers history.1 history.3) in
+    record {
+      passes = own;
+      schema = refl;
+      named = named;
+      own = ours;
+      trees = trees_in_all h ks all;
+      made = each_made db.callers (history_in h) (map caller_of ks) each ours;
+      few = omega (arith, length_is, count, few);
+      complete = omega (arith, length_is, trees_are);
+    }

@@ -1,29 +1,33 @@
--- Of two watches that were asked of one index of one table, equal ids are equal cells.
-use Rattle.std.proofs.Common.{◌≡◌, ◌∙◌, ◌⊎◌, ◌+◌, ◌-◌, ◌≤◌, ◌<◌, ℕ, zero, suc, List, length, Some, slice_get, inl, inr, sym, ap, subst, arith}
-use Rattle.std.proofs.lemmas.Option.{same_Some, slice_get_within}
+-- In all trees of a history equal ids are equal cells.
+use Rattle.std.proofs.Common.{◌≡◌, ◌∙◌, ◌⊎◌, ◌+◌, ◌-◌, ◌≤◌, ◌<◌, ℕ, zero, suc, List, [], length, Some, slice_get, inl, inr, sym, ap, subst, arith}
+use Rattle.std.specs.Prelude.{All}
+use Rattle.std.proofs.lemmas.List.{length-map}
+use Rattle.std.proofs.lemmas.Option.{same_Some, slice_get_past, slice_get_within}
 use Rattle.db_front.specs.Passes.{Known}
-use Rattle.mdb_encode.specs.Bytes.{Bytes}
+use Rattle.mdb_schema.proofs.Tables.{table_place-name}
 use Rattle.mdb_schema.specs.Schema.{TableSchema, table_place}
+use Rattle.radix_node.specs.Ids.{Counter}
 use Rattle.radix_node.specs.Cells.{AreApart, CellTree, cells_of, piece_cell, pieces_of}
 use Rattle.radix_node.specs.Paths.{Has}
 use Rattle.radix_node.proofs.Members.{cell_piece}
 use Rattle.radix_txn.proofs.Steps.{lt_or_le}
 use Rattle.radix_txn.proofs.TxnTrees.{one_piece}
 use Rattle.table_index.specs.Table.{TableRows}
-use Rattle.table_index.specs.Watched.{HoldsRows}
 use Rattle.table_index.proofs.WipeSteps.{there_within}
 use Rattle.watch_word.specs.Logs.{Cell}
-use Rattle.mem_txn.specs.CellHistory.{CellHistory, Forest, state_after, table_in, trees_after}
+use Rattle.mem_txn.specs.CellHistory.{CellHistory, Forest, IdsTell, IsCellIn, forest_or_none, state_after, table_in, trees_after}
 use Rattle.mem_txn.specs.Checked.{IdsTellCells, IsHeldBy}
 use Rattle.mem_txn.specs.Database.{Caller, cells_seen}
 use Rattle.mem_txn.specs.Held.{HeldWatch}
-use Rattle.mem_txn.specs.inner.Steps.{AreSteps, tables_with}
+use Rattle.mem_txn.specs.inner.Steps.{AreSteps}
+use Rattle.mem_txn.specs.inner.VersionTables.{AreAllWithin}
 use Rattle.mem_txn.specs.inner.Versions.{IsBegun, Version, Versions, caller_of}
 use Rattle.mem_txn.proofs.CellsWatched.{tree_of, watch_is_in}
 use Rattle.mem_txn.proofs.HeldAlong.{looked_in}
-use Rattle.mem_txn.proofs.KeptAlong.{all_at, drawn_at, drawn_next, opened_at, step_there, table_there, trees_there}
+use Rattle.mem_txn.proofs.KeptAlong.{all_at, drawn_next, step_there, table_there, trees_there}
+use Rattle.mem_txn.proofs.SeparateForests.{id_drawn, opened_at}
 use Rattle.mem_txn.proofs.StepAtPlace.{named_there}
-use Rattle.mem_txn.proofs.ValuesAlong.{StepAfter, cells_in, held_after, one_more, stands_at, step_after}
+use Rattle.mem_txn.proofs.ValuesAlong.{StepAfter, cells_in, forest_of, one_more, stands_at, step_after}
 
 -- cells of one id in one tree are one
 same_cell : (tree : CellTree) → AreApart tree → (c d : Cell) → c.id ≡ d.id → Has c (cells_of tree) → Has d (cells_of tree) → c ≡ d
@@ -38,104 +42,132 @@ not_new : (old : Type 0) (id first : ℕ) → old ⊎ (first ≤ id) → id < fi
 not_new old id first (inl was) low = was
 not_new old id first (inr new) low = absurd (omega (arith, low, new))
 
--- after n commits a cell is in the tree of an index of a table
-record IsIn (J : CellHistory) (c : Cell) (table index n : ℕ) : Type 0 where
-  trees : List CellTree
-  tree : CellTree
-  there : slice_get (trees_after J n) table ≡ Some trees
-  placed : slice_get trees index ≡ Some tree
-  has : Has c (cells_of tree)
+-- so are cells of one id in all trees of a forest
+one_forest : (ids : Counter) (forest : Forest) → AreAllWithin ids forest → (c d : Cell) (table table' index index' : ℕ) → IsCellIn forest table index c → IsCellIn forest table' index' d → c.id ≡ d.id → (c ≡ d) × (table ≡ table') × (index ≡ index')
+one_forest ids forest within c d i k j l x y same =
+    let place = within.separate c d i k j l x y same in
+    let trees : y.trees ≡ x.trees = same_Some y.trees x.trees (sym y.there ∙ (ap (λ (n : ℕ). slice_get forest n) (sym place.0) ∙ x.there)) in
+    let found : slice_get y.trees l ≡ slice_get x.trees j = ap (λ (n : ℕ). slice_get y.trees n) (sym place.1) ∙ ap (λ (ts : List CellTree). slice_get ts j) trees in
+    let tree : y.at.tree ≡ x.at.tree = same_Some y.at.tree x.at.tree (sym y.at.there ∙ (found ∙ x.at.there)) in
+    let apart = all_at AreApart x.trees j x.at.tree (all_at (All AreApart) forest i x.trees within.apart x.there) x.at.there in
+    (same_cell x.at.tree apart c d same x.at.has (subst (λ (t : CellTree). Has d (cells_of t)) tree y.at.has), place.0, place.1)
 
 module _ (h : Versions) (begun : IsBegun h) (steps : AreSteps h) where
   -- the history of the values
   abbrev J : CellHistory
   J = cells_in h
 
-  module _ (table index : ℕ) (t : TableSchema) (schema : slice_get J.schema table ≡ Some t) where
-    -- the table had its trees before a commit
-    trees_before : (n : ℕ) → StepAfter h n → (before : List CellTree) × (slice_get (trees_after J n) table ≡ Some before)
-    trees_before n s =
-        let at = stands_at h steps n s.old s.before in
-        let within = slice_get_within J.schema table t schema in
-        let count : length s.old.1.trees ≡ length J.schema = s.step.planted ∙ ap length at.schema in
-        let found = there_within s.old.1.trees table (omega (arith, within, count)) in
-        (found.0, ap (λ (f : Forest). slice_get f table) (sym at.trees) ∙ found.1)
+  -- there are trees only after the commits of the history
+  trees_until : (n table : ℕ) (trees : List CellTree) → slice_get (trees_after J n) table ≡ Some trees → n ≤ length J.commits
+  trees_until n table trees there =
+      elim (lt_or_le n (length J.trees)) [
+        | inl less ↦ (let all = length-map h forest_of in let more = one_more h begun in omega (arith, less, all, more))
+        | inr past ↦ (let none : trees_after J n ≡ [] = ap forest_or_none (slice_get_past J.trees n past) in let no_tree : slice_get [] table ≡ Some trees = ap (λ (f : Forest). slice_get f table) (sym none) ∙ there in absurd (cc))
+      ]
 
-    -- no two cells of its trees have one id
-    are_apart : (n : ℕ) (e : ℕ × Version) → slice_get h n ≡ Some e → (trees : List CellTree) (tree : CellTree) → slice_get (trees_after J n) table ≡ Some trees → slice_get trees index ≡ Some tree → AreApart tree
-    are_apart n e at trees tree there placed =
-        let x = table_there h begun steps n table t trees schema there in
-        let now : TableRows = record { schema = t; rows = x.0; trees = trees } in
-        let held = all_at HoldsRows (tables_with J.schema (state_after J n) (trees_after J n)) table now (held_after h steps n e at) x.1 in
-        all_at AreApart trees index tree held.apart placed
+  -- a table of the schema stands where trees do
+  schema_there : (n : ℕ) → StepAfter h n → (table : ℕ) (trees : List CellTree) → slice_get (trees_after J (suc n)) table ≡ Some trees → (t : TableSchema) × (slice_get J.schema table ≡ Some t)
+  schema_there n s table trees there =
+      let at = stands_at h steps (suc n) s.new s.behind in
+      let within = slice_get_within s.new.1.trees table trees (ap (λ (f : Forest). slice_get f table) at.trees ∙ there) in
+      let count : length s.new.1.trees ≡ length J.schema = s.step.planted_now ∙ ap length at.schema in
+      there_within J.schema table (omega (arith, within, count))
 
-    module _ (c : Cell) where
-      -- the cell's id was drawn in the first n commits
-      abbrev IsDrawn : ℕ → Type 0
-      IsDrawn n = (e : ℕ × Version) → slice_get h n ≡ Some e → c.id < e.1.ids.next
+  -- which had its trees before the commit
+  trees_before : (n : ℕ) → StepAfter h n → (table : ℕ) (t : TableSchema) → slice_get J.schema table ≡ Some t → (before : List CellTree) × (slice_get (trees_after J n) table ≡ Some before)
+  trees_before n s table t schema =
+      let at = stands_at h steps n s.old s.before in
+      let within = slice_get_within J.schema table t schema in
+      let count : length s.old.1.trees ≡ length J.schema = s.step.planted ∙ ap length at.schema in
+      let found = there_within s.old.1.trees table (omega (arith, within, count)) in
+      (found.0, ap (λ (f : Forest). slice_get f table) (sym at.trees) ∙ found.1)
 
-      -- it is drawn then at each later one
-      drawn_later : (m k : ℕ) → m + k ≤ length J.commits → IsDrawn m → IsDrawn (m + k)
-      drawn_later m zero most low = subst IsDrawn (search arith) low
-      drawn_later m (suc k) most low =
-          let s = step_after h begun steps (m + k) (omega (arith, most)) in
-          let next : suc (m + k) ≡ m + suc k = search arith in
-          let before = drawn_later m k (omega (arith, most)) low in
-          subst IsDrawn next (drawn_next h begun steps c table index (m + k) s (before s.old s.before))
+  module _ (c : Cell) (table index : ℕ) where
+    -- after n commits the cell is in the tree of the index of the table
+    abbrev IsIn : ℕ → Type 0
+    IsIn n = IsCellIn (trees_after J n) table index c
 
-      -- a cell whose id was drawn before a commit was in the tree before it
-      in_before : (n : ℕ) (s : StepAfter h n) → c.id < s.old.1.ids.next → IsIn J c table index (suc n) → IsIn J c table index n
-      in_before n s low is =
-          let before = trees_before n s in
-          let x = table_there h begun steps n table t before.0 schema before.1 in
-          let old : TableRows = record { schema = t; rows = x.0; trees = before.0 } in
-          let u = step_there h begun steps n table s old x.1 in
-          let same = trees_there h begun steps (suc n) table u.0 is.trees u.1 is.there in
-          let o = opened_at s.old.1.ids.next before.0 u.0.trees index is.tree u.2.opened (ap (λ (ts : List CellTree). slice_get ts index) same ∙ is.placed) in
-          record {
-            trees = before.0;
+    -- its id was drawn in the first n commits
+    abbrev IsDrawn : ℕ → Type 0
+    IsDrawn n = (e : ℕ × Version) → slice_get h n ≡ Some e → c.id < e.1.ids.next
+
+    -- it is drawn then at each later one
+    drawn_later : (m k : ℕ) → m + k ≤ length J.commits → IsDrawn m → IsDrawn (m + k)
+    drawn_later m zero most low = subst IsDrawn (search arith) low
+    drawn_later m (suc k) most low =
+        let s = step_after h begun steps (m + k) (omega (arith, most)) in
+        let next : suc (m + k) ≡ m + suc k = search arith in
+        let before = drawn_later m k (omega (arith, most)) low in
+        subst IsDrawn next (drawn_next h begun steps c table index (m + k) s (before s.old s.before))
+
+    -- a cell whose id was drawn before a commit was in the tree before it
+    in_before : (n : ℕ) (s : StepAfter h n) → c.id < s.old.1.ids.next → IsIn (suc n) → IsIn n
+    in_before n s low is =
+        let t = schema_there n s table is.trees is.there in
+        let before = trees_before n s table t.0 t.1 in
+        let x = table_there h begun steps n table t.0 before.0 t.1 before.1 in
+        let old : TableRows = record { schema = t.0; rows = x.0; trees = before.0 } in
+        let u = step_there h begun steps n table s old x.1 in
+        let same = trees_there h begun steps (suc n) table u.0 is.trees u.1 is.there in
+        let tree = is.at.tree in
+        let o = opened_at s.old.1.ids.next before.0 u.0.trees index tree u.2.opened (ap (λ (ts : List CellTree). slice_get ts index) same ∙ is.at.there) in
+        record {
+          trees = before.0;
+          there = before.1;
+          at = record {
             tree = o.0;
-            there = before.1;
-            placed = o.1;
-            has = not_new (Has c (cells_of o.0)) c.id s.old.1.ids.next (o.2 c is.has) low;
-          }
+            there = o.1;
+            has = not_new (Has c (cells_of o.0)) c.id s.old.1.ids.next (o.2 c is.at.has) low;
+          };
+        }
 
-      -- and so on
-      in_first : (m k : ℕ) → m + k ≤ length J.commits → IsDrawn m → IsIn J c table index (m + k) → IsIn J c table index m
-      in_first m zero most low is = subst (IsIn J c table index) (search arith) is
-      in_first m (suc k) most low is =
-          let s = step_after h begun steps (m + k) (omega (arith, most)) in
-          let next : m + suc k ≡ suc (m + k) = search arith in
-          let drawn = drawn_later m k (omega (arith, most)) low in
-          in_first m k (omega (arith, most)) low (in_before (m + k) s (drawn s.old s.before) (subst (IsIn J c table index) next is))
+    -- and so on
+    in_first : (m k : ℕ) → m + k ≤ length J.commits → IsDrawn m → IsIn (m + k) → IsIn m
+    in_first m zero most low is = subst IsIn (search arith) is
+    in_first m (suc k) most low is =
+        let s = step_after h begun steps (m + k) (omega (arith, most)) in
+        let next : m + suc k ≡ suc (m + k) = search arith in
+        let drawn = drawn_later m k (omega (arith, most)) low in
+        in_first m k (omega (arith, most)) low (in_before (m + k) s (drawn s.old s.before) (subst IsIn next is))
 
-    -- two cells of one id that were in the tree after some commits are one
-    one_cell : (c d : Cell) (m n : ℕ) → m ≤ n → n ≤ length J.commits → c.id ≡ d.id → IsIn J c table index m → IsIn J d table index n → c ≡ d
-    one_cell c d m n less most same first last =
-        let k : m + (n - m) ≡ n = omega (arith, less) in
-        let more = one_more h begun in
-        let e = there_within h m (omega (arith, less, most, more)) in
-        let at = stands_at h steps m e.0 e.1 in
-        let trees : slice_get e.0.1.trees table ≡ Some first.trees = ap (λ (f : Forest). slice_get f table) at.trees ∙ first.there in
-        let low = drawn_at h begun steps c table index e.0 first.trees first.tree (steps.within m e.0 e.1) trees first.placed first.has in
-        let drawn : IsDrawn d m = λ f is. subst (λ (i : ℕ). i < f.1.ids.next) same (subst (λ (x : ℕ × Version). c.id < x.1.ids.next) (same_Some e.0 f (sym e.1 ∙ is)) low) in
-        let then = in_first d m (n - m) (omega (arith, k, most)) drawn (subst (IsIn J d table index) (sym k) last) in
-        let list = same_Some then.trees first.trees (sym then.there ∙ first.there) in
-        let tree = same_Some then.tree first.tree (sym then.placed ∙ (ap (λ (ts : List CellTree). slice_get ts index) list ∙ first.placed)) in
-        same_cell first.tree (are_apart m e.0 e.1 first.trees first.tree first.there first.placed) c d same first.has (subst (λ (x : CellTree). Has d (cells_of x)) tree then.has)
+  -- cells of one id in trees after some commits and after more are one: both are in the first trees
+  one_cell : (c d : Cell) (table table' index index' m n : ℕ) → m ≤ n → n ≤ length J.commits → c.id ≡ d.id → IsCellIn (trees_after J m) table index c → IsCellIn (trees_after J n) table' index' d → (c ≡ d) × (table ≡ table') × (index ≡ index')
+  one_cell c d i k j l m n less most same first last =
+      let count : m + (n - m) ≡ n = omega (arith, less) in
+      let more = one_more h begun in
+      let e = there_within h m (omega (arith, less, most, more)) in
+      let at = stands_at h steps m e.0 e.1 in
+      let ids = e.0.1.ids in
+      let within : AreAllWithin ids (trees_after J m) = subst (AreAllWithin ids) at.trees (steps.within m e.0 e.1) in
+      let low : c.id < ids.next = id_drawn ids (trees_after J m) i j c within.within first in
+      let drawn : IsDrawn d k l m = λ f is. subst (λ (x : ℕ). x < f.1.ids.next) same (subst (λ (x : ℕ × Version). c.id < x.1.ids.next) (same_Some e.0 f (sym e.1 ∙ is)) low) in
+      let then = in_first d k l m (n - m) (omega (arith, count, most)) drawn (subst (IsIn d k l) (sym count) last) in
+      one_forest ids (trees_after J m) within c d i k j l first then same
+
+  -- so ids tell cells in all trees
+  pub tell : IdsTell J
+  tell m n c d i k j l x y same =
+      elim (lt_or_le m n) [
+        | inl less ↦ one_cell c d i k j l m n (omega (arith, less)) (trees_until n k y.trees y.there) same x y
+        | inr most ↦ (let r = one_cell d c k i l j n m most (trees_until m i x.trees x.there) (sym same) y x in (sym r.0, sym r.1, sym r.2))
+      ]
+
+-- the same of what a caller has seen
+pub all_tell : (k : Known Version) → IsBegun k.seen → AreSteps k.seen → IdsTell (cells_seen (caller_of k))
+all_tell k begun steps = tell k.seen begun steps
 
 -- ---- held watches
 
--- a watch is in the tree where its question is looked up
-record IsWatched (J : CellHistory) (g : HeldWatch) : Type 0 where
+-- a watch is in the tree where its question is looked up, after the commits at which it was asked
+record IsWatched (p : Caller) (g : HeldWatch) : Type 0 where
   place : ℕ
-  named : let q = g.query in table_place q.table J.schema ≡ Some place
-  table : TableSchema
-  schema : slice_get J.schema place ≡ Some table
-  stands : let spot = g.spot in IsIn J spot.watch place spot.index g.number
+  schema : TableSchema
+  named : let q = g.query in table_place q.table p.schema ≡ Some place
+  there : slice_get p.schema place ≡ Some schema
+  stands : let spot = g.spot in IsCellIn (trees_after (cells_seen p) g.number) place spot.index spot.watch
 
 -- each held watch is
-watched : (p : Caller) (g : HeldWatch) → IsHeldBy p g → IsWatched (cells_seen p) g
+watched : (p : Caller) (g : HeldWatch) → IsHeldBy p g → IsWatched p g
 watched p g held =
     let J = cells_seen p in
     let q = g.query in
@@ -148,31 +180,30 @@ watched p g held =
     let at = tree_of t.trees spot.index spot.exact spot.key spot.watch looked.2.cell in
     record {
       place = named.table.place;
+      schema = t.schema;
       named = named.named.place;
-      table = t.schema;
-      schema = named.there.schema;
+      there = named.there.schema;
       stands = record {
         trees = t.trees;
-        tree = at.0;
         there = named.there.trees;
-        placed = at.1;
-        has = subst (λ (d : Cell). Has d (cells_of at.0)) at.2 (watch_is_in at.0 spot.exact spot.key);
+        at = record {
+          tree = at.0;
+          there = at.1;
+          has = subst (λ (d : Cell). Has d (cells_of at.0)) at.2 (watch_is_in at.0 spot.exact spot.key);
+        };
       };
     }
 
--- so two of one index have one cell where they have one id
-pub ids_tell : (k : Known Version) → IsBegun k.seen → AreSteps k.seen → IdsTellCells (caller_of k)
-ids_tell k begun steps g h held_g held_h named index id =
-    let p = caller_of k in
-    let J = cells_seen p in
-    let c = g.spot.watch in
-    let d = h.spot.watch in
-    let i = g.spot.index in
+-- so two have one cell where they have one id
+held_tell : (p : Caller) → IdsTell (cells_seen p) → IdsTellCells p
+held_tell p tells g h held_g held_h same =
     let a = watched p g held_g in
     let b = watched p h held_h in
-    let place = same_Some b.place a.place (sym b.named ∙ (ap (λ (n : Bytes). table_place n J.schema) (sym named) ∙ a.named)) in
-    let there = subst (λ (x : ℕ). IsIn J d x i h.number) place (subst (λ (x : ℕ). IsIn J d b.place x h.number) (sym index) b.stands) in
-    elim (lt_or_le g.number h.number) [
-      | inl less ↦ one_cell k.seen begun steps a.place i a.table a.schema c d g.number h.number (omega (arith, less)) held_h.seen id a.stands there
-      | inr most ↦ sym (one_cell k.seen begun steps a.place i a.table a.schema d c h.number g.number most held_g.seen (sym id) there a.stands)
-    ]
+    let one = tells g.number h.number g.spot.watch h.spot.watch a.place b.place g.spot.index h.spot.index a.stands b.stands same in
+    let schemas : a.schema ≡ b.schema = same_Some a.schema b.schema (sym a.there ∙ (ap (slice_get p.schema) one.1 ∙ b.there)) in
+    let first = table_place-name g.query.table p.schema a.place a.schema a.named a.there in
+    let second = table_place-name h.query.table p.schema b.place b.schema b.named b.there in
+    record { cell = one.0; table = sym first ∙ (ap (λ (t : TableSchema). t.name) schemas ∙ second); index = one.2 }
+
+pub ids_tell : (k : Known Version) → IsBegun k.seen → AreSteps k.seen → IdsTellCells (caller_of k)
+ids_tell k begun steps = held_tell (caller_of k) (all_tell k begun steps)

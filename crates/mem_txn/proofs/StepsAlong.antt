@@ -1,5 +1,5 @@
 -- Lists of values, each made of the one before it, and the logs that have what their commits fire.
-use Rattle.std.proofs.Common.{◌≡◌, ◌∙◌, ◌+◌, ◌-◌, ◌^◌, ◌<◌, ◌≤◌, ◌++◌, ◌⊎◌, ℕ, zero, suc, List, [], ◌∷◌, Some, None, true, inl, inr, ⊎_elim, length, take, slice_get, option_map, sym, ap, refl, subst, arith}
+use Rattle.std.proofs.Common.{◌≡◌, ◌∙◌, ◌+◌, ◌-◌, ◌^◌, ◌<◌, ◌≤◌, ◌++◌, ◌⊎◌, ℕ, zero, suc, List, [], ◌∷◌, Some, None, true, inl, inr, ⊎_elim, length, map, take, slice_get, option_map, sym, ap, refl, subst, arith}
 use Rattle.std.specs.Prelude.{All}
 use mathlib.Core.List.{IsPrefix}
 use mathlib.Core.Logic.{dite}
@@ -9,6 +9,7 @@ use Rattle.std.proofs.lemmas.List.Elements.{All-contains}
 use Rattle.std.proofs.lemmas.Option.{slice_get-map, slice_get_past}
 use Rattle.db_front.specs.Commits as front
 use Rattle.db_front.specs.Passes.{Known}
+use Rattle.db_front.specs.Passes as front_passes
 use Rattle.mdb_schema.specs.History.{Commit, after_writes, state_at, writes_in}
 use Rattle.mdb_schema.specs.Schema.{DbSchema}
 use Rattle.mdb_schema.proofs.Membership.{Contains-slice_get}
@@ -22,13 +23,13 @@ use Rattle.table_index.specs.Watched.{HoldsRows}
 use Rattle.watch_word.specs.Logs.{Cell, IsLater, Log, has_fired}
 use Rattle.mem_txn.specs.CellHistory as cells
 use Rattle.mem_txn.specs.CellHistory.{FiresIn, forest_or_none, trees_after}
-use Rattle.mem_txn.specs.Database.{Reading, View, cells_seen, reading_of, view_after}
+use Rattle.mem_txn.specs.Database.{AreOf, Database, Reading, View, cells_seen, reading_after, reading_of, view_after}
 use Rattle.mem_txn.specs.inner.Commits.{IsNext}
 use Rattle.mem_txn.specs.inner.Firing.{AreGone}
 use Rattle.mem_txn.specs.inner.Steps.{AreSteps, HasFired, IsStep, tables_of}
-use Rattle.mem_txn.specs.inner.VersionTables.{AreWithin}
-use Rattle.mem_txn.specs.inner.Versions.{AreFew, Forest, IsBegun, IsBookOf, StandsFor, Version, Versions, book_in, caller_of, history_in, opening, schema_in}
-use Rattle.mem_txn.proofs.OneHistory.{begun_longer, book_longer, history_length, next_in, schema_longer, trees_in}
+use Rattle.mem_txn.specs.inner.VersionTables.{AreAllWithin, AreWithin}
+use Rattle.mem_txn.specs.inner.Versions.{AreFew, AreTokens, Forest, IsBegun, IsBookOf, StandsFor, Version, Versions, book_in, caller_of, history_in, opening, schema_in}
+use Rattle.mem_txn.proofs.OneHistory.{begun_longer, book_longer, book_of_all, history_length, next_in, schema_longer, schema_of_all, trees_in, whole_of}
 use Rattle.mem_txn.proofs.StatesAfter.{state_seen-more}
 use Rattle.mdb_schema.proofs.HistorySteps.{writes_in-more}
 
@@ -118,7 +119,7 @@ module _ (h : Versions) (c : ℕ) (v : Version) (begun : IsBegun h) where
     base_at = ap (λ (g : Versions). slice_get g (length r)) last ∙ at_last r (d, base)
 
     -- a step more
-    pub steps_more : AreSteps h → v.view ≡ view_after (schema_in more) (history_in more) → All (AreWithin v.ids) v.trees → All HoldsRows (tables_of v) → IsStep base v → AreSteps more
+    pub steps_more : AreSteps h → v.view ≡ view_after (schema_in more) (history_in more) → AreAllWithin v.ids v.trees → All HoldsRows (tables_of v) → IsStep base v → AreSteps more
     steps_more steps view within held step = record {
       views = λ n e there. ⊎_elim
           (λ p. view_more n e.1 p.0 (steps.views n e p.1))
@@ -126,7 +127,7 @@ module _ (h : Versions) (c : ℕ) (v : Version) (begun : IsBegun h) where
           (before_or_last h (c, v) e n there);
       within = λ n e there. ⊎_elim
           (λ p. steps.within n e p.1)
-          (λ p. subst (λ (x : ℕ × Version). All (AreWithin x.1.ids) x.1.trees) (sym p.1) within)
+          (λ p. subst (λ (x : ℕ × Version). AreAllWithin x.1.ids x.1.trees) (sym p.1) within)
           (before_or_last h (c, v) e n there);
       held = λ n e there. ⊎_elim
           (λ p. steps.held n e p.1)
@@ -199,7 +200,7 @@ firings_seen k n log count has j less c fires =
 
 -- ---- the value before the first commit
 
-module _ (schema : DbSchema) (trees : Forest) (ids : Counter) (within : All (AreWithin ids) trees) where
+module _ (schema : DbSchema) (trees : Forest) (ids : Counter) (within : AreAllWithin ids trees) where
   abbrev first : Version
   first = opening schema trees ids
 
@@ -212,7 +213,7 @@ module _ (schema : DbSchema) (trees : Forest) (ids : Counter) (within : All (Are
   pub steps_begin : All HoldsRows (tables_of first) → AreSteps ((0, first) ∷ [])
   steps_begin held = record {
     views = λ n e there. let is = only n e there in subst (λ (x : ℕ × Version). x.1.view ≡ view_after schema (take n [])) (sym is.1) (subst (λ (m : ℕ). first.view ≡ view_after schema (take m [])) (sym is.0) refl);
-    within = λ n e there. subst (λ (x : ℕ × Version). All (AreWithin x.1.ids) x.1.trees) (sym (only n e there).1) within;
+    within = λ n e there. subst (λ (x : ℕ × Version). AreAllWithin x.1.ids x.1.trees) (sym (only n e there).1) within;
     held = λ n e there. subst (λ (x : ℕ × Version). All HoldsRows (tables_of x.1)) (sym (only n e there).1) held;
     books = λ n e there. ap (λ (x : ℕ × Version). x.1.ids.book) (only n e there).1;
     steps = λ n e f here there. absurd (cc there);
@@ -264,12 +265,12 @@ next_stands k base v stands next =
 -- ---- the cells that a commit fires
 
 -- they are of the book of the trees that they left
-pub gone_of : (ids : Counter) (old new : Forest) (told : List Cell) → All (AreWithin ids) old → AreGone old new told → trees.AreCellsOf ids.book told
+pub gone_of : (ids : Counter) (old new : Forest) (told : List Cell) → AreAllWithin ids old → AreGone old new told → trees.AreCellsOf ids.book told
 gone_of ids old new told within gone = all_are ids.book told (λ c h. fires_of c (gone.gone c h))
   where
     fires_of : (c : Cell) → FiresIn old new c → c.book ≡ ids.book
     fires_of c f =
-        let here : AreWithin ids f.before = All-contains (AreWithin ids) old f.before within (Contains-slice_get old f.table f.before f.was) in
+        let here : AreWithin ids f.before = All-contains (AreWithin ids) old f.before within.within (Contains-slice_get old f.table f.before f.was) in
         let tree : trees.AreOf ids.book f.fires.before = All-contains (trees.AreOf ids.book) f.before f.fires.before here.of (Contains-slice_get f.before f.index f.fires.before f.fires.was) in
         each_is ids.book (trees.cells_of f.fires.before) tree c f.fires.fires.left
 
@@ -295,17 +296,32 @@ book_is (e ∷ es) b of = of
 
 -- ---- what a caller reads
 
+-- the trees of the value that stands for a list are the last
+pub last_trees : (h : Versions) (v : Version) → StandsFor h v → v.trees ≡ forest_or_none (slice_get (trees_in h) (length (history_in h)))
+last_trees h v stands =
+    let c = stands.last.0 in
+    let r = stands.last.1 in
+    let all = history_length h stands.begun in
+    let size : length h ≡ length r + 1 = ap length stands.last.2 ∙ length-append r ((c, v) ∷ []) in
+    let place : length (history_in h) ≡ length r = omega (arith, all, size) in
+    let there : slice_get h (length (history_in h)) ≡ Some (c, v) = ap (slice_get h) place ∙ ap (λ (g : Versions). slice_get g (length r)) stands.last.2 ∙ at_last r (c, v) in
+    sym (trees_at h (length (history_in h)) (c, v) there)
+
 -- the value that stands for what a caller has seen is what it reads
 pub reads : (k : Known Version) (v : Version) → StandsFor k.seen v → record { view = v.view; trees = v.trees; book = v.ids.book } ≡ reading_of (caller_of k)
 reads k v stands =
-    let c = stands.last.0 in
-    let r = stands.last.1 in
-    let all = history_length k.seen stands.begun in
-    let size : length k.seen ≡ length r + 1 = ap length stands.last.2 ∙ length-append r ((c, v) ∷ []) in
-    let place : length (history_in k.seen) ≡ length r = omega (arith, all, size) in
-    let there : slice_get k.seen (length (history_in k.seen)) ≡ Some (c, v) = ap (slice_get k.seen) place ∙ ap (λ (h : Versions). slice_get h (length r)) stands.last.2 ∙ at_last r (c, v) in
-    let forest = sym (trees_at k.seen (length (history_in k.seen)) (c, v) there) in
+    let forest = last_trees k.seen v stands in
     λ i. let t : Reading = record { view = stands.view i; trees = forest i; book = book_is k.seen v.ids.book stands.book i } in t
+
+-- when all passes are back, the value is what is read of the whole history
+pub read_whole : (db : Database) (h : Versions) (ks : List (Known Version)) (v : Version) → 0 < length ks → AreTokens ks → AreOf db (map caller_of ks) → front_passes.AreIn h ks → StandsFor h v
+    → record { view = v.view; trees = v.trees; book = v.ids.book } ≡ reading_after db (whole_of db h)
+read_whole db h ks v some tokens own all stands =
+    let schema = schema_of_all db h ks some tokens own all in
+    let forest = last_trees h v stands in
+    let book = book_is h v.ids.book stands.book ∙ book_of_all db h ks some tokens own all in
+    let view : v.view ≡ view_after db.schema (history_in h) = stands.view ∙ ap (λ (s : DbSchema). view_after s (history_in h)) schema in
+    λ i. let t : Reading = record { view = view i; trees = forest i; book = book i } in t
 
 -- ---- the turn of a caller that makes a commit
 
@@ -335,5 +351,8 @@ module _ (k : Known Version) (base v : Version) (stands : StandsFor k.seen base)
         firings_seen k' (length (history_in k'.seen)) new (omega (arith, count)) (subst (λ (m : ℕ). front.HasFirings HasFired m k'.seen new) n turn_fires)
 
     -- the log is of the caller's book
+    pub turn_of_book : IsBookOf k'.seen new.book
+    turn_of_book = log_of (length k'.seen - 1) k'.seen new begun_so turn_fires
+
     pub turn_book : new.book ≡ book_in k'.seen
-    turn_book = book_is k'.seen new.book (log_of (length k'.seen - 1) k'.seen new begun_so turn_fires)
+    turn_book = book_is k'.seen new.book turn_of_book

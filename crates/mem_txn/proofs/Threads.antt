@@ -37,6 +37,7 @@ use Rattle.mem_txn.specs.contracts.read_txn.ReadTxn
 use Rattle.mem_txn.specs.contracts.snapshot.Snapshot
 use Rattle.mem_txn.specs.contracts.txn_table.TxnTable
 use Rattle.mem_txn.specs.contracts.view.View
+use Rattle.mem_txn.specs.contracts.version.Contents
 use Rattle.mem_txn.specs.contracts.version.Version
 
 row-send : IsSend (Row.the_field).row
@@ -114,19 +115,25 @@ ids-send = search (sendable, crosses, book.the_send, book.the_sync) depth 20
 ids-sync : IsSync Ids.the_row
 ids-sync = search (sendable, crosses, book.the_send, book.the_sync) depth 20
 
+contents-send : IsSend Contents.the_row
+contents-send = search (sendable, crosses, view_send, accepted_send, ids-send) depth 20
+
+contents-sync : IsSync Contents.the_row
+contents-sync = search (sendable, crosses, view_sync, accepted_sync, ids-sync) depth 20
+
 pub version_send : IsSend Version.the_row
-version_send = search (sendable, crosses, view_send, accepted_send, ids-send) depth 20
+version_send = search (sendable, crosses, contents-send, contents-sync) depth 20
 
 pub version_sync : IsSync Version.the_row
-version_sync = search (sendable, crosses, view_sync, accepted_sync, ids-sync) depth 20
+version_sync = search (sendable, crosses, contents-send, contents-sync) depth 20
 
 -- ---- what callers share, and their passes
 
 pub db_send : IsSend Db.the_row
-db_send = search (sendable, crosses, schema_send, schema_sync, version_send, version_sync, front.the_send) depth 20
+db_send = search (sendable, crosses, schema_send, schema_sync, version_send, version_sync, front.the_send, log.the_send) depth 20
 
 pub db_sync : IsSync Db.the_row
-db_sync = search (sendable, crosses, schema_send, schema_sync, version_send, version_sync, front.the_sync) depth 20
+db_sync = search (sendable, crosses, schema_send, schema_sync, version_send, version_sync, front.the_sync, log.the_sync) depth 20
 
 pub pass_send : IsSend Pass.the_row
 pass_send = search (sendable, version_send, version_sync, token.the_send) depth 20
@@ -135,7 +142,7 @@ pub passes_send : IsSend Passes.the_row
 passes_send = search (sendable, version_send, version_sync, tokens.the_send) depth 20
 
 pub turn_send : IsSend Turn.the_row
-turn_send = search (sendable, crosses, version_send, version_sync, token.the_send, log.the_send) depth 20
+turn_send = search (sendable, crosses, version_send, version_sync, token.the_send) depth 20
 
 txn_table-send : IsSend TxnTable.the_row
 txn_table-send = search (sendable, crosses, table_send, table_sync, table_change_send) depth 20

@@ -12,7 +12,7 @@ use Rattle.mdb_schema.specs.Touched.{Touch}
 use Rattle.mdb_schema.specs.Watchable.{IsTouched}
 use Rattle.radix_node.specs.Cells.{CellLeaf, CellTree, cells_of, leaves_of}
 use Rattle.radix_node.specs.Paths.{Has}
-use Rattle.table_index.specs.Table.{TableRows}
+use Rattle.table_index.specs.Table.{IsCellAt, TableRows}
 use Rattle.table_index.specs.Watched.{FiresAt, cell_of, is_watchable, looks_up}
 use Rattle.watch_word.specs.Logs.{Cell, Log, has_fired}
 
@@ -29,6 +29,12 @@ pub record CellHistory : Type 0 where
 abbrev pub forest_or_none : Option Forest → Forest
 forest_or_none None = []
 forest_or_none (Some forest) = forest
+
+-- a cell is in the tree of an index of a table
+pub record IsCellIn (forest : Forest) (table index : ℕ) (c : Cell) : Type 0 where
+  pub trees : List CellTree
+  pub there : slice_get forest table ≡ Some trees
+  pub at : IsCellAt trees index c
 
 -- the trees after commit n
 abbrev pub trees_after : CellHistory → ℕ → Forest
@@ -136,6 +142,15 @@ StayAway J =
     → slice_get (trees_after J n) table ≡ Some later
     → FiresAt index c before after
     → (tree : CellTree) → slice_get later index ≡ Some tree → Has c (cells_of tree) → ⊥
+
+-- Equal ids are equal cells in all trees of the history, that of an index of a table after one
+-- commit and that of another index of another table after another; and a cell is only ever in the
+-- trees of one index of one table.
+abbrev pub IdsTell : CellHistory → Type 0
+IdsTell J =
+    (m n : ℕ) (c d : Cell) (table table' index index' : ℕ)
+    → IsCellIn (trees_after J m) table index c → IsCellIn (trees_after J n) table' index' d
+    → c.id ≡ d.id → (c ≡ d) × (table ≡ table') × (index ≡ index')
 
 -- there are trees at the opening and after each commit
 abbrev pub AreComplete : CellHistory → Type 0

@@ -11,6 +11,7 @@ use Rattle.mdb_schema.specs.Write.{Write, Stepped, step, table_of}
 use Rattle.mdb_schema.specs.declared.answer.Answer.{Answer}
 use Rattle.mdb_schema.specs.declared.write_error.WriteError.TheVariants as write_errors
 use Rattle.table_index.specs.declared.wipe_error.WipeError.TheVariants as wipe_errors
+use Rattle.watch_word.specs.Logs.{Log}
 use Rattle.mem_txn.specs.CellHistory.{Forest}
 use Rattle.mem_txn.specs.Database.{Caller, View, state_seen}
 use Rattle.mem_txn.specs.declared.txn_error.TxnAskError.{TxnAskError}
@@ -48,12 +49,13 @@ with_writes t ws = record t { writes = t.writes ++ ws }
 abbrev pub commit_of : Changes → Commit
 commit_of t = record { caller = t.caller.number; writes = t.writes }
 
--- the caller that has made the commit, which leaves these trees
-abbrev pub after_commit : Changes → Forest → Caller
-after_commit t trees = record t.caller {
+-- the caller that has made the commit, which leaves these trees, and has seen the log so far
+abbrev pub after_commit : Changes → Forest → Log → Caller
+after_commit t trees log = record t.caller {
   seen = t.caller.seen ++ commit_of t ∷ [];
   trees = t.caller.trees ++ trees ∷ [];
   own = t.caller.own ++ commit_of t ∷ [];
+  log = log;
 }
 
 -- the table of this name, as the transaction sees it

@@ -7,17 +7,20 @@ use Rattle.mdb_schema.specs.History.{Commit, History, state_at}
 use Rattle.mdb_schema.specs.Schema.{DbSchema}
 use Rattle.mdb_schema.specs.State.{State}
 use Rattle.radix_node.specs.Ids.{Book}
-use Rattle.mem_txn.specs.CellHistory.{CellHistory, Forest, trees_after}
+use Rattle.watch_word.specs.Logs.{IsLater, Log}
+use Rattle.mem_txn.specs.CellHistory.{AreComplete, CellHistory, Forest, trees_after}
 
--- a database: which one it is, how many callers it has, and its schema
+-- a database: which one it is, how many callers it has, its schema, and the book of its cells
 pub record Database : Type 0 where
   pub database : FrontId
   pub callers : ℕ
   pub schema : DbSchema
+  pub book : Book
 
 -- A caller's pass: its number, its database with the schema and the book of its cells, the commits
 -- that it has seen, with the trees at the opening and after each of them, its own commits, the
--- counts of commits that it has read, and what its tries for the writer's turn found.
+-- counts of commits that it has read, what its tries for the writer's turn found, and the log of
+-- firings as far as it has seen it.
 pub record Caller : Type 0 where
   pub number : ℕ
   pub database : FrontId
@@ -28,6 +31,7 @@ pub record Caller : Type 0 where
   pub own : List Commit
   pub counts : List ℕ
   pub tries : List ℕ
+  pub log : Log
 
 -- the commits that are a caller's own
 abbrev pub commits_by : ℕ → History → List Commit
@@ -43,7 +47,7 @@ cells_seen p = record { schema = p.schema; commits = p.seen; trees = p.trees }
 
 -- the pass belongs to the database
 abbrev pub IsOf : Database → Caller → Type 0
-IsOf db p = (p.database ≡ db.database) × (p.schema ≡ db.schema)
+IsOf db p = (p.database ≡ db.database) × (p.schema ≡ db.schema) × (p.book ≡ db.book)
 
 abbrev pub AreOf : Database → List Caller → Type 0
 AreOf db [] = Unit {0}
@@ -70,6 +74,14 @@ pub record Reading : Type 0 where
   pub trees : Forest
   pub book : Book
 
+-- the state after all commits of a history, in its last trees, to be read
+abbrev pub reading_after : Database → CellHistory → Reading
+reading_after db J = record {
+  view = view_after db.schema J.commits;
+  trees = trees_after J (length J.commits);
+  book = db.book;
+}
+
 -- the state after the commits that a caller has seen, to be read
 abbrev pub reading_of : Caller → Reading
 reading_of p = record {
@@ -83,49 +95,48 @@ pub record Callers : Type 0 where
   pub passes : List Caller
   pub made : ℕ
 
--- the trees at the opening of a database, and the book of their cells
-pub record Opening : Type 0 where
-  pub book : Book
-  pub trees : Forest
-
--- a pass that has done nothing
-abbrev pub new_pass : Database → Opening → ℕ → Caller
-new_pass db opening number = record {
+-- a pass that has done nothing, where these are the trees at the opening; nothing has fired
+abbrev pub new_pass : Database → Forest → ℕ → Caller
+new_pass db trees number = record {
   number = number;
   database = db.database;
   schema = db.schema;
-  book = opening.book;
+  book = db.book;
   seen = [];
-  trees = opening.trees ∷ [];
+  trees = trees ∷ [];
   own = [];
   counts = [];
   tries = [];
+  log = record { book = db.book; fired = [] };
 }
 
 -- so many of them, numbered from 1
-abbrev pub new_passes : Database → Opening → ℕ → List Caller
-new_passes db opening zero = []
-new_passes db opening (suc count) =
-    new_passes db opening count ++ new_pass db opening (suc count) ∷ []
+abbrev pub new_passes : Database → Forest → ℕ → List Caller
+new_passes db trees zero = []
+new_passes db trees (suc count) =
+    new_passes db trees count ++ new_pass db trees (suc count) ∷ []
 
 -- the passes of a new database of so many callers
-abbrev pub new_callers : Database → Opening → ℕ → Callers
-new_callers db opening count = record { passes = new_passes db opening count; made = count }
+abbrev pub new_callers : Database → Forest → ℕ → Callers
+new_callers db trees count = record { passes = new_passes db trees count; made = count }
 
 -- ---- what a call does to a pass
 
--- the pass has seen as much or more, and may have read counts and made tries; all else is as before
+-- the pass has seen as much or more, of the log too, and may have read counts and made tries; all
+-- else is as before
 pub record HasSeen (old new : Caller) : Type 0 where
   pub seen : IsPrefix old.seen new.seen
   pub trees : IsPrefix old.trees new.trees
   pub few : length new.seen ≤ 2 ^ 63
   pub counts : IsPrefix old.counts new.counts
   pub tries : IsPrefix old.tries new.tries
+  pub log : IsLater old.log new.log
   pub others : new ≡ record old {
     seen = new.seen;
     trees = new.trees;
     counts = new.counts;
     tries = new.tries;
+    log = new.log;
   }
 
 -- the number of the commits that the pass now has seen is a count that it read in this call, its
@@ -164,9 +175,19 @@ abbrev pub AreMade : ℕ → History → List Caller → Type 0
 AreMade n H ps =
     any.AreMade (λ (p : Caller). p.number) (λ p. p.own) (λ p. p.seen) (λ c. c.caller) n H ps
 
--- the whole history of a database, when these passes are back
-pub record IsWhole (db : Database) (ps : List Caller) (H : History) : Type 0 where
-  pub named : AreNamed db.callers H
-  pub own : AreIn H ps
-  pub made : AreMade db.callers H ps
-  pub few : length H ≤ 2 ^ 63
+-- the trees that each pass has seen are a beginning of these
+abbrev pub HaveSeenTrees : List Forest → List Caller → Type 0
+HaveSeenTrees trees [] = Unit {0}
+HaveSeenTrees trees (p ∷ ps) = IsPrefix p.trees trees × HaveSeenTrees trees ps
+
+-- The whole history of a database with its trees, when these passes are back. It is one for all of
+-- them: what each has seen, commits and trees, is a beginning of it.
+pub record IsWhole (db : Database) (ps : List Caller) (J : CellHistory) : Type 0 where
+  pub passes : AreOf db ps
+  pub schema : J.schema ≡ db.schema
+  pub named : AreNamed db.callers J.commits
+  pub own : AreIn J.commits ps
+  pub trees : HaveSeenTrees J.trees ps
+  pub made : AreMade db.callers J.commits ps
+  pub few : length J.commits ≤ 2 ^ 63
+  pub complete : AreComplete J

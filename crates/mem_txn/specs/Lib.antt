@@ -4,5 +4,6 @@ pub mod Changes
 pub mod Checked
 pub mod Database
 pub mod Held
+pub mod Told
 pub mod Transactions
 pub mod inner

@@ -13,7 +13,7 @@ ghost use Rattle.mem_txn.specs.Database.{IsOf, state_seen};
 ghost use Rattle.mem_txn.specs.inner.ChangesView.{AreCounted, AreSince, IsBase};
 ghost use Rattle.mem_txn.specs.inner.Commits.{IsNextOf};
 ghost use Rattle.mem_txn.specs.inner.Ended.{EndWith};
-ghost use Rattle.mem_txn.specs.inner.VersionTables.{AreWithin, IsSound, Joins, StandFor, is_memory};
+ghost use Rattle.mem_txn.specs.inner.VersionTables.{AreAllWithin, IsSound, Joins, StandFor, is_memory};
 ghost use Rattle.mem_txn.specs.inner.VersionTables.{schemas_of, standing, state_of, trees_of};
 ghost use Rattle.mem_txn.specs.inner.Wipes.{wipe_by};
 
@@ -297,7 +297,7 @@ fn next_version(
       ids = tables.ids;
     }) }
     ensures within { IfOk result
-        (λ next. let r = next.ready in All (AreWithin tables.ids) r.trees) }
+        (λ next. let r = next.ready in AreAllWithin tables.ids r.trees) }
     ensures ends { IfOk result
         (λ next. EndWith tables.tables (map standing tables.tables) next.gone.items) }
     ensures base { IsBase pass.now }
@@ -327,8 +327,8 @@ fn ready_of(
     }) }
 {
     let view = View::of(pass.share_schema()?, tables, number);
-    let version = Arc::new(db.alloc, Version::of(view, writes, ids))?;
-    db.shared.ready(version)
+    let version = Version::of(db.alloc, view, writes, ids)?;
+    db.shared.ready(Arc::new(db.alloc, version)?)
 }
 
 /// Whether a write found no memory, which spoils the transaction.

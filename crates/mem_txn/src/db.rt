@@ -1,13 +1,14 @@
 //! Databases.
 ghost use Rattle.std.specs.Prelude.{◌≡◌, ◌≤◌, ◌<◌, ◌∷◌, [], IfOk, length};
 ghost use Rattle.std.specs.Arc.{arc_value};
-ghost use Rattle.mdb_schema.specs.History.{History};
-ghost use Rattle.mem_txn.specs.Database.{AreAll, AreOf, HasRead, HasSeen, IsOf, IsWhole, Opening};
-ghost use Rattle.mem_txn.specs.Database.{new_callers, reading_of, view_after};
+ghost use Rattle.mem_txn.specs.CellHistory.{CellHistory, Forest};
+ghost use Rattle.mem_txn.specs.Checked.{HasHeard};
+ghost use Rattle.mem_txn.specs.Database.{AreAll, AreOf, HasRead, HasSeen, IsOf, IsWhole};
+ghost use Rattle.mem_txn.specs.Database.{new_callers, reading_after, reading_of};
 ghost use Rattle.mem_txn.specs.inner.Steps.{HasFired};
 ghost use Rattle.mem_txn.specs.inner.Versions.{StandsFor};
 
-use crate::pass::Pass;
+use crate::pass::{Pass, hear};
 use crate::passes::Passes;
 use crate::read_txn::ReadTxn;
 use crate::version::Version;
@@ -26,6 +27,8 @@ pub struct Db {
     pub(crate) alloc: Global,
     schema: Arc<Schema, Global>,
     pub(crate) shared: Shared<Version>,
+    /// The log at the opening, which tells the book of the cells.
+    front: Front,
 }
 
 impl Model for Db {
@@ -49,7 +52,7 @@ impl Db {
         ensures schema { IfOk result (λ made. made.0.schema ≡ schema) }
         ensures callers { IfOk result (λ made. made.0.callers ≡ callers) }
         ensures passes { IfOk result
-            (λ made. (opening : Opening) × (made.1 ≡ new_callers made.0 opening callers)) }
+            (λ made. (trees : Forest) × (made.1 ≡ new_callers made.0 trees callers)) }
     {
         let (book, log) = open_book(alloc)?;
         let value = opening(alloc, schema, book, &log)?;
@@ -63,17 +66,27 @@ impl Db {
         &self.schema
     }
 
-    /// The state after all commits that there are, which the pass then has seen, in constant time.
-    /// It is a second owner of the same state, and takes no memory. `AllocError` comes where the
-    /// kit's `Arc` refuses one more owner.
+    /// A front of the database's log of firings, by which its watches can be asked. It has no
+    /// bytes.
+    pub fn front(&self) -> Front
+        ensures { result.book ≡ self.now.book }
+    {
+        self.front.share()
+    }
+
+    /// The state after all commits that there are, which the pass then has seen, with the log, in
+    /// constant time. It is a second owner of the same state, and takes no memory. `AllocError`
+    /// comes where the kit's `Arc` refuses one more owner.
     pub fn read<R: Wait>(&self, rt: &R, pass: &mut Pass) -> Result<ReadTxn, AllocError>
         requires own { IsOf self.now pass.old }
         ensures read { IfOk result (λ t. t ≡ reading_of pass.new) }
         ensures number { IfOk result (λ t. HasRead pass.old pass.new t.view.number) }
+        ensures heard { IfOk result (λ t. HasHeard pass.new) }
         ensures seen { HasSeen pass.old pass.new }
         ensures tries { pass.new.tries ≡ pass.old.tries }
     {
-        let Shown { value, .. } = self.shared.look(rt, &mut pass.token)?;
+        let Shown { value, log, .. } = self.shared.look(rt, &mut pass.token)?;
+        hear(&mut pass.token, &log);
         Ok(ReadTxn::of(value))
     }
 
@@ -90,18 +103,20 @@ impl Db {
         self.shared.end_waits();
     }
 
-    /// The state after all commits, when all passes are back. It takes no memory.
+    /// The state after all commits, when all passes are back. What each of them has seen is a
+    /// beginning of one history. It takes no memory.
     pub fn close<R: Wait>(self, rt: &R, passes: Passes) -> ReadTxn
         requires some { 0 < length passes.passes }
         requires own { AreOf self passes.passes }
         requires all { AreAll self.callers passes.passes }
-        ensures { (H : History) × IsWhole self passes.passes H
-            × (result.view ≡ view_after self.schema H) }
+        ensures { (J : CellHistory) × IsWhole self passes.passes J
+            × (result ≡ reading_after self J) }
     {
         let Db {
             alloc: _,
             schema,
             shared,
+            front: _,
         } = self;
         let Passes { list } = passes;
         let Shown { value, .. } = shared.close(rt, list);
@@ -125,7 +140,8 @@ fn opening(
 {
     let mut ids = Ids::starting(book, 0);
     let view = View::empty(alloc, schema, log, &mut ids)?;
-    Ok(Arc::new(alloc, Version::opening(alloc, view, ids))?)
+    let version = Version::opening(alloc, view, ids)?;
+    Ok(Arc::new(alloc, version)?)
 }
 
 /// A database that shows the value before the first commit, and a pass for each of its callers.
@@ -138,18 +154,21 @@ fn shared_by(
     requires callers { (1 ≤ callers) × (callers ≤ 64) }
     requires stands { let v = arc_value value in StandsFor ((0, v) ∷ []) v }
     requires log { HasFired ((0, arc_value value) ∷ []) log }
+    requires empty { log.fired ≡ [] }
     ensures schema { let v = arc_value value in
         IfOk result (λ made. made.0.schema ≡ v.view.schema) }
     ensures callers { IfOk result (λ made. made.0.callers ≡ callers) }
     ensures passes { IfOk result
-        (λ made. (opening : Opening) × (made.1 ≡ new_callers made.0 opening callers)) }
+        (λ made. (trees : Forest) × (made.1 ≡ new_callers made.0 trees callers)) }
 {
     let schema = value.view().share_schema()?;
+    let front = log.share();
     let (shared, list) = make_shared(alloc, value, log, callers)?;
     let db = Db {
         alloc,
         schema,
         shared,
+        front,
     };
     Ok((db, Passes { list }))
 }

@@ -11,11 +11,18 @@ use table_index::Notices;
 use watch_word::Front;
 
 /// Fires the cells in the notices of tables by the commit with this number. The front given back
-/// has them all. It takes no memory and waits for nobody.
+/// has them all. `attended` is set where somebody may sleep until one of them has fired. It takes
+/// no memory and waits for nobody.
 ///
 /// The pass has published just this commit before: whoever finds that its watch has moved finds the
 /// commit too.
-pub(crate) fn fire_tables(pass: &Token, tables: &[Notices], front: &Front, by: u64) -> Front
+pub(crate) fn fire_tables(
+    pass: &Token,
+    tables: &[Notices],
+    front: &Front,
+    by: u64,
+    attended: &mut bool,
+) -> Front
     requires published { let p = pass.now in p.stage ≡ 2 }
     requires commit { let p = pass.now in by + 1 ≡ length p.seen }
     requires book { AreCellsOf front.now.book (cells_told tables.now) }
@@ -25,13 +32,19 @@ pub(crate) fn fire_tables(pass: &Token, tables: &[Notices], front: &Front, by: u
 {
     let mut log = front.share();
     for notices in tables {
-        log = fire_table(pass, notices, &log, by);
+        log = fire_table(pass, notices, &log, by, attended);
     }
     log
 }
 
 /// The same of one table.
-fn fire_table(_pass: &Token, notices: &Notices, front: &Front, by: u64) -> Front
+fn fire_table(
+    _pass: &Token,
+    notices: &Notices,
+    front: &Front,
+    by: u64,
+    attended: &mut bool,
+) -> Front
     requires published { let pass = _pass.now in pass.stage ≡ 2 }
     requires commit { let pass = _pass.now in by + 1 ≡ length pass.seen }
     requires book { AreCellsOf front.now.book (cells_in notices.now) }
@@ -42,7 +55,7 @@ fn fire_table(_pass: &Token, notices: &Notices, front: &Front, by: u64) -> Front
     let mut log = front.share();
     for at in 0..notices.len() {
         let notice = notices.get(at).unwrap();
-        log = fire_all(notice, &log, by);
+        log = fire_all(notice, &log, by, attended);
     }
     log
 }

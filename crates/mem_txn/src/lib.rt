@@ -13,12 +13,14 @@
 //!
 //! A commit shows its value, and then fires the cells that are gone from the trees. A question of a
 //! read transaction may be asked with the watch of its answer ([`ReadTxn::ask_watch`]). The log
-//! that a commit gives has the cell of each watched question whose answer has changed; what no
-//! commit fires guards its answer ([`pass_laws`]). [`Db::check`] tells whether a held watch is
-//! quiet, up to the commit before the last one seen, or its question has another cell.
+//! that a commit gives has the cell of each watched question whose answer has changed, whoever
+//! holds the watch; what no commit fires guards its answer ([`pass_laws`]). A pass keeps the log as
+//! far as its caller has seen it. [`ReadTxn::check`] tells by it whether a held watch is quiet, up
+//! to the commit before the last one seen, or has fired; [`Db::check`] is a read and such a check.
 //!
-//! All commits are one list, of which each pass has seen a beginning, as `db_front` has it. What
-//! the clauses say of a pass stands in `specs/Database.antt`, and of a transaction in
+//! All commits are one list, of which each pass has seen a beginning, as `db_front` has it, and
+//! [`Db::close`] gives the state after all of them. What the clauses say of a pass stands in
+//! `specs/Database.antt`, of a check in `specs/Checked.antt`, and of a transaction in
 //! `specs/Transactions.antt`. A call that takes a runtime may wait for another caller, and `write`
 //! waits for an open write transaction. A pass, a list of them and a write transaction can't be let
 //! go.

@@ -1,14 +1,16 @@
 //! Passes.
 ghost use Rattle.std.specs.Prelude.{◌≡◌};
+ghost use Rattle.watch_word.specs.Logs.{IsLater};
 
 use crate::version::Version;
 use std::marker::Model;
+use watch_word::Front;
 
 /// One caller's pass in the front that callers share.
 pub(crate) type Token = db_front::Pass<Version>;
 
 /// One caller's token, seen as a `Caller`: its number, its database, the commits that it has seen
-/// and made, and what it has read and tried.
+/// and made, what it has read and tried, and the log of firings as far as it has seen it.
 ///
 /// It can't be dropped: [`crate::Db::close`] takes it back.
 pub struct Pass {
@@ -37,4 +39,15 @@ impl Pass {
     {
         self.token.number() as u32
     }
+}
+
+/// Keeps what a log has, beside what the caller had seen of it.
+pub(crate) fn hear(token: &mut Token, log: &Front)
+    requires book { let old = token.old.log in log.now.book ≡ old.book }
+    ensures later { IsLater token.old.log token.new.log }
+    ensures heard { IsLater log.now token.new.log }
+    ensures others { token.new ≡ record token.old { log = token.new.log } }
+{
+    let joined = token.log().joined(log);
+    token.keep(joined);
 }

@@ -1,9 +1,10 @@
 //! What is known of every pass, as laws of the definitions. The functions do nothing: their
 //! contracts are the laws.
-ghost use Rattle.mem_txn.specs.CellHistory.{AreComplete, KeepUntouched, MovesAreTouches, StayAway};
-ghost use Rattle.mem_txn.specs.CellHistory.{WatchesHold};
+ghost use Rattle.mem_txn.specs.CellHistory.{AreComplete, IdsTell, KeepUntouched, MovesAreTouches};
+ghost use Rattle.mem_txn.specs.CellHistory.{StayAway, WatchesHold};
 ghost use Rattle.mem_txn.specs.Checked.{AskedIsHeld, HeldLonger, HeldStays, IdsTellCells};
 ghost use Rattle.mem_txn.specs.Database.{cells_seen};
+ghost use Rattle.mem_txn.specs.Told.{TellsWhoeverHolds};
 ghost use Rattle.mem_txn.specs.Transactions.{changes_of};
 
 use crate::pass::Pass;
@@ -38,6 +39,14 @@ pub fn cells_stay_away(pass: &Pass)
     let _ = pass.token.number();
 }
 
+/// In all trees that a pass has seen, at the opening and after each commit, equal ids are equal
+/// cells.
+pub fn equal_ids_are_equal_cells(pass: &Pass)
+    ensures { IdsTell (cells_seen pass.now) }
+{
+    let _ = pass.token.number();
+}
+
 /// A pass has seen the trees at the opening and after each commit that it has seen.
 pub fn trees_are_complete(pass: &Pass)
     ensures { AreComplete (cells_seen pass.now) }
@@ -67,7 +76,7 @@ pub fn asked_watches_are_held(pass: &Pass)
     let _ = pass.token.number();
 }
 
-/// Of two watches that a pass holds, of one index of one table, equal ids are equal cells.
+/// Of two watches that a pass holds, equal ids are equal cells.
 pub fn ids_tell_cells(pass: &Pass)
     ensures { IdsTellCells pass.now }
 {
@@ -80,3 +89,9 @@ pub fn ids_tell_cells_within<D: Drop>(txn: &WriteTxn<D>)
 {
     txn.changes.ids_tell_cells();
 }
+
+/// The log that a commit gives tells whoever holds a watch whose answer has changed: of the whole
+/// history of a database it has the watch's cell, whichever pass holds the watch.
+pub fn whoever_holds_is_told()
+    ensures { TellsWhoeverHolds }
+{}

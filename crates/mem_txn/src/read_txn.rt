@@ -4,7 +4,8 @@ ghost use Rattle.std.specs.Arc.{arc_value};
 ghost use Rattle.mdb_schema.specs.Answer.{ask};
 ghost use Rattle.mdb_schema.specs.Refusals.{AnswersAsk};
 ghost use Rattle.mem_txn.specs.Held.{AnswersHeld, IsHeldOf, tells_own};
-ghost use Rattle.mem_txn.specs.inner.VersionTables.{AreWithin};
+ghost use Rattle.mem_txn.specs.inner.Looks.{CellsAreOfBook};
+ghost use Rattle.mem_txn.specs.inner.VersionTables.{AreAllWithin};
 ghost use Rattle.table_index.specs.Walks.{WalksAsk};
 ghost use Rattle.table_index.specs.Watched.{is_watchable};
 
@@ -43,7 +44,7 @@ impl Model for ReadTxn {
 impl ReadTxn {
     /// A transaction that reads this value.
     pub(crate) fn of(version: Arc<Version, Global>) -> ReadTxn
-        requires within { let v = arc_value version in All (AreWithin v.ids) v.trees }
+        requires within { let v = arc_value version in AreAllWithin v.ids v.trees }
         ensures { let v = arc_value version in
             result ≡ record { view = v.view; trees = v.trees; book = v.ids.book } }
     {
@@ -55,6 +56,14 @@ impl ReadTxn {
         ensures { result ≡ self.now.view.number }
     {
         self.version.view().number()
+    }
+
+    /// The state, in its trees.
+    pub(crate) fn view(&self) -> &View
+        ensures view { result.now ≡ record { view = self.now.view; trees = self.now.trees } }
+        ensures books { CellsAreOfBook self.now }
+    {
+        self.version.view()
     }
 
     /// A second owner of the same state. It takes no memory. `AllocError` comes where the kit's

@@ -7,6 +7,8 @@ ghost use Rattle.mem_txn.specs.Transactions.{changes_of};
 
 mod callers;
 mod drawn;
+mod four_callers;
+mod late;
 mod long_run;
 mod watches;
 mod without_memory;

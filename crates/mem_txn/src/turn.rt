@@ -4,7 +4,7 @@ ghost use Rattle.std.specs.Arc.{arc_value};
 ghost use Rattle.mem_txn.specs.Database.{IsOf, cells_seen, state_seen};
 ghost use Rattle.db_front.specs.Commits.{HasFirings};
 ghost use Rattle.mem_txn.specs.CellHistory as firings;
-ghost use Rattle.mem_txn.specs.Checked.{IdsTellCells};
+ghost use Rattle.mem_txn.specs.Checked.{Hears, IdsTellCells};
 ghost use Rattle.mem_txn.specs.Transactions.{TellsChanges};
 ghost use Rattle.mem_txn.specs.inner.ChangesView.{AreCounted, AreSince, IsBase};
 ghost use Rattle.mem_txn.specs.inner.Commits.{IsNext};
@@ -12,10 +12,11 @@ ghost use Rattle.mem_txn.specs.inner.Firing.{AreGone, cells_told};
 ghost use Rattle.mem_txn.specs.inner.Steps.{HasFired};
 ghost use Rattle.mem_txn.specs.inner.VersionTables.{StandFor};
 ghost use Rattle.mem_txn.specs.inner.Versions.{IsToken, StandsFor, caller_of};
+ghost use Rattle.watch_word.specs.Logs.{IsLater};
 
 use crate::db::Db;
 use crate::firing::fire_tables;
-use crate::pass::{Pass, Token};
+use crate::pass::{Pass, Token, hear};
 use crate::txn_tables::TxnTables;
 use crate::version::Version;
 use db_front::{Ready, Shown};
@@ -26,12 +27,11 @@ use std::sync::{Arc, Wait};
 use table_index::Notices;
 use watch_word::Front;
 
-/// A caller that has the writer's turn, with the value after all commits, and the log with all that
-/// they fire; seen as the caller and the value. It can't be dropped.
+/// A caller that has the writer's turn, whose log has all that the commits fire, with the value
+/// after all of them; seen as the caller and the value. It can't be dropped.
 pub(crate) struct Turn {
     token: Token,
     base: Arc<Version, Global>,
-    log: Front,
 }
 
 impl Model for Turn {
@@ -50,13 +50,13 @@ impl Model for Turn {
 }
 
 impl Turn {
-    /// The turn of a pass that has begun, which was shown this.
-    pub(crate) fn of(token: Token, shown: Shown<Version>) -> Turn
+    /// The turn of a pass that has begun, which was shown this, and keeps its log.
+    pub(crate) fn of(mut token: Token, shown: Shown<Version>) -> Turn
         requires begun { IsToken 1 token }
         requires stands { StandsFor token.seen (arc_value shown.value) }
         requires number { shown.number + 1 ≡ length token.seen }
         requires log { HasFirings HasFired shown.number token.seen shown.log }
-        ensures { result.caller ≡ caller_of token }
+        ensures { Hears (caller_of token) result.caller }
     {
         let Shown {
             value,
@@ -64,11 +64,8 @@ impl Turn {
             finished: _,
             log,
         } = shown;
-        Turn {
-            token,
-            base: value,
-            log,
-        }
+        hear(&mut token, &log);
+        Turn { token, base: value }
     }
 
     /// The number of all commits.
@@ -111,7 +108,7 @@ impl Turn {
     pub(crate) fn front(&self) -> &Front
         ensures { result.now.book ≡ self.now.base.ids.book }
     {
-        &self.log
+        self.token.log()
     }
 
     /// Tables that nobody has written to, with the ids that come next. It takes memory for the list
@@ -131,20 +128,16 @@ impl Turn {
         requires own { IsOf db.now self.caller }
         ensures { result ≡ self.caller }
     {
-        let Turn {
-            mut token,
-            base,
-            log,
-        } = self;
+        let Turn { mut token, base } = self;
         db.shared.leave(&mut token);
         drop(base);
-        drop(log);
         Pass { token }
     }
 
     /// Shows the next value, which is the commit, fires the cells that are gone, and gives the turn
-    /// back, with the log. It takes no memory. What the value before it has alone is dropped once
-    /// the turn is back.
+    /// back, with the log, which the pass keeps. Who sleeps until a commit is finished is woken
+    /// where somebody sleeps on one of the cells. It takes no memory. What the value before it has
+    /// alone is dropped once the turn is back.
     pub(crate) fn commit<R: Wait>(
         self,
         rt: &R,
@@ -160,21 +153,21 @@ impl Turn {
           seen = p.seen ++ record { caller = p.number; writes = ready.writes } ∷ [];
           trees = p.trees ++ ready.trees ∷ [];
           own = p.own ++ record { caller = p.number; writes = ready.writes } ∷ [];
+          log = result.1;
         } }
+        ensures later { let p = self.caller in IsLater p.log result.1 }
         ensures book { let made = result.0 in result.1.book ≡ made.book }
         ensures fired { let made = result.0 in
             firings.HasFirings (cells_seen made) (length made.seen) result.1 }
         ensures told { let made = result.0 in TellsChanges (cells_seen made) result.1 }
     {
         let number = self.count() + 1;
-        let Turn {
-            mut token,
-            base,
-            log,
-        } = self;
+        let Turn { mut token, base } = self;
         db.shared.publish(rt, &mut token, ready);
-        let log = fire_tables(&token, gone, &log, number);
-        db.shared.finish(rt, &mut token, log.share());
+        let mut attended = false;
+        let log = fire_tables(&token, gone, token.log(), number, &mut attended);
+        db.shared.finish(rt, &mut token, log.share(), attended);
+        token.keep(log.share());
         drop(base);
         (Pass { token }, log)
     }

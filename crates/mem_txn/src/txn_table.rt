@@ -1,12 +1,12 @@
 //! A table of a write transaction.
-ghost use Rattle.std.specs.Prelude.{◌≡◌, ◌≤◌, ◌∷◌, [], ℕ, false, IfOk, OnErr};
+ghost use Rattle.std.specs.Prelude.{◌≡◌, ◌∷◌, [], ℕ, false, IfOk, OnErr};
 ghost use Rattle.std.specs.Arc.{arc_value};
 ghost use Rattle.mdb_schema.specs.Answer.{ask_rows};
 ghost use Rattle.mdb_schema.specs.Refusals.{AnswersAsk};
 ghost use Rattle.mdb_schema.specs.Write.{put_row, remove_row};
 ghost use Rattle.mem_txn.specs.Changes.{gives_replaced, gives_row};
-ghost use Rattle.mem_txn.specs.inner.VersionTables.{AnswersRows, HasChanged, IsWithin, standing};
-ghost use Rattle.mem_txn.specs.inner.VersionTables.{unwritten};
+ghost use Rattle.mem_txn.specs.inner.VersionTables.{AnswersRows, Draws, HasChanged, IsWithin};
+ghost use Rattle.mem_txn.specs.inner.VersionTables.{standing, unwritten};
 ghost use Rattle.mem_txn.specs.inner.Ended.{EndsWith};
 ghost use Rattle.mem_txn.specs.inner.Wipes.{AnswersGone, wiped_by};
 
@@ -76,9 +76,7 @@ impl TxnTable {
         ensures answers { AnswersRows gives_replaced (row.now ∷ [])
             (put_row self.old.schema row.now self.old.rows)
             result ids.old ids.new self.old self.new }
-        ensures within { IsWithin ids.new self.new }
-        ensures book { ids.new.book ≡ ids.old.book }
-        ensures later { ids.old.next ≤ ids.new.next }
+        ensures cells { Draws ids.old ids.new self.old self.new }
     {
         let mut txn = self.opened()?;
         let told = txn.put(front, ids, row);
@@ -100,9 +98,7 @@ impl TxnTable {
         ensures answers { AnswersRows gives_row []
             (remove_row self.old.schema row.now self.old.rows) result ids.old ids.new self.old
             self.new }
-        ensures within { IsWithin ids.new self.new }
-        ensures book { ids.new.book ≡ ids.old.book }
-        ensures later { ids.old.next ≤ ids.new.next }
+        ensures cells { Draws ids.old ids.new self.old self.new }
     {
         let mut txn = self.opened()?;
         let told = txn.remove(front, ids, row);
@@ -126,9 +122,7 @@ impl TxnTable {
         ensures answers { AnswersGone
             (wiped_by wipe self.old.schema self.old.rows query.now) result ids.old ids.new self.old
             self.new }
-        ensures within { IsWithin ids.new self.new }
-        ensures book { ids.new.book ≡ ids.old.book }
-        ensures later { ids.old.next ≤ ids.new.next }
+        ensures cells { Draws ids.old ids.new self.old self.new }
     {
         let mut txn = match self.open.take() {
             Some(txn) => txn,

@@ -4,7 +4,7 @@ ghost use Rattle.std.specs.Prelude.{Option, length, map, option_to_list, Some};
 ghost use Rattle.std.specs.Arc.{arc_value};
 ghost use Rattle.mdb_schema.specs.Write.{put_row, remove_row};
 ghost use Rattle.mem_txn.specs.Changes.{gives_replaced, gives_row};
-ghost use Rattle.mem_txn.specs.inner.VersionTables.{AnswersAskAt, AnswersAt, AreWithin, HasChanged};
+ghost use Rattle.mem_txn.specs.inner.VersionTables.{AnswersAskAt, AnswersAt, AreAllWithin, HasChanged};
 ghost use Rattle.mem_txn.specs.inner.VersionTables.{IsSound, standing, trees_of, unwritten};
 ghost use Rattle.mem_txn.specs.inner.Ended.{EndWith, EndsWith};
 ghost use Rattle.watch_word.specs.Logs.{Cell};
@@ -58,7 +58,7 @@ impl TxnTables {
         shared: &[Arc<Table, Global>],
         ids: Ids,
     ) -> Result<TxnTables, AllocError>
-        requires within { All (AreWithin ids) (trees_of (map arc_value shared.now)) }
+        requires within { AreAllWithin ids (trees_of (map arc_value shared.now)) }
         ensures tables { IfOk result (λ ts. ts.tables ≡ map unwritten (map arc_value shared.now)) }
         ensures changed { IfOk result
             (λ ts. (first : ℕ) → All (HasChanged first []) ts.tables) }
@@ -146,7 +146,7 @@ impl TxnTables {
             EndWith self.tables (map arc_value end.tables.items) end.gone.items) }
         ensures ids { IfOk result (λ made. made.1 ≡ self.ids) }
         ensures within { IfOk result (λ made. let end = made.0 in
-            All (AreWithin self.ids) (trees_of (map arc_value end.tables.items))) }
+            AreAllWithin self.ids (trees_of (map arc_value end.tables.items))) }
     {
         let TxnTables { tables, ids } = self;
         let frozen = frozen_tables(*tables.allocator(), tables)?;

@@ -6,14 +6,35 @@ use crate::view::View;
 use radix_node::Ids;
 use std::alloc::{AllocError, Global};
 use std::marker::Model;
+use std::sync::Arc;
 
-/// The state after a commit, with the writes of that commit and the ids of the cells that come
-/// next; seen as a `Version`. It never changes.
+/// What a version is made of.
 #[derive(Drop)]
-pub(crate) struct Version {
+struct Contents {
     view: View,
     writes: Vec<Accepted>,
     ids: Ids,
+}
+
+impl Model for Contents {
+    ghost use Rattle.mem_txn.specs.inner.Values.{Version};
+    ghost use Rattle.mem_txn.specs.inner.Stored.{version_code};
+
+    ghost Value = { Version };
+
+    ghost coded = { version_code };
+
+    ghost use Rattle.mem_txn.specs.inner.Views.{contents_view};
+
+    ghost view = { contents_view };
+}
+
+/// The state after a commit, with the writes of that commit and the ids of the cells that come
+/// next; seen as a `Version`. It never changes. It may have several owners, so that each caller's
+/// reads count the owners of a value of its own.
+#[derive(Drop)]
+pub(crate) struct Version {
+    contents: Arc<Contents, Global>,
 }
 
 impl Model for Version {
@@ -36,39 +57,57 @@ impl db_front::Version for Version {
     ghost stands = { StandsFor };
 
     ghost fired = { HasFired };
+
+    /// One more owner of the same. It takes no memory.
+    fn copy(&self, _alloc: Global) -> Result<Version, AllocError>
+        ensures { IfOk result (λ v. v ≡ self.now) }
+    {
+        Ok(Version {
+            contents: Arc::try_clone(&self.contents)?,
+        })
+    }
 }
 
 impl Version {
-    /// The state before the first commit. It takes no memory.
-    pub(crate) fn opening(alloc: Global, view: View, ids: Ids) -> Version
-        ensures { result ≡ record { view = view.view; trees = view.trees; writes = []; ids = ids } }
+    /// The state before the first commit.
+    pub(crate) fn opening(alloc: Global, view: View, ids: Ids) -> Result<Version, AllocError>
+        ensures { IfOk result (λ v.
+            v ≡ record { view = view.view; trees = view.trees; writes = []; ids = ids }) }
     {
-        Version::of(view, Vec::new(alloc), ids)
+        Version::of(alloc, view, Vec::new(alloc), ids)
     }
 
     /// The state after a commit of these writes.
-    pub(crate) fn of(view: View, writes: Vec<Accepted>, ids: Ids) -> Version
-        ensures { result ≡ record {
+    pub(crate) fn of(
+        alloc: Global,
+        view: View,
+        writes: Vec<Accepted>,
+        ids: Ids,
+    ) -> Result<Version, AllocError>
+        ensures { IfOk result (λ v. v ≡ record {
           view = view.view;
           trees = view.trees;
           writes = writes.items;
           ids = ids;
-        } }
+        }) }
     {
-        Version { view, writes, ids }
+        let contents = Contents { view, writes, ids };
+        Ok(Version {
+            contents: Arc::new(alloc, contents)?,
+        })
     }
 
     /// The state.
     pub(crate) fn view(&self) -> &View
         ensures { result.now ≡ record { view = self.now.view; trees = self.now.trees } }
     {
-        &self.view
+        &self.contents.view
     }
 
     /// A second counter of the ids that come next.
     pub(crate) fn share_ids(&self) -> Result<Ids, AllocError>
         ensures { IfOk result (λ i. i ≡ self.now.ids) }
     {
-        self.ids.share()
+        self.contents.ids.share()
     }
 }

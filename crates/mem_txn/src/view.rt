@@ -6,7 +6,7 @@ ghost use Rattle.mdb_schema.specs.Refusals.{AnswersAsk};
 ghost use Rattle.mdb_schema.specs.State.{empty_state};
 ghost use Rattle.mem_txn.specs.inner.EmptyTables.{AreEmpty, IsEmptyOf};
 ghost use Rattle.mem_txn.specs.inner.Steps.{tables_with};
-ghost use Rattle.mem_txn.specs.inner.VersionTables.{AreWithin, schemas_of, state_of, trees_of};
+ghost use Rattle.mem_txn.specs.inner.VersionTables.{AreAllWithin, schemas_of, state_of, trees_of};
 ghost use Rattle.table_index.specs.Table.{TableRows};
 ghost use Rattle.table_index.specs.Walks.{WalksAsk};
 ghost use Rattle.table_index.specs.Watched.{AnswersWatch, HoldsRows, is_watchable};
@@ -61,7 +61,7 @@ impl View {
         requires first { ids.old.next ≡ 0 }
         ensures view { IfOk result
             (λ v. v.view ≡ record { schema = schema; number = 0; state = empty_state schema }) }
-        ensures within { IfOk result (λ v. All (AreWithin ids.new) v.trees) }
+        ensures within { IfOk result (λ v. AreAllWithin ids.new v.trees) }
         ensures held { IfOk result
             (λ v. All HoldsRows (tables_with v.view.schema v.view.state v.trees)) }
         ensures book { ids.new.book ≡ ids.old.book }
@@ -229,7 +229,7 @@ fn push_empty(
     requires book { front.now.book ≡ ids.old.book }
     requires left { ids.old.next + 32 ≤ 2 ^ 63 }
     ensures table { OnOk result
-        ((t : TableRows) × IsEmptyOf def.now ids.new t × (map arc_value tables.new.items
+        ((t : TableRows) × IsEmptyOf def.now front.now ids.old ids.new t × (map arc_value tables.new.items
         ≡ map arc_value tables.old.items ++ t ∷ [])) }
     ensures book { ids.new.book ≡ ids.old.book }
     ensures few { OnOk result ((ids.old.next ≤ ids.new.next) × (ids.new.next ≤ ids.old.next + 32)) }

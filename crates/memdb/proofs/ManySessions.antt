@@ -9,7 +9,8 @@ use native.Mathlib.Decide.{dec_le}
 use Rattle.mdb_datum.specs.Bytes.{Bytes}
 use Rattle.mdb_schema.specs.History.{Commit, History}
 use Rattle.mdb_schema.specs.Schema.{DbSchema}
-use Rattle.mem_txn.specs.Database.{AreAll, AreIn, AreNamed, AreOf, Caller, Callers, Database, HasPass, IsWhole, Opening, View, commits_by, new_callers, new_pass, new_passes, view_after}
+use Rattle.mem_txn.specs.CellHistory.{CellHistory, Forest}
+use Rattle.mem_txn.specs.Database.{AreAll, AreIn, AreNamed, AreOf, Caller, Callers, Database, HasPass, IsWhole, View, commits_by, new_callers, new_pass, new_passes, view_after}
 use Rattle.client_script.proofs.LongerHistory.{session_longer}
 use Rattle.client_script.specs.Legal.{Legal, all_printed, callers, printed}
 use Rattle.client_script.specs.Reply.{Reply, heading, lines_text, output_text}
@@ -26,11 +27,11 @@ use Rattle.memdb.proofs.PlacesByCaller.{AreAmong, all_counted, by_callers, place
 -- ---- the passes of a new database
 
 -- so many of them, numbered from k
-abbrev pub passes_from : Database → Opening → ℕ → ℕ → List Caller
+abbrev pub passes_from : Database → Forest → ℕ → ℕ → List Caller
 passes_from db opening k zero = []
 passes_from db opening k (suc count) = new_pass db opening k ∷ passes_from db opening (k + 1) count
 
-last_of : (db : Database) (opening : Opening) (k count : ℕ) → passes_from db opening k (suc count) ≡ passes_from db opening k count ++ new_pass db opening (k + count) ∷ []
+last_of : (db : Database) (opening : Forest) (k count : ℕ) → passes_from db opening k (suc count) ≡ passes_from db opening k count ++ new_pass db opening (k + count) ∷ []
 last_of db opening k zero =
     let same : k ≡ k + 0 = omega arith in
     ap (λ (n : ℕ). new_pass db opening n ∷ []) same
@@ -39,7 +40,7 @@ last_of db opening k (suc count) =
     ap (λ (ps : List Caller). new_pass db opening k ∷ ps) (last_of db opening (k + 1) count)
     ∙ ap (λ (n : ℕ). passes_from db opening k (suc count) ++ new_pass db opening n ∷ []) same
 
-from_first : (db : Database) (opening : Opening) (count : ℕ) → new_passes db opening count ≡ passes_from db opening 1 count
+from_first : (db : Database) (opening : Forest) (count : ℕ) → new_passes db opening count ≡ passes_from db opening 1 count
 from_first db opening zero = refl
 from_first db opening (suc count) =
     let same : suc count ≡ 1 + count = omega arith in
@@ -47,24 +48,24 @@ from_first db opening (suc count) =
     ∙ ap (λ (n : ℕ). passes_from db opening 1 count ++ new_pass db opening n ∷ []) same
     ∙ sym (last_of db opening 1 count)
 
-length_from : (db : Database) (opening : Opening) (k count : ℕ) → length (passes_from db opening k count) ≡ count
+length_from : (db : Database) (opening : Forest) (k count : ℕ) → length (passes_from db opening k count) ≡ count
 length_from db opening k zero = refl
 length_from db opening k (suc count) = ap suc (length_from db opening (k + 1) count)
 
-pub new_length : (db : Database) (opening : Opening) (count : ℕ) → length (new_passes db opening count) ≡ count
+pub new_length : (db : Database) (opening : Forest) (count : ℕ) → length (new_passes db opening count) ≡ count
 new_length db opening count = ap length (from_first db opening count) ∙ length_from db opening 1 count
 
 -- ---- the sessions before and behind their run
 
 -- those of a new database, numbered from k
-abbrev pub begun_from : Database → Opening → ℕ → List (List Line) → List Progress
+abbrev pub begun_from : Database → Forest → ℕ → List (List Line) → List Progress
 begun_from db opening k scripts = begun (passes_from db opening k (length scripts)) scripts
 
-ready_from : (db : Database) (opening : Opening) (k : ℕ) (scripts : List (List Line)) → AreReady db (begun_from db opening k scripts)
+ready_from : (db : Database) (opening : Forest) (k : ℕ) (scripts : List (List Line)) → AreReady db (begun_from db opening k scripts)
 ready_from db opening k [] = tt
-ready_from db opening k (s ∷ ss) = ((refl, refl), ready_from db opening (k + 1) ss)
+ready_from db opening k (s ∷ ss) = ((refl, refl, refl), ready_from db opening (k + 1) ss)
 
-long_from : (db : Database) (opening : Opening) (k : ℕ) (scripts : List (List Line)) → length (begun_from db opening k scripts) ≡ length scripts
+long_from : (db : Database) (opening : Forest) (k : ℕ) (scripts : List (List Line)) → length (begun_from db opening k scripts) ≡ length scripts
 long_from db opening k [] = refl
 long_from db opening k (s ∷ ss) = ap suc (long_from db opening (k + 1) ss)
 
@@ -90,7 +91,7 @@ back_of db [] [] ready l = tt
 back_of db [] (t ∷ ts) ready l = absurd l
 back_of db (s ∷ ss) [] ready l = absurd l
 back_of db (s ∷ ss) (t ∷ ts) ready l =
-    of_both db (callers_back ts) (t.caller ∷ []) (back_of db ss ts ready.1 l.1) ((l.0.database ∙ ready.0.0, l.0.schema ∙ ready.0.1), tt)
+    of_both db (callers_back ts) (t.caller ∷ []) (back_of db ss ts ready.1 l.1) ((l.0.database ∙ ready.0.0, l.0.schema ∙ ready.0.1, l.0.book ∙ ready.0.2), tt)
 
 has_left : (c : ℕ) (ps qs : List Caller) → HasPass c ps → HasPass c (ps ++ qs)
 has_left c [] qs h = absurd h
@@ -101,7 +102,7 @@ has_last : (c : ℕ) (ps : List Caller) (p : Caller) → p.number ≡ c → HasP
 has_last c [] p is = inl is
 has_last c (q ∷ ps) p is = inr (has_last c ps p is)
 
-has_back : (db : Database) (opening : Opening) (k : ℕ) (scripts : List (List Line)) (ts : List Progress) → AreLater (begun_from db opening k scripts) ts
+has_back : (db : Database) (opening : Forest) (k : ℕ) (scripts : List (List Line)) (ts : List Progress) → AreLater (begun_from db opening k scripts) ts
     → (c : ℕ) → k ≤ c → c < k + length scripts → HasPass c (callers_back ts)
 has_back db opening k [] ts l c low high = absurd (omega (arith, low, high))
 has_back db opening k (s ∷ ss) [] l c low high = absurd l
@@ -152,7 +153,7 @@ abbrev pub caller_of : Commit → ℕ
 caller_of c = c.caller
 
 -- the commits that it tells are the client's own in the whole history
-own_told : (db : Database) (opening : Opening) (H : History) (k : ℕ) (t : Progress) (script : List Line) → commits_by t.caller.number H ≡ t.caller.own → IsPrefix t.caller.seen H → t.caller.number ≡ k
+own_told : (db : Database) (opening : Forest) (H : History) (k : ℕ) (t : Progress) (script : List Line) → commits_by t.caller.number H ≡ t.caller.own → IsPrefix t.caller.seen H → t.caller.number ≡ k
     → (h : HasToldAll script (new_pass db opening k) t) → map (commit_at H) (printed h.replies) ≡ map Some (commits_by k H)
 own_told db opening H k t script own seen number h =
     let p = t.caller in
@@ -162,7 +163,7 @@ own_told db opening H k t script own seen number h =
     wider ∙ h.told ∙ ap (λ (cs : List Commit). map Some cs) made
 
 -- they are the numbers of the client's commits in the whole history
-numbers_are : (db : Database) (opening : Opening) (H : History) (k : ℕ) (t : Progress) (script : List Line) → commits_by t.caller.number H ≡ t.caller.own → IsPrefix t.caller.seen H → t.caller.number ≡ k
+numbers_are : (db : Database) (opening : Forest) (H : History) (k : ℕ) (t : Progress) (script : List Line) → commits_by t.caller.number H ≡ t.caller.own → IsPrefix t.caller.seen H → t.caller.number ≡ k
     → (h : HasToldAll script (new_pass db opening k) t) → printed h.replies ≡ places (λ (c : Commit). caller_of c == k) 1 H
 numbers_are db opening H k t script own seen number h =
     let p = t.caller in
@@ -186,7 +187,7 @@ no_names : (k : ℕ) (names : List Bytes) → headed k names [] ≡ output_text 
 no_names k [] = refl
 no_names k (w ∷ ws) = refl
 
-tell : (db : Database) (opening : Opening) (H : History) (k : ℕ) (scripts : List (List Line)) (ts : List Progress) → HaveAnswered (begun_from db opening k scripts) ts → AreLater (begun_from db opening k scripts) ts → HaveMade H ts
+tell : (db : Database) (opening : Forest) (H : History) (k : ℕ) (scripts : List (List Line)) (ts : List Progress) → HaveAnswered (begun_from db opening k scripts) ts → AreLater (begun_from db opening k scripts) ts → HaveMade H ts
     → Told db.schema H k scripts ts
 tell db opening H k [] [] answered later made = record { replies = []; sessions = tt; written = no_names k; numbers = refl; own = tt }
 tell db opening H k [] (t ∷ ts) answered later made = absurd answered
@@ -214,7 +215,7 @@ among n (c ∷ H) named = (omega (arith, named.0), omega (arith, named.1), among
 -- ---- the call's steps
 
 -- there is one for each script
-pub as_many_passes : (db : Database) (opening : Opening) (count : ℕ) (all : Callers) → all ≡ new_callers db opening count → length all.passes ≡ count
+pub as_many_passes : (db : Database) (opening : Forest) (count : ℕ) (all : Callers) → all ≡ new_callers db opening count → length all.passes ≡ count
 as_many_passes db opening count all are = ap (λ (c : Callers). length c.passes) are ∙ new_length db opening count
 
 -- the sessions of these scripts on a new database
@@ -263,36 +264,36 @@ module _ (db : Database) (scripts : List (List Line)) (left : Callers) (items : 
       given_all = subst (AreAll db.callers) (sym given_are) (λ c low high. has_back db opened.opening 1 scripts ts later_from c (omega (arith, low)) (omega (arith, high, opened.callers)))
 
     -- the whole history
-    module _ (H : History) (whole : IsWhole db (callers_back ts) H) where
-      told_by : HaveAnswered items ts → Told db.schema H 1 scripts ts
-      told_by answered = tell db opened.opening H 1 scripts ts (subst (λ (ss : List Progress). HaveAnswered ss ts) items_are answered) later_from (have_made H ts whole.own)
+    module _ (J : CellHistory) (whole : IsWhole db (callers_back ts) J) where
+      told_by : HaveAnswered items ts → Told db.schema J.commits 1 scripts ts
+      told_by answered = tell db opened.opening J.commits 1 scripts ts (subst (λ (ss : List Progress). HaveAnswered ss ts) items_are answered) later_from (have_made J.commits ts whole.own)
 
       legal : (names : List Bytes) (out : Bytes) → length names ≡ length scripts → HaveAnswered items ts → out ≡ headed 1 names ts → Legal db.schema names scripts out
       legal names out named answered is =
           let told = told_by answered in
-          let within : AreAmong caller_of 1 (length scripts) H = among (length scripts) H (subst (λ (n : ℕ). AreNamed n H) opened.callers whole.named) in
+          let within : AreAmong caller_of 1 (length scripts) J.commits = among (length scripts) J.commits (subst (λ (n : ℕ). AreNamed n J.commits) opened.callers whole.named) in
           record {
             replies = told.replies;
             named = named;
             written = is ∙ told.written names;
-            history = H;
-            numbers = subst (IsPermutation (enumerate_from 1 (callers H))) (sym told.numbers) (all_counted caller_of 1 (length scripts) 1 H within);
+            history = J.commits;
+            numbers = subst (IsPermutation (enumerate_from 1 (callers J.commits))) (sym told.numbers) (all_counted caller_of 1 (length scripts) 1 J.commits within);
             sessions = told.sessions;
           }
 
-      last : (view : View) → HaveAnswered items ts → view ≡ view_after db.schema H → IsLast db.schema scripts view
+      last : (view : View) → HaveAnswered items ts → view ≡ view_after db.schema J.commits → IsLast db.schema scripts view
       last view answered is =
           let told = told_by answered in
           record {
-            history = H;
-            named = subst (λ (n : ℕ). AreNamed n H) opened.callers whole.named;
+            history = J.commits;
+            named = subst (λ (n : ℕ). AreNamed n J.commits) opened.callers whole.named;
             replies = told.replies;
             sessions = told.sessions;
             own = told.own;
             view = is;
           }
 
-      pub all_last : {A E : Type 0} (r : Result A E) (view : View) → OnOk r (HaveAnswered items ts) → view ≡ view_after db.schema H → OnOk r (IsLast db.schema scripts view)
+      pub all_last : {A E : Type 0} (r : Result A E) (view : View) → OnOk r (HaveAnswered items ts) → view ≡ view_after db.schema J.commits → OnOk r (IsLast db.schema scripts view)
       all_last (Ok a) view answered is = last view answered is
       all_last (Err e) view answered is = tt
 

@@ -2,8 +2,8 @@
 ghost use Rattle.std.specs.Prelude.{◌≡◌, ◌≤◌, [], IfOk, List, OnOk, length, vec_capacity};
 ghost use Rattle.client_script.specs.declared.line.Line.{Line};
 ghost use Rattle.client_session.specs.Progress.{Progress};
-ghost use Rattle.mdb_schema.specs.History.{History};
-ghost use Rattle.mem_txn.specs.Database.{IsWhole, Opening, new_callers, view_after};
+ghost use Rattle.mem_txn.specs.CellHistory.{CellHistory, Forest};
+ghost use Rattle.mem_txn.specs.Database.{IsWhole, new_callers, reading_after};
 ghost use Rattle.memdb.specs.inner.Sessions.{AreLater, AreOpened, AreReady, HaveAnswered};
 ghost use Rattle.memdb.specs.inner.Sessions.{callers_back};
 
@@ -70,7 +70,7 @@ impl Clients {
     /// The same on a new database, of which these are all passes.
     fn of(alloc: Global, db: Db, passes: Passes, scripts: Scripts, room: Vec<Session>) -> Clients
         requires callers { db.callers ≡ length scripts }
-        requires passes { (opening : Opening)
+        requires passes { (opening : Forest)
             × (passes ≡ new_callers db opening (length scripts)) }
         requires empty { room.items ≡ [] }
         requires room { length scripts ≤ vec_capacity room }
@@ -113,8 +113,8 @@ impl Clients {
     pub(crate) fn close<R: Wait>(self, rt: &R) -> ReadTxn
         requires { (scripts : List (List Line)) × (items : List Progress) × (1 ≤ length scripts)
             × AreOpened self.db scripts self.passes items × AreLater items self.sessions.items }
-        ensures { (H : History) × IsWhole self.db (callers_back self.sessions.items) H
-            × (result.view ≡ view_after self.db.schema H) }
+        ensures { (J : CellHistory) × IsWhole self.db (callers_back self.sessions.items) J
+            × (result ≡ reading_after self.db J) }
     {
         let Clients {
             db,

@@ -150,7 +150,7 @@ fn fired_by(notice: &Notice, front: &Front, by: u64) -> Result<usize, AllocError
     requires of { AreCellsOf front.now.book notice.now }
     requires number { 1 ≤ by }
 {
-    let log = fire_all(notice, front, by);
+    let log = fire_all(notice, front, by, &mut false);
     fired(notice, &log)
 }
 

@@ -1,5 +1,5 @@
 -- The trees of a change, as its contracts speak of them.
-use Rattle.std.proofs.Common.{◌≡◌, ◌<◌, ℕ, List, All, map, length, get_or, refl, sym, subst, arith}
+use Rattle.std.proofs.Common.{◌≡◌, ◌∙◌, ◌<◌, ℕ, List, All, map, length, get_or, refl, sym, ap, subst, arith}
 use Rattle.std.proofs.Math.ListN.{get_or-map}
 use Rattle.std.proofs.lemmas.List.{length-map}
 use Rattle.std.proofs.lemmas.List.Elements.{All-map}
@@ -8,7 +8,7 @@ use Rattle.radix_node.specs.Cells.{AreBelow, AreOf, CellTree}
 use Rattle.radix_node.specs.Ids.{Counter}
 use Rattle.radix_txn.specs.Drawn.{IsWithin}
 use Rattle.radix_txn.specs.Txn.{Txn}
-use Rattle.table_index.specs.Table.{AreAllBelow, AreAllOf, AreDrawn, TableChange}
+use Rattle.table_index.specs.Table.{AreAllBelow, AreAllOf, AreDrawn, AreSeparate, TableChange}
 use Rattle.table_index.specs.Drawn.{HasDrawnCells, MayBeWritten}
 use Rattle.table_index.specs.inner.Drawn.{AreReady, HaveDrawn}
 use Rattle.table_index.specs.inner.Held.{AreSound, starts_of, trees_of}
@@ -55,6 +55,10 @@ change_drawn log n i j before read made new old now reads makes view trees start
           (subst (λ (ts : List CellTree). AreDrawn log i j (trees_of before) ts) trees
           (subst (λ (xs : List Txn). AreDrawn log i j (trees_of before) (trees_of xs)) (sym makes)
           (subst (λ (xs : List Txn). AreDrawn log i j (trees_of xs) (trees_of new)) reads drawn.drawn)));
+      separate = λ h.
+          let views : trees_of read ≡ old.trees = ap trees_of reads ∙ view in
+          let made_trees : trees_of new ≡ now.trees = ap trees_of (sym makes) ∙ trees in
+          subst AreSeparate made_trees (drawn.separate (subst AreSeparate (sym views) h));
       book = drawn.book;
       later = drawn.later;
       few = drawn.few;
@@ -67,6 +71,7 @@ no_cells_drawn log n ids x ready = record {
   of = ready.of;
   start = ready.start;
   drawn = same_drawn log ids ids x.trees;
+  separate = λ h. h;
   book = refl;
   later = omega arith;
   few = omega arith;

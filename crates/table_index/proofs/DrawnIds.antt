@@ -11,6 +11,7 @@ use Rattle.radix_txn.specs.Txn.{Txn}
 use Rattle.radix_txn.proofs.CellTxn.{below_more, drawn_twice}
 use Rattle.radix_txn.proofs.CellTxn as one
 use Rattle.table_index.specs.Table.{AreDrawn}
+use Rattle.table_index.proofs.SeparateTrees.{set_separate}
 use Rattle.table_index.specs.inner.Drawn.{AreReady, HaveDrawn}
 use Rattle.table_index.specs.inner.Held.{AreSound, trees_of}
 
@@ -56,6 +57,7 @@ none_drawn log n ids xs within = record {
   start = refl;
   within = within;
   drawn = same_drawn log ids ids (trees_of xs);
+  separate = λ h. h;
   book = refl;
   later = omega arith;
   few = omega arith;
@@ -70,6 +72,7 @@ module _ (log : Log) (a b n : ℕ) (i j k : Counter) (xs ys zs : List Txn) (firs
     start = second.start ∙ first.start;
     within = second.within;
     drawn = both_drawn log i j k (trees_of xs) (trees_of ys) (trees_of zs) first.later second.later first.book first.drawn second.drawn;
+    separate = λ h. second.separate (first.separate h);
     book = second.book ∙ first.book;
     later = omega (arith, first.later, second.later);
     few = omega (arith, first.few, second.few, enough);
@@ -80,6 +83,7 @@ more_drawn log a n i j xs ys enough drawn = record {
   start = drawn.start;
   within = drawn.within;
   drawn = drawn.drawn;
+  separate = drawn.separate;
   book = drawn.book;
   later = drawn.later;
   few = omega (arith, drawn.few, enough);
@@ -125,6 +129,7 @@ drawn_at log n i j xs at d y within drawn = record {
   start = map-set_same (λ (z : Txn). z.start) xs at y d drawn.start;
   within = All-set (IsWithin j) xs at y drawn.within (all_within i j xs drawn.later drawn.book within);
   drawn = set_drawn log i j xs at d y drawn.drawn;
+  separate = set_separate log i j xs at d y within drawn.drawn;
   book = drawn.book;
   later = drawn.later;
   few = drawn.few;

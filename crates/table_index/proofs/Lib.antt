@@ -23,6 +23,7 @@ pub mod PutSteps
 pub mod Removals
 pub mod RowCounts
 pub mod RowKeys
+pub mod SeparateTrees
 pub mod StoredRows
 pub mod RowRemoval
 pub mod WalkedRows

@@ -1,5 +1,5 @@
 -- A table, as contracts see it.
-use Rattle.std.specs.Prelude.{◌≡◌, ◌⊎◌, ◌+◌, ◌*◌, ◌^◌, ◌≤◌, ◌<◌, ℕ, Bool, true, All, List, [], ◌∷◌, ⊤, length, Some, is_some, Result, Ok, Err, IsOkUnless, MatchResult}
+use Rattle.std.specs.Prelude.{◌≡◌, ◌⊎◌, ◌+◌, ◌*◌, ◌^◌, ◌≤◌, ◌<◌, ℕ, Bool, true, All, List, [], ◌∷◌, ⊤, length, slice_get, Some, is_some, Result, Ok, Err, IsOkUnless, MatchResult}
 use Rattle.mdb_datum.specs.Row.{Fields}
 use Rattle.mdb_schema.specs.Answer.{Asked}
 use Rattle.mdb_schema.specs.Refusals.{ask_error, write_error}
@@ -55,12 +55,23 @@ AreDrawn log before after (old ∷ olds) (new ∷ news) =
 abbrev pub IsNew : Log → Counter → Counter → CellTree → Type 0
 IsNew log before after t = (c : Cell) → Has c (cells_of t) → IsBetween log before after c
 
--- the cells of trees were drawn tree by tree, so no two trees share an id
+-- the cells of trees were drawn tree by tree
 abbrev pub AreNewInTurn : Log → Counter → Counter → List CellTree → Type 0
 AreNewInTurn log before after [] = (before.next ≤ after.next) × (after.book ≡ before.book)
 AreNewInTurn log before after (t ∷ ts) =
     (mid : Counter) × IsNew log before mid t × (before.next ≤ mid.next) × (mid.book ≡ before.book)
     × AreNewInTurn log mid after ts
+
+-- a cell is in the tree at a place
+pub record IsCellAt (trees : List CellTree) (place : ℕ) (c : Cell) : Type 0 where
+  pub tree : CellTree
+  pub there : slice_get trees place ≡ Some tree
+  pub has : Has c (cells_of tree)
+
+-- no two trees share an id: cells of one id are in the tree at one place
+abbrev pub AreSeparate : List CellTree → Type 0
+AreSeparate trees =
+    (c d : Cell) (i j : ℕ) → IsCellAt trees i c → IsCellAt trees j d → c.id ≡ d.id → i ≡ j
 
 -- from the next id on there are 2^26 ids for each of so many rows
 abbrev pub AreLeft : ℕ → ℕ → Type 0

@@ -1,6 +1,6 @@
 //! A table.
 ghost use Rattle.std.specs.Prelude.{◌≡◌, ◌+◌, ◌≤◌, ◌^◌, [], IfOk, OnOk};
-ghost use Rattle.table_index.specs.Table.{AreAllBelow, AreAllOf, AreNewInTurn};
+ghost use Rattle.table_index.specs.Drawn.{HasNewCells};
 
 use crate::trees::empty_trees;
 use mdb_schema::TableDef;
@@ -46,9 +46,7 @@ impl Table {
 
         ensures table { IfOk result
             (λ t. t ≡ record { schema = def.now; rows = []; trees = t.trees }) }
-        ensures below { IfOk result (λ t. AreAllBelow ids.new.next t.trees) }
-        ensures of { IfOk result (λ t. AreAllOf ids.new.book t.trees) }
-        ensures drawn { IfOk result (λ t. AreNewInTurn front.now ids.old ids.new t.trees) }
+        ensures cells { IfOk result (λ t. HasNewCells front.now ids.old ids.new t.trees) }
         ensures book { ids.new.book ≡ ids.old.book }
         ensures later { ids.old.next ≤ ids.new.next }
         ensures few { OnOk result (ids.new.next ≤ ids.old.next + 32) }

@@ -1,24 +1,88 @@
 -- Checks of the members of a set in turn: one more check, and what the pass has then.
-use Rattle.std.proofs.Common.{◌≡◌, ◌∙◌, ◌+◌, ◌<◌, ◌++◌, ℕ, zero, suc, List, [], ◌∷◌, take, get_or, length, Option, Some, None, slice_get, Result, Ok, Err, IfOk, OnErr, ◌⊎◌, inl, inr, refl, sym, ap, subst, add-one, arith}
-use Rattle.mem_txn.specs.Checked.{IsHeldBy}
-use Rattle.mem_txn.specs.Database.{Caller, Database, HasSeen, IsOf}
+use Rattle.std.proofs.Common.{◌≡◌, ◌∙◌, ◌+◌, ◌<◌, ◌≤◌, ◌++◌, ◌^◌, ℕ, zero, suc, List, [], ◌∷◌, take, get_or, length, append-nil, Option, Some, None, slice_get, Result, Ok, Err, IfOk, ◌⊎◌, inl, inr, refl, sym, ap, subst, add-one, arith}
+use Rattle.std.proofs.lemmas.List.{length-map}
+use Rattle.mem_txn.specs.Checked.{HasReadOnce, Hears, IsHeldBy, LooksOnce}
+use Rattle.mem_txn.specs.Database.{Caller, Database, HasSeen, IsOf, Reading, reading_of}
 use Rattle.mem_txn.specs.Held.{HeldWatch}
 use Rattle.mem_txn.specs.declared.look.Look.TheVariants as look
+use Rattle.mem_txn.proofs.HeardAlong.{heard_later}
 use Rattle.mem_txn.proofs.HeldAlong.{seen_twice}
-use Rattle.watch_set.specs.Checks.{AnswersLook, AreQuiet, HasChecked, HasFired, IsChecked, KeepsHeld, OnlyLooks, with_until}
+use Rattle.mem_txn.proofs.OneHistory.{later_itself}
+use Rattle.mem_txn.proofs.OneLook.{looks_once}
+use Rattle.watch_set.specs.Checks.{AnswersLook, AreQuiet, Finds, FindsWoken, HasFired, IsChecked, KeepsHeld, OnlyLooks, with_until}
 use Rattle.watch_set.specs.declared.woken.Woken.{Woken}
 use Rattle.watch_set.specs.declared.woken.Woken.TheVariants as woken
 use Rattle.watch_set.specs.Members.{AreHeldBy, Member, watches_of}
+use Rattle.watch_set.specs.inner.Reads.{IsRead}
 
--- ---- a pass that has seen more
+-- ---- a pass that has looked
+
+-- it has, where it has seen as much or more and has made no try
+pub looks_by : (old new : Caller) → HasSeen old new → new.tries ≡ old.tries → OnlyLooks old new
+looks_by old new seen tries = record {
+  seen = seen;
+  others = seen.others
+      ∙ ap (λ (ts : List ℕ). let r : Caller = record old { seen = new.seen; trees = new.trees; counts = new.counts; tries = ts; log = new.log } in r) tries;
+}
+
+pub looks_itself : (p : Caller) → length p.seen ≤ 2 ^ 63 → OnlyLooks p p
+looks_itself p few = record {
+  seen = record {
+    seen = ([], append-nil p.seen);
+    trees = ([], append-nil p.trees);
+    few = few;
+    counts = ([], append-nil p.counts);
+    tries = ([], append-nil p.tries);
+    log = later_itself p.log;
+    others = refl;
+  };
+  others = refl;
+}
 
 pub looks_on : (old mid new : Caller) → OnlyLooks old mid → OnlyLooks mid new → OnlyLooks old new
-looks_on old mid new first then =
-    then ∙ ap (λ (p : Caller). let r : Caller = record p { seen = new.seen; trees = new.trees; counts = new.counts } in r) first
+looks_on old mid new first then = record {
+  seen = seen_twice old mid new first.seen then.seen;
+  others = then.others
+      ∙ ap (λ (p : Caller). let r : Caller = record p { seen = new.seen; trees = new.trees; counts = new.counts; log = new.log } in r) first.others;
+}
+
+pub looks_after : (old mid new : Caller) → (mid ≡ old) ⊎ OnlyLooks old mid → OnlyLooks mid new → OnlyLooks old new
+looks_after old mid new (inl same) looks = subst (λ (p : Caller). OnlyLooks p new) same looks
+looks_after old mid new (inr first) looks = looks_on old mid new first looks
 
 pub same_database : (db : Database) (old new : Caller) → OnlyLooks old new → IsOf db old → IsOf db new
-same_database db old new looks own =
-    (ap (λ (p : Caller). p.database) looks ∙ own.0, ap (λ (p : Caller). p.schema) looks ∙ own.1)
+same_database db old new looks own = (
+  ap (λ (p : Caller). p.database) looks.others ∙ own.0,
+  ap (λ (p : Caller). p.schema) looks.others ∙ own.1,
+  ap (λ (p : Caller). p.book) looks.others ∙ own.2,
+)
+
+-- it has heard more, and the state that it has read is the same
+pub hears_looks : (old new : Caller) → length old.seen ≤ 2 ^ 63 → Hears old new → OnlyLooks old new
+hears_looks old new few hears =
+    let same = looks_itself old few in
+    let seen = same.seen in
+    subst (OnlyLooks old) (sym hears.others) (record {
+      seen = record {
+        seen = seen.seen;
+        trees = seen.trees;
+        few = few;
+        counts = seen.counts;
+        tries = seen.tries;
+        log = hears.later;
+        others = refl;
+      };
+      others = refl;
+    })
+
+pub read_still : (old new : Caller) (state : Reading) → IsRead old state → Hears old new → IsRead new state
+read_still old new state is hears = record {
+  read = is.read ∙ sym (ap reading_of hears.others);
+  heard = heard_later old new hears is.heard;
+  few = subst (λ (p : Caller). length p.seen ≤ 2 ^ 63) (sym hears.others) is.few;
+}
+
+-- ---- who holds what
 
 pub all_kept : (old new : Caller) (hs : List HeldWatch) → KeepsHeld old new → AreHeldBy old hs → AreHeldBy new hs
 all_kept old new [] keeps all = tt
@@ -43,83 +107,71 @@ member_there (x ∷ xs) (suc k) m within there = member_there xs k m (omega arit
 
 -- ---- one more check
 
-quiet-on : (old mid new : Caller) (hs is : List HeldWatch) → AreQuiet old hs mid → AreQuiet mid is new → AreQuiet old (hs ++ is) new
-quiet-on old mid new [] is first then = subst (λ (p : Caller). AreQuiet p is new) first then
-quiet-on old mid new (h ∷ hs) is (next, at, told, rest) then = (next, at, told, quiet-on next mid new hs is rest then)
+quiet-on : (first old mid new : Caller) (hs is : List HeldWatch) → AreQuiet first old hs mid → AreQuiet first mid is new → AreQuiet first old (hs ++ is) new
+quiet-on first old mid new [] is before then = subst (λ (p : Caller). AreQuiet first p is new) before then
+quiet-on first old mid new (h ∷ hs) is (next, at, told, rest) then = (next, at, told, quiet-on first next mid new hs is rest then)
 
-pub quiet_more : (old mid new : Caller) (ms : List Member) (k : ℕ) (m : Member) (at : ℕ) → k < length ms → m ≡ get_or ms k m
-    → AreQuiet old (take k (watches_of ms)) mid → IsChecked mid new m.held (look.Quiet at) → AreQuiet old (take (k + 1) (watches_of ms)) new
-quiet_more old mid new ms k m at within there first told =
-    subst (λ (hs : List HeldWatch). AreQuiet old hs new) (sym (ap (λ n. take n (watches_of ms)) (add-one k) ∙ one_more ms k m within there))
-    (quiet-on old mid new (take k (watches_of ms)) (m.held ∷ []) first (new, at, told, refl))
+pub quiet_more : (first old mid new : Caller) (ms : List Member) (k : ℕ) (m : Member) (at : ℕ) → k < length ms → m ≡ get_or ms k m
+    → AreQuiet first old (take k (watches_of ms)) mid → IsChecked first mid new m.held (look.Quiet at) → AreQuiet first old (take (k + 1) (watches_of ms)) new
+quiet_more first old mid new ms k m at within there before told =
+    subst (λ (hs : List HeldWatch). AreQuiet first old hs new) (sym (ap (λ n. take n (watches_of ms)) (add-one k) ∙ one_more ms k m within there))
+    (quiet-on first old mid new (take k (watches_of ms)) (m.held ∷ []) before (new, at, told, refl))
 
--- after checks of some watches and of one more
-checked_then : (old mid new : Caller) (hs : List HeldWatch) → HasChecked old mid hs → HasSeen mid new → HasSeen old new
-checked_then old mid new [] first then = subst (λ (p : Caller). HasSeen p new) first then
-checked_then old mid new (h ∷ hs) first then = seen_twice old mid new first then
+-- and all of them
+taken_all : (hs : List HeldWatch) (k : ℕ) → length hs ≤ k → take k hs ≡ hs
+taken_all [] zero long = refl
+taken_all [] (suc k) long = refl
+taken_all (h ∷ hs) zero long = absurd (omega (arith, long))
+taken_all (h ∷ hs) (suc k) long = ap (λ (is : List HeldWatch). h ∷ is) (taken_all hs k (omega (arith, long)))
 
-pub checked_more : (old mid new : Caller) (ms : List Member) (k : ℕ) → k < length ms → HasChecked old mid (take k (watches_of ms)) → HasSeen mid new
-    → HasChecked old new (take (k + 1) (watches_of ms))
-checked_more old mid new [] k within first then = absurd (omega arith)
-checked_more old mid new (x ∷ xs) k within first then =
-    subst (λ n. HasChecked old new (take n (watches_of (x ∷ xs)))) (sym (add-one k)) (checked_then old mid new (take k (watches_of (x ∷ xs))) first then)
+pub quiet_all : (first old new : Caller) (ms : List Member) (k : ℕ) → length ms ≤ k → AreQuiet first old (take k (watches_of ms)) new → AreQuiet first old (watches_of ms) new
+quiet_all first old new ms k long quiet =
+    let same : length (watches_of ms) ≡ length ms = length-map ms (λ (m : Member). m.held) in
+    subst (λ (hs : List HeldWatch). AreQuiet first old hs new) (taken_all (watches_of ms) k (omega (arith, long, same))) quiet
 
-pub checked_there : (old mid new : Caller) (ms : List Member) (k : ℕ) → k < length ms → HasChecked old mid (take k (watches_of ms)) → HasSeen mid new
-    → HasChecked old new (watches_of ms)
-checked_there old mid new [] k within first then = absurd (omega arith)
-checked_there old mid new (x ∷ xs) k within first then = checked_then old mid new (take k (watches_of (x ∷ xs))) first then
+-- ---- the members, and then what cancels
 
--- ---- a look at the members, and then at what cancels
+look_then : (first read mid new : Caller) (ms : List Member) (until : Option HeldWatch) (w : Option Woken)
+    → AreQuiet first read (watches_of ms) mid → Finds first mid new [] until w → Finds first read new ms until w
+look_then first read mid new ms None None quiet told = subst (λ (p : Caller). AreQuiet first read (watches_of ms) p) (sym told) quiet
+look_then first read mid new ms (Some h) None quiet told = quiet-on first read mid new (watches_of ms) (h ∷ []) quiet told
+look_then first read mid new ms until (Some (woken.Fired place at)) quiet (m, there, last, rest, fired) = cc
+look_then first read mid new ms None (Some (woken.Stopped at)) quiet told = absurd told
+look_then first read mid new ms (Some h) (Some (woken.Stopped at)) quiet (last, same, told) =
+    (mid, quiet, subst (λ (p : Caller). HasFired first p new h at) same told)
 
-pub look_then : (old mid new : Caller) (ms : List Member) (until : Option HeldWatch) (w : Option Woken)
-    → AreQuiet old (watches_of ms) mid → AnswersLook mid new [] until w → AnswersLook old new ms until w
-look_then old mid new ms None None quiet told = subst (λ (p : Caller). AreQuiet old (watches_of ms) p) (sym told) quiet
-look_then old mid new ms (Some h) None quiet told = quiet-on old mid new (watches_of ms) (h ∷ []) quiet told
-look_then old mid new ms until (Some (woken.Fired place at)) quiet (m, there, last, rest, fired) = cc
-look_then old mid new ms None (Some (woken.Stopped at)) quiet told = absurd told
-look_then old mid new ms (Some h) (Some (woken.Stopped at)) quiet (last, same, told) =
-    (mid, quiet, subst (λ (p : Caller). HasFired p new h at) same told)
+pub looks_then : {E : Type 0} (first read mid new : Caller) (ms : List Member) (until : Option HeldWatch) (r : Result (Option Woken) E)
+    → AreQuiet first read (watches_of ms) mid → IfOk r (λ w. Finds first mid new [] until w) → IfOk r (λ w. Finds first read new ms until w)
+looks_then first read mid new ms until (Ok w) quiet told = look_then first read mid new ms until w quiet told
+looks_then first read mid new ms until (Err e) quiet told = tt
 
-pub looks_then : {E : Type 0} (old mid new : Caller) (ms : List Member) (until : Option HeldWatch) (r : Result (Option Woken) E)
-    → AreQuiet old (watches_of ms) mid → IfOk r (λ w. AnswersLook mid new [] until w) → IfOk r (λ w. AnswersLook old new ms until w)
-looks_then old mid new ms until (Ok w) quiet told = look_then old mid new ms until w quiet told
-looks_then old mid new ms until (Err e) quiet told = tt
+-- a member that has fired is told whatever cancels
+pub found_first : (first read new : Caller) (ms : List Member) (until : Option HeldWatch) (w : Woken) → FindsWoken first read new ms None w → FindsWoken first read new ms until w
+found_first first read new ms until (woken.Fired place at) told = told
+found_first first read new ms until (woken.Stopped at) told = absurd told
 
-pub checked_none : (old mid new : Caller) (ms : List Member) (until : Option HeldWatch) → HasChecked old mid (watches_of ms) → HasChecked mid new (with_until [] until)
-    → HasChecked old new (with_until (watches_of ms) until)
-checked_none old mid new ms None first then = subst (λ (p : Caller). HasChecked old p (watches_of ms)) (sym then) first
-checked_none old mid new [] (Some h) first then = subst (λ (p : Caller). HasSeen p new) first then
-checked_none old mid new (x ∷ xs) (Some h) first then = seen_twice old mid new first then
+-- what is found from a read on is a look
+pub looks_from : {E : Type 0} (old read new : Caller) (ms : List Member) (until : Option HeldWatch) (r : Result (Option Woken) E)
+    → HasReadOnce old read → IfOk r (λ w. Finds old read new ms until w) → IfOk r (λ w. AnswersLook old new ms until w)
+looks_from old read new ms until (Ok w) once told = (read, once, told)
+looks_from old read new ms until (Err e) once told = tt
 
-pub checked_members : (old new : Caller) (ms : List Member) (until : Option HeldWatch) → 0 < length ms → HasChecked old new (watches_of ms) → HasChecked old new (with_until (watches_of ms) until)
-checked_members old new [] until some seen = absurd (omega arith)
-checked_members old new (x ∷ xs) None some seen = seen
-checked_members old new (x ∷ xs) (Some h) some seen = seen
+-- ---- all checks of one look
 
--- what was checked is there
-pub some_members : (ms : List Member) (until : Option HeldWatch) → 0 < length ms → 0 < length (with_until (watches_of ms) until)
-some_members [] until some = absurd (omega arith)
-some_members (x ∷ xs) None some = omega arith
-some_members (x ∷ xs) (Some h) some = omega arith
+chain_looks : (first old new : Caller) (hs : List HeldWatch) → LooksOnce first old → AreQuiet first old hs new → LooksOnce first new
+chain_looks first old new [] look same = subst (LooksOnce first) (sym same) look
+chain_looks first old new (h ∷ hs) look (next, at, told, rest) = let check = told.1 in chain_looks first next new hs check.0 rest
 
-pub where_err : {X E P : Type 0} (r : Result X E) → P → OnErr r P
-where_err (Ok x) p = tt
-where_err (Err e) p = p
+pub is_one_look : (old new : Caller) (ms : List Member) (until : Option HeldWatch) (w : Option Woken) → AnswersLook old new ms until w → LooksOnce old new
+is_one_look old new ms until None (read, once, quiet) = chain_looks old read new (with_until (watches_of ms) until) (looks_once old read once) quiet
+is_one_look old new ms until (Some (woken.Fired place at)) (read, once, told) = let check = told.4.1 in check.0
+is_one_look old new ms None (Some (woken.Stopped at)) (read, once, told) = absurd told
+is_one_look old new ms (Some h) (Some (woken.Stopped at)) (read, once, told) = let check = told.2.1 in check.0
 
-pub some_until : {E : Type 0} (ms : List Member) (until : Option HeldWatch) (r : Result (Option Woken) E)
-    → OnErr r (0 < length (with_until [] until)) → OnErr r (0 < length (with_until (watches_of ms) until))
-some_until ms until (Ok w) some = tt
-some_until ms None (Err e) some = absurd (omega (arith, some))
-some_until [] (Some h) (Err e) some = some
-some_until (x ∷ xs) (Some h) (Err e) some = omega arith
+-- ---- what cancels, by itself
 
--- ---- looks, one after the other
+pub until_quiet : (first old new : Caller) (until : Option HeldWatch) (h : HeldWatch) (at : ℕ) → until ≡ Some h → IsChecked first old new h (look.Quiet at) → AreQuiet first old (with_until [] until) new
+until_quiet first old new until h at is told = subst (λ (o : Option HeldWatch). AreQuiet first old (with_until [] o) new) (sym is) (new, at, told, refl)
 
-pub checked_seen : (old new : Caller) (ms : List Member) (until : Option HeldWatch) → 0 < length ms → HasChecked old new (with_until (watches_of ms) until) → HasSeen old new
-checked_seen old new [] until some seen = absurd (omega arith)
-checked_seen old new (x ∷ xs) None some seen = seen
-checked_seen old new (x ∷ xs) (Some h) some seen = seen
-
-pub seen_after : (old mid new : Caller) → (mid ≡ old) ⊎ HasSeen old mid → HasSeen mid new → HasSeen old new
-seen_after old mid new (inl same) seen = subst (λ (p : Caller). HasSeen p new) same seen
-seen_after old mid new (inr first) seen = seen_twice old mid new first seen
+pub until_fired : (first old new : Caller) (until : Option HeldWatch) (h : HeldWatch) (at : ℕ) → until ≡ Some h → IsChecked first old new h (look.Fired at) → FindsWoken first old new [] until (woken.Stopped at)
+until_fired first old new until h at is told = subst (λ (o : Option HeldWatch). FindsWoken first old new [] o (woken.Stopped at)) (sym is) (old, refl, told)

@@ -8,11 +8,12 @@ use Rattle.mdb_schema.specs.History.{History, IsMadeBy, state_at}
 use Rattle.mdb_schema.specs.Query.{Query}
 use Rattle.mdb_schema.specs.Schema.{DbSchema}
 use Rattle.mdb_schema.specs.State.{State}
-use Rattle.mem_txn.specs.Checked.{HasLooked, IsQuiet}
+use Rattle.mem_txn.specs.Checked.{IsQuiet, LooksOnce}
 use Rattle.mem_txn.specs.Database.{Caller, HasSeen}
 use Rattle.mem_txn.specs.Held.{HeldWatch}
-use Rattle.mem_txn.proofs.HeldAlong.{length_longer, prefix_twice, state_longer}
-use Rattle.watch_set.specs.Checks.{AreQuiet}
+use Rattle.mem_txn.proofs.HeldAlong.{length_longer, prefix_twice, seen_twice, state_longer}
+use Rattle.mem_txn.proofs.OneLook.{last_read}
+use Rattle.watch_set.specs.Checks.{AreQuiet, IsQuietLook}
 use Rattle.watch_set.specs.GuardedLooks.{AreGuarded, IsGuardedBy, QuietIsGuarded}
 
 -- ---- a longer history
@@ -29,14 +30,6 @@ read-longer xs ys zs read at e q =
     ∙ ap (λ (l : List ℕ). l ++ q.0) e
     ∙ append_assoc xs (read ++ at ∷ []) q.0
     ∙ ap (λ (l : List ℕ). xs ++ l) (append_assoc read (at ∷ []) q.0)
-
--- and what was read before
-read-sooner : (xs ys zs rest : List ℕ) (p : IsPrefix xs ys) (read : List ℕ) → zs ≡ ys ++ (read ++ rest) → zs ≡ xs ++ ((p.0 ++ read) ++ rest)
-read-sooner xs ys zs rest p read e =
-    e
-    ∙ ap (λ (l : List ℕ). l ++ (read ++ rest)) (sym p.1)
-    ∙ append_assoc xs p.0 (read ++ rest)
-    ∙ ap (λ (l : List ℕ). xs ++ l) (sym (append_assoc p.0 read rest))
 
 -- ---- the caller at the end of a chain
 
@@ -66,9 +59,12 @@ follows-on old mid new first then = record {
   number = then.number ∙ first.number;
 }
 
-pub chain-follows : (old new : Caller) (hs : List HeldWatch) → AreQuiet old hs new → Follows old new
-chain-follows old new [] same = subst (λ (p : Caller). Follows old p) (sym same) (follows-itself old)
-chain-follows old new (h ∷ hs) (next, at, told, rest) = follows-on old next new (follows-seen old next told.0) (chain-follows next new hs rest)
+pub chain-follows : (first old new : Caller) (hs : List HeldWatch) → AreQuiet first old hs new → Follows old new
+chain-follows first old new [] same = subst (λ (p : Caller). Follows old p) (sym same) (follows-itself old)
+chain-follows first old new (h ∷ hs) (next, at, told, rest) = follows-on old next new (follows-seen old next told.0) (chain-follows first next new hs rest)
+
+pub look-follows : (old new : Caller) (hs : List HeldWatch) → IsQuietLook old hs new → Follows old new
+look-follows old new hs (read, once, quiet) = follows-on old read new (follows-seen old read once.seen) (chain-follows old read new hs quiet)
 
 -- ---- what one check says, at the end of a chain
 
@@ -88,16 +84,16 @@ own-before mid new at more last own =
       own.3 ∙ more.number,
     )
 
-one-guarded : (old mid new : Caller) (h : HeldWatch) (at : ℕ) → HasSeen old mid → HasLooked old mid at → IsQuiet mid h at → Follows mid new → IsGuardedBy old new h
-one-guarded old mid new h at seen looked told more =
-    let last = looked.number in
+one-guarded : (old mid new : Caller) (h : HeldWatch) (at : ℕ) → HasSeen old mid → LooksOnce old mid → at ≡ length mid.seen → IsQuiet mid h at → Follows mid new → IsGuardedBy old new h
+one-guarded old mid new h at seen look last told more =
     let before = length_longer old.seen mid.seen seen.seen in
     let after = length_longer mid.seen new.seen more.seen in
+    let read = last_read old mid look in
     record {
       at = at;
-      earlier = looked.read;
+      earlier = read.0;
       further = more.counts.0;
-      counts = read-longer old.counts mid.counts new.counts looked.read at looked.counts more.counts;
+      counts = read-longer old.counts mid.counts new.counts read.0 at (read.1 ∙ ap (λ (n : ℕ). old.counts ++ (read.0 ++ n ∷ [])) (sym last)) more.counts;
       later = omega arith;
       seen = omega arith;
       unchanged = record {
@@ -106,24 +102,14 @@ one-guarded old mid new h at seen looked told more =
       };
     }
 
-guarded-sooner : (old mid new : Caller) (hs : List HeldWatch) → HasSeen old mid → AreGuarded mid new hs → AreGuarded old new hs
-guarded-sooner old mid new [] seen all = tt
-guarded-sooner old mid new (h ∷ hs) seen all = (
-  record {
-    at = all.0.at;
-    earlier = seen.counts.0 ++ all.0.earlier;
-    further = all.0.further;
-    counts = read-sooner old.counts mid.counts new.counts (all.0.at ∷ all.0.further) seen.counts all.0.earlier all.0.counts;
-    later = let less = length_longer old.seen mid.seen seen.seen in let later = all.0.later in omega arith;
-    seen = all.0.seen;
-    unchanged = all.0.unchanged;
-  },
-  guarded-sooner old mid new hs seen all.1,
-)
+chain_guarded : (first old new : Caller) (hs : List HeldWatch) → HasSeen first old → AreQuiet first old hs new → AreGuarded first new hs
+chain_guarded first old new [] seen same = tt
+chain_guarded first old new (h ∷ hs) seen (next, at, told, rest) =
+    let further = seen_twice first old next seen told.0 in
+    let check = told.1 in (
+      one-guarded first next new h at further check.0 check.1 check.2 (chain-follows first next new hs rest),
+      chain_guarded first next new hs further rest,
+    )
 
 pub quiet_is_guarded : QuietIsGuarded
-quiet_is_guarded old new [] same = tt
-quiet_is_guarded old new (h ∷ hs) (next, at, told, rest) = (
-  one-guarded old next new h at told.0 told.1.0 told.1.1 (chain-follows next new hs rest),
-  guarded-sooner old next new hs told.0 (quiet_is_guarded next new hs rest),
-)
+quiet_is_guarded old new hs (read, once, quiet) = chain_guarded old read new hs once.seen quiet

@@ -1,6 +1,6 @@
--- Checks of the members of a set, in turn.
+-- Looks at the members of a set, in turn.
 use Rattle.std.specs.Prelude.{◌≡◌, ◌++◌, ℕ, zero, suc, List, [], ◌∷◌, Option, Some, None, take, slice_get}
-use Rattle.mem_txn.specs.Checked.{AnswersCheck, IsHeldBy}
+use Rattle.mem_txn.specs.Checked.{AnswersCheck, HasHeard, HasReadOnce, IsHeldBy}
 use Rattle.mem_txn.specs.Database.{Caller, HasSeen}
 use Rattle.mem_txn.specs.Held.{HeldWatch}
 use Rattle.mem_txn.specs.declared.look.Look.{Look}
@@ -9,19 +9,22 @@ use Rattle.watch_set.specs.Members.{Member, watches_of}
 use Rattle.watch_set.specs.declared.woken.Woken.{Woken}
 use Rattle.watch_set.specs.declared.woken.Woken.TheVariants as woken
 
--- a watch was checked with this look, and the pass has seen as much or more
-abbrev pub IsChecked : Caller → Caller → HeldWatch → Look → Type 0
-IsChecked old new h l = HasSeen old new × AnswersCheck old new h l
+-- A watch was checked in the look that a pass began as `first`, with this answer, and the pass has
+-- seen as much or more since the check before. All checks up to here are one look together: it reads
+-- the count of commits once, and again where a watch is found late.
+abbrev pub IsChecked : Caller → Caller → Caller → HeldWatch → Look → Type 0
+IsChecked first old new h l = HasSeen old new × AnswersCheck first new h l
 
 -- the watches were checked one after the other, and each was quiet
-abbrev pub AreQuiet : Caller → List HeldWatch → Caller → Type 0
-AreQuiet old [] new = new ≡ old
-AreQuiet old (h ∷ hs) new =
-    (next : Caller) × (at : ℕ) × IsChecked old next h (look.Quiet at) × AreQuiet next hs new
+abbrev pub AreQuiet : Caller → Caller → List HeldWatch → Caller → Type 0
+AreQuiet first old [] new = new ≡ old
+AreQuiet first old (h ∷ hs) new =
+    (next : Caller) × (at : ℕ) × IsChecked first old next h (look.Quiet at)
+    × AreQuiet first next hs new
 
 -- a watch was checked and had fired
-abbrev pub HasFired : Caller → Caller → HeldWatch → ℕ → Type 0
-HasFired old new h at = IsChecked old new h (look.Fired at)
+abbrev pub HasFired : Caller → Caller → Caller → HeldWatch → ℕ → Type 0
+HasFired first old new h at = IsChecked first old new h (look.Fired at)
 
 -- what cancels a wait, if anything, behind the watches of the set
 abbrev pub with_until : List HeldWatch → Option HeldWatch → List HeldWatch
@@ -30,44 +33,52 @@ with_until hs (Some h) = hs ++ h ∷ []
 
 -- The member at this place, or else what cancels, has fired, and each watch before it was checked
 -- just before and was quiet.
-abbrev pub AnswersWoken : Caller → Caller → List Member → Option HeldWatch → Woken → Type 0
-AnswersWoken old new ms until (woken.Fired place at) =
+abbrev pub FindsWoken : Caller → Caller → Caller → List Member → Option HeldWatch → Woken → Type 0
+FindsWoken first read new ms until (woken.Fired place at) =
     (m : Member) × (slice_get ms place ≡ Some m)
-    × (mid : Caller) × AreQuiet old (take place (watches_of ms)) mid × HasFired mid new m.held at
-AnswersWoken old new ms None (woken.Stopped at) = ⊥
-AnswersWoken old new ms (Some h) (woken.Stopped at) =
-    (mid : Caller) × AreQuiet old (watches_of ms) mid × HasFired mid new h at
+    × (mid : Caller) × AreQuiet first read (take place (watches_of ms)) mid
+    × HasFired first mid new m.held at
+FindsWoken first read new ms None (woken.Stopped at) = ⊥
+FindsWoken first read new ms (Some h) (woken.Stopped at) =
+    (mid : Caller) × AreQuiet first read (watches_of ms) mid × HasFired first mid new h at
 
--- one look at all of them: nothing exactly where each was checked and quiet
+-- what is found from a read on: nothing exactly where each was checked and quiet
+abbrev pub Finds : Caller → Caller → Caller → List Member → Option HeldWatch → Option Woken → Type 0
+Finds first read new ms until None = AreQuiet first read (with_until (watches_of ms) until) new
+Finds first read new ms until (Some w) = FindsWoken first read new ms until w
+
+-- one look at all of them
 abbrev pub AnswersLook : Caller → Caller → List Member → Option HeldWatch → Option Woken → Type 0
-AnswersLook old new ms until None = AreQuiet old (with_until (watches_of ms) until) new
-AnswersLook old new ms until (Some w) = AnswersWoken old new ms until w
+AnswersLook old new ms until w =
+    (read : Caller) × HasReadOnce old read × Finds old read new ms until w
+
+-- one look at these watches, each of which was quiet
+abbrev pub IsQuietLook : Caller → List HeldWatch → Caller → Type 0
+IsQuietLook old hs new = (read : Caller) × HasReadOnce old read × AreQuiet old read hs new
 
 -- so many looks, one after the other, each of which found nothing
 abbrev pub AreQuietLooks : ℕ → Caller → List HeldWatch → Caller → Type 0
 AreQuietLooks zero old hs new = new ≡ old
 AreQuietLooks (suc looks) old hs new =
-    (mid : Caller) × AreQuietLooks looks old hs mid × AreQuiet mid hs new
+    (mid : Caller) × AreQuietLooks looks old hs mid × IsQuietLook mid hs new
 
--- A wait is some looks that found nothing, and one that didn't. A check may look more than once,
--- so how many looks there were can't be told from the counts.
+-- a wait is some looks that found nothing, and one that didn't
 abbrev pub AnswersWait : Caller → Caller → List Member → Option HeldWatch → Woken → Type 0
 AnswersWait old new ms until w =
     (looks : ℕ) × (last : Caller)
     × AreQuietLooks looks old (with_until (watches_of ms) until) last
-    × AnswersWoken last new ms until w
-
--- A pass after checks of these watches, or of the first of them: it has seen as much or more, and
--- where there is none it is as before.
-abbrev pub HasChecked : Caller → Caller → List HeldWatch → Type 0
-HasChecked old new [] = new ≡ old
-HasChecked old new (h ∷ hs) = HasSeen old new
+    × AnswersLook last new ms until (Some w)
 
 -- each watch that the caller held is held
 abbrev pub KeepsHeld : Caller → Caller → Type 0
 KeepsHeld old new = (h : HeldWatch) → IsHeldBy old h → IsHeldBy new h
 
--- a pass has looked, and all else of it is as before
-abbrev pub OnlyLooks : Caller → Caller → Type 0
-OnlyLooks old new =
-    new ≡ record old { seen = new.seen; trees = new.trees; counts = new.counts }
+-- a pass has looked: it has seen as much or more, has made no try, and all else is as before
+pub record OnlyLooks (old new : Caller) : Type 0 where
+  pub seen : HasSeen old new
+  pub others : new ≡ record old {
+    seen = new.seen;
+    trees = new.trees;
+    counts = new.counts;
+    log = new.log;
+  }

@@ -3,7 +3,7 @@ use Rattle.std.specs.Prelude.{◌≡◌, ◌≤◌, ◌++◌, ℕ, List, [], ◌
 use Rattle.mdb_schema.specs.Guarded.{IsUnchanged}
 use Rattle.mem_txn.specs.Database.{Caller}
 use Rattle.mem_txn.specs.Held.{HeldWatch}
-use Rattle.watch_set.specs.Checks.{AreQuiet}
+use Rattle.watch_set.specs.Checks.{IsQuietLook}
 
 -- The question's answer has not changed up to the commit before commit `at`, and up to that one
 -- where it is the caller's own. `at` was the last commit at one of the looks of a call: a count of
@@ -25,4 +25,4 @@ AreGuarded old new (h ∷ hs) = IsGuardedBy old new h × AreGuarded old new hs
 -- what is quiet is guarded
 abbrev pub QuietIsGuarded : Type 0
 QuietIsGuarded =
-    (old new : Caller) (hs : List HeldWatch) → AreQuiet old hs new → AreGuarded old new hs
+    (old new : Caller) (hs : List HeldWatch) → IsQuietLook old hs new → AreGuarded old new hs

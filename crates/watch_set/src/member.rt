@@ -1,6 +1,7 @@
 //! The members of a set.
 ghost use Rattle.std.specs.Prelude.{◌≡◌, IfOk};
-ghost use Rattle.watch_set.specs.Members.{cell_name, has_cell, names_eq};
+ghost use Rattle.std.specs.Prelude.{nat_eq};
+ghost use Rattle.watch_set.specs.Members.{cell_id, has_cell};
 
 use mdb_datum::Text;
 use mem_txn::Held;
@@ -36,20 +37,17 @@ impl Member {
         })
     }
 
-    /// Whether it watches the cell of this watch. Ids are compared first, since they differ mostly.
+    /// Whether it watches the cell of this watch.
     fn watches(&self, held: &Held) -> bool
-        ensures { let own = self.now.held in
-            result ≡ names_eq (cell_name own) (cell_name held.now) }
+        ensures { let own = self.now.held in result ≡ nat_eq (cell_id own) (cell_id held.now) }
     {
         self.held.id() == held.id()
-            && self.held.index() == held.index()
-            && self.held.query().table().as_str() == held.query().table().as_str()
     }
 }
 
 /// Whether one of these watches the cell of this watch.
 pub(crate) fn are_watching(members: &[Member], held: &Held) -> bool
-    ensures { result ≡ has_cell (cell_name held.now) members.now }
+    ensures { result ≡ has_cell (cell_id held.now) members.now }
 {
     for member in members {
         if member.watches(held) {

@@ -2,13 +2,12 @@
 ghost use Rattle.std.specs.Prelude.{◌≡◌, ◌<◌, [], IfOk, IfSome, OnErr, OnOk, false, length, not};
 ghost use Rattle.std.specs.Prelude.{option_copied, option_map, slice_get};
 ghost use Rattle.mem_txn.specs.Checked.{IsHeldBy};
-ghost use Rattle.mem_txn.specs.Database.{Caller, HasSeen, IsOf};
-ghost use Rattle.watch_set.specs.Checks.{AnswersLook, AnswersWait, HasChecked, KeepsHeld};
-ghost use Rattle.watch_set.specs.Checks.{OnlyLooks, with_until};
-ghost use Rattle.watch_set.specs.Members.{AreDistinct, AreHeldBy, cell_name, chosen, has_cell};
+ghost use Rattle.mem_txn.specs.Database.{Caller, IsOf};
+ghost use Rattle.watch_set.specs.Checks.{AnswersLook, AnswersWait, KeepsHeld, OnlyLooks};
+ghost use Rattle.watch_set.specs.Members.{AreDistinct, AreHeldBy, cell_id, chosen, has_cell};
 ghost use Rattle.watch_set.specs.Members.{watches_of, with_watch};
 
-use crate::look::{look_at, look_until};
+use crate::look::{look_at, look_until, read};
 use crate::member::{Member, are_watching};
 use crate::woken::Woken;
 use mdb_datum::Text;
@@ -65,16 +64,27 @@ impl WatchSet {
         }
     }
 
+    /// The watch of the member at a place, counted from 0; nothing where there is no such place. It
+    /// takes no memory.
+    pub fn held(&self, place: usize) -> Option<&Held>
+        ensures { option_copied result ≡ option_map (λ m. m.held) (slice_get self.now place) }
+    {
+        match self.members.get(place) {
+            Some(member) => Some(&member.held),
+            None => None,
+        }
+    }
+
     /// Adds a watch under a name, at the end, unless a member has its cell already; tells whether
     /// it was added. It looks at each member, and takes memory for a copy of the name and for the
     /// member, only where it adds one. `AllocError` comes for want of memory, or where the kit's
     /// `Arc` refuses one more owner of the watch; then the set is as before.
     #[tactic(auto, using(crate::proofs::CellsDiffer::distinct_after, crate::proofs::CellsDiffer::held_after))]
     pub fn add(&mut self, name: &Text, held: &Held) -> Result<bool, AllocError>
-        ensures added { IfOk result (λ b. b ≡ not (has_cell (cell_name held.now) self.old)) }
+        ensures added { IfOk result (λ b. b ≡ not (has_cell (cell_id held.now) self.old)) }
         ensures set { OnOk result (self.new ≡ with_watch name.now held.now self.old) }
         ensures kept { OnErr result (self.new ≡ self.old) }
-        ensures lacks { OnErr result (has_cell (cell_name held.now) self.old ≡ false) }
+        ensures lacks { OnErr result (has_cell (cell_id held.now) self.old ≡ false) }
         ensures held { (p : Caller) → AreHeldBy p (watches_of self.old) → IsHeldBy p held.now
             → AreHeldBy p (watches_of self.new) }
     {
@@ -98,14 +108,14 @@ impl WatchSet {
     ) -> Result<bool, AllocError>
         ensures added { let m = chosen limit self.old (record { name = name.now; held = held.now })
             (record { name = other.now; held = alternative.now }) in
-            IfOk result (λ b. b ≡ not (has_cell (cell_name m.held) self.old)) }
+            IfOk result (λ b. b ≡ not (has_cell (cell_id m.held) self.old)) }
         ensures set { let m = chosen limit self.old (record { name = name.now; held = held.now })
             (record { name = other.now; held = alternative.now }) in
             OnOk result (self.new ≡ with_watch m.name m.held self.old) }
         ensures kept { OnErr result (self.new ≡ self.old) }
         ensures lacks { let m = chosen limit self.old (record { name = name.now; held = held.now })
             (record { name = other.now; held = alternative.now }) in
-            OnErr result (has_cell (cell_name m.held) self.old ≡ false) }
+            OnErr result (has_cell (cell_id m.held) self.old ≡ false) }
         ensures held { (p : Caller) → AreHeldBy p (watches_of self.old) → IsHeldBy p held.now
             → IsHeldBy p alternative.now → AreHeldBy p (watches_of self.new) }
     {
@@ -117,9 +127,10 @@ impl WatchSet {
     }
 
     /// Checks each member in order, and then what cancels, up to the first that isn't quiet, and
-    /// tells which; nothing where each is quiet. It takes time in the number of members, and may
-    /// wait as [`Db::check`] does. It takes no memory. `AllocError` comes where the state can't get
-    /// one more owner, and the pass may have seen more by then.
+    /// tells which; nothing where each is quiet. All are checked in one state, by a load of each
+    /// cell's word; where a commit that isn't in it yet has fired a cell, the state is read again and
+    /// the checks go on. It takes no memory, and may wait while another caller commits. `AllocError`
+    /// comes where the state can't get one more owner, and the pass may have seen more by then.
     pub fn look_once<R: Wait>(
         &self,
         rt: &R,
@@ -132,23 +143,20 @@ impl WatchSet {
         requires until { IfSome until (λ h. IsHeldBy pass.old h.now) }
         ensures look { IfOk result (λ w.
             AnswersLook pass.old pass.new self.now (option_copied until.entry) w) }
-        ensures some { OnErr result
-            (0 < length (with_until (watches_of self.now) (option_copied until.entry))) }
         ensures keeps { KeepsHeld pass.old pass.new }
         ensures held { AreHeldBy pass.new (watches_of self.now) }
-        ensures seen { HasChecked pass.old pass.new
-            (with_until (watches_of self.now) (option_copied until.entry)) }
-        ensures others { OnlyLooks pass.old pass.new }
+        ensures looks { OnlyLooks pass.old pass.new }
     {
-        match look_at(rt, db, pass, &self.members)? {
+        let mut state = read(rt, db, pass)?;
+        match look_at(rt, db, pass, &mut state, &self.members)? {
             Some(woken) => Ok(Some(woken)),
-            None => look_until(rt, db, pass, until),
+            None => look_until(rt, db, pass, &mut state, until),
         }
     }
 
-    /// Looks, and sleeps until another commit is finished, until a member has fired or what cancels
-    /// has. It may wait for ever. It is refused as a look is, and where the waits of the database
-    /// have been ended by [`Db::end_waits`].
+    /// Looks, and sleeps until a commit has fired a cell on which somebody sleeps, until a member has
+    /// fired or what cancels has. It may wait for ever. It is refused as a look is, and where the
+    /// waits of the database have been ended by [`Db::end_waits`].
     pub fn wait<R: Wait>(
         &self,
         rt: &R,
@@ -163,14 +171,19 @@ impl WatchSet {
         ensures woken { IfOk result (λ w.
             AnswersWait pass.old pass.new self.now (option_copied until.entry) w) }
         ensures keeps { KeepsHeld pass.old pass.new }
-        ensures held { AreHeldBy pass.new (watches_of self.now) }
-        ensures seen { HasSeen pass.old pass.new }
-        ensures tries { pass.new.tries ≡ pass.old.tries }
+        ensures looks { OnlyLooks pass.old pass.new }
     {
+        let mut attended = false;
         for _ in rt.forever() {
             let next = db.next_commit();
             if let Some(woken) = self.look_once(rt, db, pass, until).transpose() {
                 return woken;
+            }
+            if !attended {
+                // A commit that fires an attended cell wakes who sleeps, so look once more.
+                self.attend(until);
+                attended = true;
+                continue;
             }
             match next {
                 Some(next) => next.wait(rt),
@@ -178,5 +191,16 @@ impl WatchSet {
             }
         }
         unreachable!()
+    }
+
+    /// Says of the cell of each member, and of what cancels, that somebody is about to sleep until
+    /// it fires.
+    fn attend(&self, until: Option<&Held>) {
+        for member in &self.members {
+            member.held.watch().attend();
+        }
+        if let Some(held) = until {
+            held.watch().attend();
+        }
     }
 }

@@ -8,9 +8,9 @@ use Rattle.logbook.specs.Pages.{Cell, cell, Act, keeps, gives, adds, Nib, nib, m
 use Rattle.watch_word.specs.declared.event.Event.{Event}
 use Rattle.watch_word.specs.declared.event.Event.TheVariants.{Home, Fired}
 use Rattle.watch_word.specs.Logs.{has, AreDistinct}
-use Rattle.watch_word.specs.inner.Rule.{fired_in, is_home, number_of, IsKept, Adds, ComesHome, Fires, Sees}
+use Rattle.watch_word.specs.inner.Rule.{fired_in, id_asked, is_home, number_of, IsKept, Adds, ComesHome, Fires, Sees}
 use Rattle.watch_word.proofs.Keys.{has_here, has_behind, has_snoc, distinct_snoc}
-use Rattle.watch_word.proofs.Events.{fired_append, home_later, home_last, home_snoc, fired_home, number_home, numbered_home, home_fired, number_fired, number_other, numbered_fired, told}
+use Rattle.watch_word.proofs.Events.{fired_append, home_later, home_last, home_snoc, id_last, fired_home, number_home, numbered_home, home_fired, number_fired, number_other, numbered_fired, told}
 
 abbrev pub shown : List Event → List Event
 shown log = []
@@ -75,14 +75,19 @@ adds_moves st v cs log kept pre away =
 pub adds_at : (st : Step Event) (key : ℕ) (v : View Event ℕ) → key ≡ 0 → Moves IsKept shown moved key v (λ n. either (n == 0) 0 n) (Adds st v)
 adds_at st key v is = subst (λ (k : ℕ). Moves IsKept shown moved k v (λ n. either (n == 0) 0 n) (Adds st v)) (sym is) (adds_moves st v)
 
+-- a cell whose word isn't ready isn't home
+not_home : (cs : List Cell) (log : List Event) (k : ℕ) → IsKept cs log → (cell cs k).1 ≡ false → (b : Bool) → is_home k log ≡ b → is_home k log ≡ false
+not_home cs log k kept out true q = absurd (cc (sym out ∙ ap (λ (c : Cell). c.1) (kept.home k q).2))
+not_home cs log k kept out false q = q
+
 -- the cell comes home with the word 0
-homed : (cs : List Cell) (log : List Event) (k : ℕ) → IsKept cs log → 1 < k → k < length cs → (cell cs k).1 ≡ false → IsKept (set cs k (0, true)) (log ++ Home k ∷ [])
-homed cs log k kept low here out = record {
+homed : (cs : List Cell) (log : List Event) (k id : ℕ) → IsKept cs log → 1 < k → k < length cs → (cell cs k).1 ≡ false → IsKept (set cs k (0, true)) (log ++ Home k id ∷ [])
+homed cs log k id kept low here out = record {
   anchor = (let few = kept.anchor.0 in omega (arith, few, long), get_or-set_other cs k 0 (0, true) (0, false) (λ q. omega (arith, q, low)) ∙ kept.anchor.1);
-  home = λ j e. dite (ℕ_discrete j k) (mine j) (λ ne. ⊎_elim (theirs j ne) (λ q. absurd (ne (sym q))) (home_snoc j k log e));
-  fired = λ j e. home_later j log (log ++ Home k ∷ []) (Home k ∷ [], refl) (kept.fired j (sym (ap (has j) (fired_home k log)) ∙ e));
-  numbered = numbered_home k log kept.numbered;
-  once = subst AreDistinct (sym (fired_home k log)) kept.once;
+  home = λ j e. dite (ℕ_discrete j k) (mine j) (λ ne. ⊎_elim (theirs j ne) (λ q. absurd (ne (sym q))) (home_snoc j k id log e));
+  fired = λ j e. home_later j log (log ++ Home k id ∷ []) (Home k id ∷ [], refl) (kept.fired j (sym (ap (has j) (fired_home k id log)) ∙ e));
+  numbered = numbered_home k id log kept.numbered;
+  once = subst AreDistinct (sym (fired_home k id log)) kept.once;
 }
   where
     long : length (set cs k (0, true)) ≡ length cs
@@ -95,13 +100,13 @@ homed cs log k kept low here out = record {
         let fired : has k (fired_in log) ≡ true = told k log kept.numbered ∙ (ap (λ m. not (m == 0)) q ∙ ap not (ne_eqb (suc n) 0 (λ h. omega (arith, h)))) in
         absurd (cc (sym out ∙ ap (λ (c : Cell). c.1) (kept.home k (kept.fired k fired)).2))
 
-    mine : (j : ℕ) → j ≡ k → (1 < j) × (j < length (set cs k (0, true))) × (cell (set cs k (0, true)) j ≡ (number_of j (log ++ Home k ∷ []), true))
-    mine j q = subst (λ (i : ℕ). (1 < i) × (i < length (set cs k (0, true))) × (cell (set cs k (0, true)) i ≡ (number_of i (log ++ Home k ∷ []), true))) (sym q)
-        (low, omega (arith, here, long), get_or-set_same cs k (0, true) (0, false) here ∙ ap (λ (n : ℕ). (n, true)) (sym (number_home k k log ∙ none (number_of k log) refl)))
+    mine : (j : ℕ) → j ≡ k → (1 < j) × (j < length (set cs k (0, true))) × (cell (set cs k (0, true)) j ≡ (number_of j (log ++ Home k id ∷ []), true))
+    mine j q = subst (λ (i : ℕ). (1 < i) × (i < length (set cs k (0, true))) × (cell (set cs k (0, true)) i ≡ (number_of i (log ++ Home k id ∷ []), true))) (sym q)
+        (low, omega (arith, here, long), get_or-set_same cs k (0, true) (0, false) here ∙ ap (λ (n : ℕ). (n, true)) (sym (number_home k k id log ∙ none (number_of k log) refl)))
 
-    theirs : (j : ℕ) → j ≢ k → is_home j log ≡ true → (1 < j) × (j < length (set cs k (0, true))) × (cell (set cs k (0, true)) j ≡ (number_of j (log ++ Home k ∷ []), true))
+    theirs : (j : ℕ) → j ≢ k → is_home j log ≡ true → (1 < j) × (j < length (set cs k (0, true))) × (cell (set cs k (0, true)) j ≡ (number_of j (log ++ Home k id ∷ []), true))
     theirs j ne e = let h = kept.home j e in
-        (h.0, (let less = h.1 in omega (arith, less, long)), get_or-set_other cs k j (0, true) (0, false) ne ∙ (h.2 ∙ ap (λ (n : ℕ). (n, true)) (sym (number_home j k log))))
+        (h.0, (let less = h.1 in omega (arith, less, long)), get_or-set_other cs k j (0, true) (0, false) ne ∙ (h.2 ∙ ap (λ (n : ℕ). (n, true)) (sym (number_home j k id log))))
 
 pub comes_home : (st : Step Event) (l : List Event) (k : ℕ) (t : Option ℕ) → 1 < k
     → Moves IsKept shown moved 0 (l, (nib may_write k 0, t)) (λ n. either (n == 0) 0 n) (ComesHome st (l, (nib may_write k 0, t)))
@@ -112,12 +117,12 @@ comes_home st l k t low cs log kept pre away =
       ap (λ (c : Cell). c.1) kept.anchor.1,
       (
         gives,
-        Home k ∷ [],
+        Home k (id_asked st.ask) ∷ [],
         t,
         refl,
-        subst (λ (c : List Cell). IsKept (set c k (0, true)) (log ++ Home k ∷ [])) (sym same) (homed cs log k kept low a.0 a.1),
+        subst (λ (c : List Cell). IsKept (set c k (0, true)) (log ++ Home k (id_asked st.ask) ∷ [])) (sym same) (homed cs log k (id_asked st.ask) kept low a.0 a.1),
         inl (refl, refl),
-        home_last k log,
+        (home_last k (id_asked st.ask) log, id_last k (id_asked st.ask) log (not_home cs log k kept a.1 (is_home k log) refl)),
       ),
     )
 

@@ -10,6 +10,8 @@ use logbook::Word;
 use std::alloc::{AllocError, Global};
 use std::marker::Model;
 use std::sync::Arc;
+use std::sync::atomic::AtomicBool;
+use std::sync::atomic::Ordering::SeqCst;
 
 /// A cell that fires once. Contracts see it as its book, its key there and its id.
 #[derive(Drop)]
@@ -17,6 +19,8 @@ pub struct WatchCell {
     id: u64,
     /// 0 until the cell fires, and then the number of the commit that fired it.
     pub(crate) word: BookWord,
+    /// Whether somebody sleeps, or is about to, until it fires. Nothing is claimed of it.
+    attended: AtomicBool,
     /// A log that was seen when the word was ready.
     pub(crate) home: SeenLog,
 }
@@ -24,14 +28,16 @@ pub struct WatchCell {
 impl Model for WatchCell {
     ghost use Rattle.std.specs.Prelude.{◌≡◌, true};
     ghost use Rattle.watch_word.specs.Logs.{Cell};
-    ghost use Rattle.watch_word.specs.inner.Rule.{is_home, word_at};
+    ghost use Rattle.std.specs.Prelude.{Some};
+    ghost use Rattle.watch_word.specs.inner.Rule.{id_in, is_home, word_at};
 
     ghost Value = { Cell };
 
     ghost view = { λ c. record { book = c.word.book; key = c.word.key; id = c.id } };
 
     ghost invariant = { λ c. (c.word ≡ word_at c.home.book c.word.key)
-        × (is_home c.word.key c.home.log ≡ true) };
+        × (is_home c.word.key c.home.log ≡ true)
+        × (id_in c.word.key c.home.log ≡ Some c.id) };
 }
 
 impl WatchCell {
@@ -40,6 +46,18 @@ impl WatchCell {
         ensures { result ≡ self.now.id }
     {
         self.id
+    }
+
+    /// Whether somebody sleeps until it fires. Who fires it asks afterwards, and wakes nobody where
+    /// nobody does.
+    pub fn is_attended(&self) -> bool {
+        self.attended.load(SeqCst)
+    }
+
+    /// Says that somebody is about to sleep until it fires. Who says so looks once more before it
+    /// sleeps: then either that look finds the cell fired, or who fires it finds this said.
+    pub(crate) fn attend(&self) {
+        self.attended.store(true, SeqCst);
     }
 }
 
@@ -51,7 +69,7 @@ fn new_cell(book: &Book, front: &Front, id: u64) -> WatchCell
     ensures fired { has_fired result front.now ≡ false }
 {
     let mut seen = front.seen.again();
-    let mut offer = still(&seen);
+    let mut offer = still(&seen, id);
     let mut pen = seen.no_pen();
     book.anchor
         .compare_exchange::<Add, Nothing>(0, 0, &mut seen, &mut offer, &mut pen);
@@ -61,6 +79,7 @@ fn new_cell(book: &Book, front: &Front, id: u64) -> WatchCell
     WatchCell {
         id,
         word,
+        attended: AtomicBool::new(false),
         home: seen,
     }
 }
@@ -101,7 +120,7 @@ pub fn fire(front: &Front, cell: &WatchCell, by: u64) -> Front
 {
     let mut seen = front.seen.again();
     seen.learn(&cell.home);
-    let mut offer = still(&seen);
+    let mut offer = still(&seen, 0);
     let mut pen = seen.no_pen();
     cell.word
         .compare_exchange::<Fire, Nothing>(0, by, &mut seen, &mut offer, &mut pen);
@@ -117,10 +136,19 @@ pub(crate) fn look(front: &Front, cell: &WatchCell) -> Moved
 {
     let mut seen = front.seen.again();
     seen.learn(&cell.home);
-    let mut offer = still(&seen);
+    let mut offer = still(&seen, 0);
     let found = cell.word.load::<Look, Nothing>(&mut seen, &mut offer);
     Moved {
         fired: found != 0,
         front: Front { seen },
     }
+}
+
+/// Of two cells of one book, one key is one cell: no word is handed out under two ids.
+pub fn one_key_is_one_cell(one: &WatchCell, other: &WatchCell)
+    requires { one.now.book ≡ other.now.book }
+    ensures { one.now.key ≡ other.now.key → one.now ≡ other.now }
+{
+    let mut seen = one.home.again();
+    seen.learn(&other.home);
 }

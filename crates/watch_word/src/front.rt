@@ -1,5 +1,6 @@
 //! The log of firings, as far as it was seen.
 ghost use Rattle.std.specs.Prelude.{◌≡◌};
+ghost use Rattle.watch_word.specs.Logs.{IsLater};
 
 use crate::rule::SeenLog;
 use std::marker::Model;
@@ -30,5 +31,16 @@ impl Front {
         Front {
             seen: self.seen.again(),
         }
+    }
+
+    /// The further of two fronts of one log. It takes no memory.
+    pub fn joined(&self, other: &Front) -> Front
+        requires { other.now.book ≡ self.now.book }
+        ensures later { IsLater self.now result }
+        ensures latest { IsLater other.now result }
+    {
+        let mut seen = self.seen.again();
+        seen.learn(&other.seen);
+        Front { seen }
     }
 }

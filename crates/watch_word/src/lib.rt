@@ -12,7 +12,11 @@
 //!
 //! A front, a cell and a book belong together where contracts see the same `book` in them: each
 //! call asks for it. Contracts know a cell by its key in the book, which is no number of the
-//! program; the id is what its maker gave it.
+//! program; the id is what its maker gave it. The log has a cell's id from when its word is ready,
+//! so no word is handed out under two ids.
+//!
+//! A cell has a mark beside its word, which says that somebody sleeps until it fires. No contract
+//! speaks of it.
 #![tactic(auto)]
 
 mod book;
@@ -25,6 +29,6 @@ mod tests;
 mod watch;
 
 pub use book::{Book, open_book};
-pub use cell::{Moved, WatchCell, fire, open_cell};
+pub use cell::{Moved, WatchCell, fire, one_key_is_one_cell, open_cell};
 pub use front::Front;
 pub use watch::Watch;

@@ -1,5 +1,6 @@
 //! The rule of the book, and what each step tells.
 ghost use Rattle.std.specs.Prelude.{◌≡◌, None};
+ghost use Rattle.watch_word.specs.declared.event.Event.TheVariants.{Home};
 
 use crate::event::Event;
 use logbook::{Gain, Offer, Plain, Play, Rule, Seen, Word};
@@ -70,14 +71,14 @@ impl Play<Event, u64> for Look {
     ghost then = { Sees };
 }
 
-/// What a step asks for: nothing that depends on its caller.
+/// What a step asks for: the id of the cell that it brings home, if it does.
 impl Plain<u64, Event, u64> for Look {
     ghost use Rattle.std.specs.Prelude.{None};
     ghost use Rattle.watch_word.specs.declared.event.Event.TheVariants.{Home};
 
-    ghost ask = { λ key. Home key };
+    ghost ask = { λ id. Home 0 id };
 
-    ghost state = { λ key. None };
+    ghost state = { λ id. None };
 }
 
 /// A beginning of the log that was seen.
@@ -89,9 +90,9 @@ pub(crate) type BookWord = Word<Event, u64, Law>;
 /// An update that asks for nothing, which a step wants beside it.
 pub(crate) type Still = Offer<Event, u64, Law, Nothing>;
 
-/// An update for steps on this log.
-pub(crate) fn still(seen: &SeenLog) -> Still
-    ensures { (result.names ≡ seen.now.names) × (result.state ≡ None) }
+/// An update for steps on this log, one of which may bring home the cell of this id.
+pub(crate) fn still(seen: &SeenLog, id: u64) -> Still
+    ensures { (result.names ≡ seen.now.names) × (result.state ≡ None) × (result.ask ≡ Home 0 id) }
 {
-    seen.plain::<Nothing, u64, Look>(&0)
+    seen.plain::<Nothing, u64, Look>(&id)
 }

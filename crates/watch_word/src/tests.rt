@@ -37,7 +37,7 @@ fn found_in_turn(front: &Front, cell: &WatchCell, watch: &Watch) -> [bool; 3]
     let later = fire(front, cell, 3);
     let fired = watch.moved(front).fired;
     let _again = fire(&later, cell, 4);
-    [new, fired, watch.moved(&later).fired]
+    [new, fired, watch.moved(&front.joined(&later)).fired]
 }
 
 /// The same of a new cell.
@@ -78,6 +78,21 @@ fn other(alloc: Global) -> Result<(bool, u64, u64), AllocError> {
 fn a_firing_leaves_other_cells(rt: HostRuntime) -> Result<(), Fail> {
     let other = other(rt.alloc())?;
     assert!(rt; other == (false, 7, 8));
+    Ok(())
+}
+
+/// Whether a cell is attended before somebody says so, and after.
+fn attended(alloc: Global) -> Result<[bool; 2], AllocError> {
+    let (_front, cell, watch) = watched(alloc)?;
+    let before = cell.is_attended();
+    watch.attend();
+    Ok([before, cell.is_attended()])
+}
+
+#[test]
+fn a_cell_is_attended_once_somebody_says_so(rt: HostRuntime) -> Result<(), Fail> {
+    let attended = attended(rt.alloc())?;
+    assert!(rt; attended == [false, true]);
     Ok(())
 }
 

@@ -47,6 +47,11 @@ impl Watch {
         self.cell.id()
     }
 
+    /// Says that somebody is about to sleep until the cell fires, who looks once more before.
+    pub fn attend(&self) {
+        self.cell.attend();
+    }
+
     /// Looks whether the cell has fired, which is so exactly where the front given back has it. It
     /// takes no memory and waits for nobody.
     pub fn moved(&self, front: &Front) -> Moved

@@ -15,7 +15,7 @@ use Rattle.client_script.specs.declared.command.Command.TheVariants as command
 use Rattle.client_script.specs.declared.line.Line.{Line}
 use Rattle.client_session.specs.Answered.{AreRising, IsLater, IsUntold, commit_at}
 use Rattle.client_session.specs.declared.desk.Desk.{Desk}
-use Rattle.client_session.specs.Steps.{HasNotLost}
+use Rattle.client_session.specs.Steps.{HasDoneOnce}
 use Rattle.client_session.specs.inner.DeskView.{Follows, IsHeldUp, LooksAndReplies}
 use Rattle.client_session.specs.inner.OpenView.{caller_of}
 
@@ -28,7 +28,7 @@ pub record AnswersLine (l : Line) (old new : Desk) (before after : Bytes) : Type
 -- the same of a step; where the line wasn't answered, nothing was added
 abbrev pub StepsLine : ℕ → Line → Desk → Desk → Bytes → Bytes → Result Bool AllocError → Type 0
 StepsLine callers l old new before after (Ok true) = AnswersLine l old new before after
-    × HasNotLost l.command (caller_of old.«open») (caller_of new.«open»)
+    × HasDoneOnce l.command (caller_of old.«open») (caller_of new.«open»)
 StepsLine callers l old new before after (Ok false) = IsHeldUp callers l.command old new
     × (after ≡ before)
 StepsLine callers l old new before after (Err e) = ⊤

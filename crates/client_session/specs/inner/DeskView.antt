@@ -2,6 +2,7 @@
 use Rattle.std.specs.Prelude.{◌≡◌, ◌≤◌, ℕ, Option, Some, None, length, option_map, Ok, ⊤}
 use Rattle.std.specs.BTreeMap.{get_by_text}
 use Rattle.mdb_datum.specs.Bytes.{Bytes}
+use Rattle.mem_txn.specs.Checked.{LooksOnce}
 use Rattle.mem_txn.specs.Database.{Caller, View, cells_seen}
 use Rattle.mem_txn.specs.Transactions.{HasLost}
 use Rattle.client_script.specs.inner.Within.{IsWithin}
@@ -13,7 +14,7 @@ use Rattle.client_script.specs.Session.{Answers}
 use Rattle.client_script.specs.Turn.{snapshot_reply}
 use Rattle.client_script.specs.declared.command.Command.{Command}
 use Rattle.client_script.specs.declared.command.Command.TheVariants as command
-use Rattle.client_session.specs.Steps.{HasNotLost, HasStayedQuiet}
+use Rattle.client_session.specs.Steps.{HasDoneOnce, HasStayedQuiet, IsOneLook}
 use Rattle.client_session.specs.declared.desk.Desk.{Desk}
 use Rattle.client_session.specs.declared.kept.Kept.{Kept}
 use Rattle.client_session.specs.declared.kept.Kept.TheVariants as kept
@@ -82,9 +83,10 @@ pub record LooksAndReplies (c : Command) (old new : Desk) (r : Reply) : Type 0 w
   pub replied : (v : Client) → Follows old v → Follows at v → Replied c at new r v
   pub loads : (v : Client) → Follows at v → AreAmong (count_told r) looks.read
 
--- a wait has found all quiet, and nothing else was done
+-- a wait has found all quiet in one look, and nothing else was done
 pub record IsWaiting (c : Command) (old new : Desk) : Type 0 where
   pub looks : Looks old.open new.open
+  pub look : LooksOnce (caller_of old.open) (caller_of new.open)
   pub tries : (caller_of new.open).tries ≡ (caller_of old.open).tries
   pub snapshots : new.snapshots ≡ old.snapshots
   pub watching : new.watching ≡ old.watching
@@ -92,9 +94,10 @@ pub record IsWaiting (c : Command) (old new : Desk) : Type 0 where
       → HasStayedQuiet (caller_of old.open) (caller_of new.open) v c
 
 -- one look at what a line waits for; it gives no reply where all is quiet
-abbrev pub LooksOnce : Command → Desk → Desk → Option Reply → Type 0
-LooksOnce c old new (Some r) = LooksAndReplies c old new r
-LooksOnce c old new None = IsWaiting c old new
+abbrev pub AnswersOnce : Command → Desk → Desk → Option Reply → Type 0
+AnswersOnce c old new (Some r) =
+    LooksAndReplies c old new r × IsOneLook (caller_of old.open) (caller_of new.open)
+AnswersOnce c old new None = IsWaiting c old new
 
 -- why a line is held up: at `write` another has the writer's turn, as its one try has found; else a
 -- wait has found all quiet
@@ -113,7 +116,7 @@ pub record IsHeldUp (callers : ℕ) (c : Command) (old new : Desk) : Type 0 wher
 -- a step's reply; it gives none where the line is still to do
 abbrev pub StepsTo : ℕ → Command → Desk → Desk → Option Reply → Type 0
 StepsTo callers c old new (Some r) =
-    LooksAndReplies c old new r × HasNotLost c (caller_of old.open) (caller_of new.open)
+    LooksAndReplies c old new r × HasDoneOnce c (caller_of old.open) (caller_of new.open)
 StepsTo callers c old new None = IsHeldUp callers c old new
 
 -- a command that looks at the commits that there are by then: a check or a wait

@@ -1,5 +1,5 @@
 -- What is open, as the definitions of sessions see it.
-use Rattle.std.specs.Prelude.{◌≡◌, ◌≤◌, ◌+◌, ◌++◌, ℕ, false, List, [], ◌∷◌, Option, Some, None, length, map, ⊤}
+use Rattle.std.specs.Prelude.{◌≡◌, ◌≤◌, ◌+◌, ◌++◌, ℕ, Bool, true, false, List, [], ◌∷◌, Option, Some, None, length, map, ⊤}
 use Rattle.std.specs.List.{enumerate_from}
 use Rattle.client_session.specs.Counts.{AreAmong, count_told}
 use Rattle.client_script.specs.Legal.{callers, number_printed}
@@ -14,8 +14,9 @@ use Rattle.client_script.specs.Reply.{Reply, committed}
 use Rattle.client_script.specs.Spent.{IsTold}
 use Rattle.client_script.specs.declared.command.Command.{Command}
 use Rattle.client_script.specs.declared.command.Command.TheVariants as command
+use Rattle.watch_word.specs.Logs as logs
 use Rattle.client_session.specs.Answered.{IsLater}
-use Rattle.client_session.specs.Steps.{HasNotLost}
+use Rattle.client_session.specs.Steps.{HasDoneOnce}
 use Rattle.client_session.specs.declared.open.Open.{Open}
 use Rattle.client_session.specs.declared.open.Open.TheVariants as opens
 
@@ -33,6 +34,14 @@ transaction_of (opens.Writing txn) = writing (record {
   writes = (changes_of txn).writes;
   texts = items_of txn;
 })
+
+-- whether it is a write transaction
+abbrev pub writes : Transaction → Bool
+writes (writing t) = true
+writes t = false
+
+abbrev pub is_writing : Open → Bool
+is_writing o = writes (transaction_of o)
 
 -- what is read is the state after commits that a caller has seen
 abbrev pub WasRead : Caller → Reading → Type 0
@@ -57,13 +66,17 @@ made caller (writing t) (committed m texts) =
     record { caller = caller; writes = t.writes } ∷ []
 made caller t r = []
 
--- the caller has made the commit that the reply tells, and seen no other; the trees after it follow
+-- the caller has made the commit that the reply tells, and seen no other; the trees after it follow,
+-- and it may have seen more of the log
 abbrev pub Grows : Caller → Caller → Transaction → Reply → Type 0
-Grows old new t r = (trees : List Forest) × (new ≡ record old {
-  seen = old.seen ++ made old.number t r;
-  trees = old.trees ++ trees;
-  own = old.own ++ made old.number t r;
-})
+Grows old new t r =
+    (trees : List Forest) × (new ≡ record old {
+      seen = old.seen ++ made old.number t r;
+      trees = old.trees ++ trees;
+      own = old.own ++ made old.number t r;
+      log = new.log;
+    })
+    × logs.IsLater old.log new.log
 
 -- a commit that is told has the next number
 abbrev pub IsNumbered : Caller → Transaction → Reply → Type 0
@@ -124,5 +137,5 @@ pub record LooksAndTurns (c : Command) (old new : Open) (r : Reply) : Type 0 whe
 -- a `write` that makes one try; it gives no reply where that found another's number
 abbrev pub TriesWrite : ℕ → Open → Open → Option Reply → Type 0
 TriesWrite callers old new (Some r) =
-    LooksAndTurns command.Write old new r × HasNotLost command.Write (caller_of old) (caller_of new)
+    LooksAndTurns command.Write old new r × HasDoneOnce command.Write (caller_of old) (caller_of new)
 TriesWrite callers old new None = Looks old new × HasLost callers (caller_of old) (caller_of new)

@@ -1,5 +1,5 @@
 -- How the logic stores what contracts see of a session.
-use Rattle.std.specs.Prelude.{◌≡◌, ◌≤◌, ◌<◌, ℕ, Bool, false, List, Option, Some, None, IsSome, length, take, refl}
+use Rattle.std.specs.Prelude.{◌≡◌, ◌≤◌, ◌<◌, ℕ, Bool, true, false, List, Option, Some, None, IsSome, length, take, refl}
 use Rattle.std.specs.Coded.{Coded, code_by, coded×, coded_ℕ, coded_bool, coded_list}
 use Rattle.mdb_datum.specs.Bytes.{Bytes}
 use Rattle.mem_txn.specs.Database.{Caller, cells_seen}
@@ -12,23 +12,24 @@ use Rattle.client_session.specs.Cells.{RunsByCells}
 use Rattle.client_session.specs.Progress.{Progress}
 use Rattle.client_session.specs.declared.desk.Desk.{Desk}
 use Rattle.client_session.specs.inner.DeskView.{Follows}
-use Rattle.client_session.specs.inner.OpenView.{caller_of}
+use Rattle.client_session.specs.inner.OpenView.{caller_of, is_writing}
 
 abbrev pub Parts : Type 0
-Parts = ℕ × (List Line × (Caller × (ℕ × (Bytes × Bool))))
+Parts = ℕ × (List Line × (Caller × (ℕ × (Bytes × (Bool × Bool)))))
 
 abbrev pub progress_code : Coded Progress
 progress_code = code_by Parts
     (coded× coded_ℕ (coded× script_code (coded× caller_code
-    (coded× coded_ℕ (coded× (coded_list coded_ℕ) coded_bool)))))
-    (λ s. (s.client, (s.script, (s.caller, (s.answered, (s.text, s.failed))))))
+    (coded× coded_ℕ (coded× (coded_list coded_ℕ) (coded× coded_bool coded_bool))))))
+    (λ s. (s.client, (s.script, (s.caller, (s.answered, (s.text, (s.writing, s.failed)))))))
     (λ p. record {
       client = p.0;
       script = p.1.0;
       caller = p.1.1.0;
       answered = p.1.1.1.0;
       text = p.1.1.1.1.0;
-      failed = p.1.1.1.1.1;
+      writing = p.1.1.1.1.1.0;
+      failed = p.1.1.1.1.1.1;
     })
     (λ _. refl)
 
@@ -37,8 +38,14 @@ abbrev pub caller_in : Option Desk → Caller
 caller_in None = no_caller
 caller_in (Some d) = caller_of d.«open»
 
+-- whether a write transaction is open on the desk
+abbrev pub writing_in : Option Desk → Bool
+writing_in None = false
+writing_in (Some d) = is_writing d.«open»
+
 -- The desk is there. The lines that are answered have replies whose text is kept, and while there
--- are more, the desk has what the client knows after these replies.
+-- are more, the desk has what the client knows after these replies. After want of memory nothing is
+-- open.
 pub record HasDone (script : List Line) (desk : Option Desk) (answered : ℕ) (text : Bytes)
     (failed : Bool) : Type 0 where
   pub here : IsSome desk
@@ -50,6 +57,7 @@ pub record HasDone (script : List Line) (desk : Option Desk) (answered : ℕ) (t
   pub written : text ≡ lines_text (take answered script) replies
   pub follows : failed ≡ false → answered < length script → (d : Desk) → desk ≡ Some d
       → Follows d client
+  pub closed : failed ≡ true → writing_in desk ≡ false
 
 -- memory was always found, and a line is left
 abbrev pub IsUnfinished : Progress → Type 0

@@ -4,10 +4,10 @@ use Rattle.std.specs.Prelude.{Contains, Option, Some, None, Ok, length, map, opt
 use Rattle.std.specs.BTreeMap.{get_by_text}
 use Rattle.mdb_datum.specs.Bytes.{Bytes}
 use Rattle.mdb_schema.specs.Query.{Query}
-use Rattle.mem_txn.specs.Checked.{IsHeldBy}
+use Rattle.mem_txn.specs.Checked.{IsHeldBy, LooksOnce}
 use Rattle.mem_txn.specs.Database.{Caller, Reading, cells_seen}
 use Rattle.mem_txn.specs.Held.{HeldWatch}
-use Rattle.watch_set.specs.Members.{AreDistinct, AreHeldBy, Member, cell_name, has_cell, watches_of}
+use Rattle.watch_set.specs.Members.{AreDistinct, AreHeldBy, Member, cell_id, has_cell, watches_of}
 use Rattle.client_script.specs.Client as client
 use Rattle.client_script.specs.Client.{Client, Sight, Watch, WatchSet, no_write_open, set_named, watch_named}
 use Rattle.client_script.specs.Reply.{Reply}
@@ -18,7 +18,7 @@ use Rattle.client_script.specs.declared.command.Command.TheVariants as command
 use Rattle.client_session.specs.Answered.{IsLater}
 use Rattle.client_session.specs.Cells.{TellsCells}
 use Rattle.client_session.specs.Counts.{AreAmong, count_told}
-use Rattle.client_session.specs.Steps.{HasStayedQuiet}
+use Rattle.client_session.specs.Steps.{HasStayedQuiet, IsOneLook}
 use Rattle.client_session.specs.declared.watching.Watching.{Watching}
 use Rattle.client_session.specs.inner.OpenView.{WasRead}
 
@@ -50,7 +50,7 @@ pub record HasCellOf (p : Caller) (ms : List Member) (w : Watch) : Type 0 where
   pub of : IsHeldBy p held
   pub query : held.query ≡ w.query
   pub number : held.number ≡ w.number
-  pub cell : has_cell (cell_name held) ms ≡ true
+  pub cell : has_cell (cell_id held) ms ≡ true
 
 -- a set has the members that the client knows of, which were added to it, and the cell of each
 -- watch that ever was
@@ -134,7 +134,8 @@ abbrev pub wait_for : Bytes → Option Bytes → Command
 wait_for set None = command.Wait set
 wait_for set (Some until) = command.WaitUntil set until
 
--- one look at all that a line waits for: it is told so, or all were quiet
+-- one look at all that a line waits for, if it is looked at: it is told so, or all were quiet
 abbrev pub TellsOnce : Watching → Command → Caller → Caller → Option Reply → Type 0
-TellsOnce g c old new (Some r) = TellsLook g c old new r
-TellsOnce g c old new None = (v : Client) → MayLook old g v → HasStayedQuiet old new v c
+TellsOnce g c old new (Some r) = IsOneLook old new × TellsLook g c old new r
+TellsOnce g c old new None =
+    LooksOnce old new × ((v : Client) → MayLook old g v → HasStayedQuiet old new v c)

@@ -58,6 +58,21 @@ static BLOCKED: Pair = Pair {
     commits: 1,
 };
 
+/// What is open when no line is left is aborted, and so the other's `write` is blocked no longer.
+static ABORTED: Pair = Pair {
+    first: "write\ninsert notes {\"name\":\"a\"}\n",
+    second: "write\ncommit\n",
+    turns: &[
+        (false, 2, Stepped::Answered { line: 2 }),
+        (true, 1, Stepped::Blocked { line: 1 }),
+        (false, 1, Stepped::Ended),
+        (true, 2, Stepped::Answered { line: 2 }),
+    ],
+    first_told: "1: write @0\n2: inserted\n",
+    second_told: "1: write @0\n2: commit @1\n",
+    commits: 1,
+};
+
 /// A wait is blocked till the other's commit fires what it waits for.
 static WOKEN: Pair = Pair {
     first: "read\nwatch w first notes id [\"n\"]\nend\nadd s w\nwait s\n",
@@ -153,6 +168,18 @@ impl Duo {
         Ok(true)
     }
 
+    /// Whether the second caller's first line is answered once the first takes no further step: no
+    /// line is left, or it found no memory.
+    fn is_free_then<R: Wait>(&mut self, rt: &R) -> Told {
+        for _ in 0..4 {
+            match self.one.step(rt, &self.db) {
+                Ok(Stepped::Ended) | Err(_) => break,
+                Ok(_) => {}
+            }
+        }
+        Ok(self.two.step(rt, &self.db)? == Stepped::Answered { line: 1 })
+    }
+
     /// Whether each caller has its answers.
     fn have_told(&self, pair: &Pair) -> bool {
         self.one.answers() == pair.first_told.as_bytes()
@@ -195,6 +222,27 @@ fn two_callers_see_each_other(rt: HostRuntime) -> Result<(), Fail> {
 #[test]
 fn a_write_is_blocked_while_another_writes(rt: HostRuntime) -> Result<(), Fail> {
     assert!(rt; holds(&rt, rt.alloc(), &BLOCKED)?);
+    Ok(())
+}
+
+#[test]
+fn what_is_open_at_the_end_is_aborted(rt: HostRuntime) -> Result<(), Fail> {
+    assert!(rt; holds(&rt, rt.alloc(), &ABORTED)?);
+    Ok(())
+}
+
+/// Whether the second caller of a new database can write behind the first.
+fn is_free<R: Wait>(rt: &R, alloc: Global) -> Told {
+    let mut duo = Duo::opened(alloc, &ABORTED)?;
+    let free = duo.is_free_then(rt);
+    duo.close(rt);
+    free
+}
+
+// With one allocation refused, the first caller may find no memory at any of its lines.
+#[test]
+fn no_turn_is_kept_after_the_last_step(rt: HostRuntime) -> Result<(), Fail> {
+    assert!(rt; is_free(&rt, rt.alloc())?);
     Ok(())
 }
 

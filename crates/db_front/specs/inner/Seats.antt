@@ -43,9 +43,9 @@ module _ {V : Type 0} where
   abbrev pub IsSame : Spot V → Spot V → Type 0
   IsSame s t = (t.table_id ≡ s.table_id) × (t.id ≡ s.id)
 
-  -- what callers see of a seat
-  abbrev pub known_of : Spot V → ℕ → Known V
-  known_of s number = record {
+  -- what callers see of a seat, with the log that is kept beside it
+  abbrev pub known_of : Spot V → ℕ → Log → Known V
+  known_of s number log = record {
     table = (s.table_id, s.me.0.callers);
     number = number;
     seen = s.me.0.seen;
@@ -53,6 +53,7 @@ module _ {V : Type 0} where
     counts = s.me.0.counts;
     tries = s.me.0.tries;
     stage = s.me.0.stage;
+    log = log;
   }
 
   abbrev pub hand_of : Known V → Hand V

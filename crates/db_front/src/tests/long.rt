@@ -1,7 +1,8 @@
-//! Four callers at work at the same time for a while, and a reader that keeps a value for long.
+//! Four callers at work at the same time for a while, as writers and as readers, and a reader that
+//! keeps a value for long.
 ghost use Rattle.std.specs.Prelude.{◌≡◌};
 
-use super::{Duo, Entry, Roll, commit, commits_below, in_order, numbers, opened};
+use super::{Duo, Entry, Roll, commit, commits_below, in_order, opened};
 use crate::{Pass, Passes, Shared, Shown};
 use std::alloc::{AllocError, Global};
 use std::marker::Model;
@@ -79,26 +80,54 @@ fn is_over<C: Clock>(clock: &C, start: Instant) -> bool {
     }
 }
 
-/// Looks and commits until the time is over. It gives the number of the caller's commits.
+/// The number of commits that a look shows, where the value has as many entries and an earlier look
+/// hasn't shown more.
+fn seen_after<R: Wait>(
+    rt: &R,
+    shared: &Shared<Roll>,
+    pass: &mut Pass<Roll>,
+    earlier: u64,
+) -> Result<Option<u64>, AllocError>
+    requires { pass.old.table ≡ shared.now.table }
+    ensures { (pass.new.table ≡ pass.old.table) × (pass.new.stage ≡ pass.old.stage)
+        × (pass.new.number ≡ pass.old.number) }
+{
+    let Shown { value, number, .. } = shared.look(rt, pass)?;
+    if number >= earlier && value.entries.len() as u64 == number {
+        Ok(Some(number))
+    } else {
+        Ok(None)
+    }
+}
+
+/// Looks until the time is over; a writer, which is a caller up to that number, commits after each
+/// look. It gives the number of the caller's commits, where what it saw was in order.
 fn at_work<R: Wait + Clock>(
     rt: &R,
     alloc: Global,
     shared: &Shared<Roll>,
     pass: &mut Pass<Roll>,
     caller: u64,
+    writers: u64,
     start: Instant,
-) -> Result<u64, AllocError>
+) -> Result<Option<u64>, AllocError>
     requires { (pass.old.table ≡ shared.now.table) × (pass.old.stage ≡ 0) }
     ensures { (pass.new.table ≡ pass.old.table) × (pass.new.stage ≡ 0)
         × (pass.new.number ≡ pass.old.number) }
 {
-    let mut own = 0;
-    while own < 100_000 && !is_over(rt, start) {
-        own += 1;
-        numbers(rt, shared, pass)?;
-        commit(rt, alloc, shared, pass, Entry { caller, own })?;
+    let mut looks = 0;
+    let mut seen = 0;
+    while looks < 100_000 && !is_over(rt, start) {
+        looks += 1;
+        let Some(number) = seen_after(rt, shared, pass, seen)? else {
+            return Ok(None);
+        };
+        seen = number;
+        if caller <= writers {
+            commit(rt, alloc, shared, pass, Entry { caller, own: looks })?;
+        }
     }
-    Ok(own)
+    Ok(Some(if caller <= writers { looks } else { 0 }))
 }
 
 /// Two callers at work on two threads, of which the first has that number and the second the next.
@@ -109,8 +138,9 @@ fn pair_at_work<R: Threads + Wait + Clock + Sync>(
     one: &mut Pass<Roll>,
     two: &mut Pass<Roll>,
     callers: [u64; 2],
+    writers: u64,
     start: Instant,
-) -> Result<[u64; 2], AllocError>
+) -> Result<[Option<u64>; 2], AllocError>
     requires one { (one.old.table ≡ shared.now.table) × (one.old.stage ≡ 0) }
     requires two { (two.old.table ≡ shared.now.table) × (two.old.stage ≡ 0) }
     ensures one { (one.new.table ≡ one.old.table) × (one.new.stage ≡ 0)
@@ -121,21 +151,21 @@ fn pair_at_work<R: Threads + Wait + Clock + Sync>(
     let [first, second] = callers;
     let (made_first, made_second) = join_mut(
         rt,
-        &mut || -> Result<u64, AllocError>
+        &mut || -> Result<Option<u64>, AllocError>
             requires { (one.now.table ≡ shared.now.table) × (one.now.stage ≡ 0) }
             ensures { (one.exit.now.table ≡ one.entry.now.table) × (one.exit.now.stage ≡ 0)
                 × (one.exit.now.number ≡ one.entry.now.number) }
-        { at_work(rt, alloc, shared, one, first, start) },
-        &mut || -> Result<u64, AllocError>
+        { at_work(rt, alloc, shared, one, first, writers, start) },
+        &mut || -> Result<Option<u64>, AllocError>
             requires { (two.now.table ≡ shared.now.table) × (two.now.stage ≡ 0) }
             ensures { (two.exit.now.table ≡ two.entry.now.table) × (two.exit.now.stage ≡ 0)
                 × (two.exit.now.number ≡ two.entry.now.number) }
-        { at_work(rt, alloc, shared, two, second, start) },
+        { at_work(rt, alloc, shared, two, second, writers, start) },
     );
     Ok([made_first?, made_second?])
 }
 
-/// Four callers at work on four threads. It gives the numbers of their commits.
+/// Four callers at work on four threads. It gives what `at_work` gives of each.
 fn four_at_work<R: Threads + Wait + Clock + Sync>(
     rt: &R,
     alloc: Global,
@@ -144,8 +174,9 @@ fn four_at_work<R: Threads + Wait + Clock + Sync>(
     two: &mut Pass<Roll>,
     three: &mut Pass<Roll>,
     four: &mut Pass<Roll>,
+    writers: u64,
     start: Instant,
-) -> Result<[[u64; 2]; 2], AllocError>
+) -> Result<[[Option<u64>; 2]; 2], AllocError>
     requires one { (one.old.table ≡ shared.now.table) × (one.old.stage ≡ 0) }
     requires two { (two.old.table ≡ shared.now.table) × (two.old.stage ≡ 0) }
     requires three { (three.old.table ≡ shared.now.table) × (three.old.stage ≡ 0) }
@@ -161,15 +192,15 @@ fn four_at_work<R: Threads + Wait + Clock + Sync>(
 {
     let (lower, upper) = join_mut(
         rt,
-        &mut || -> Result<[u64; 2], AllocError>
+        &mut || -> Result<[Option<u64>; 2], AllocError>
             requires one { (one.now.table ≡ shared.now.table) × (one.now.stage ≡ 0) }
             requires two { (two.now.table ≡ shared.now.table) × (two.now.stage ≡ 0) }
             ensures one { (one.exit.now.table ≡ one.entry.now.table) × (one.exit.now.stage ≡ 0)
                 × (one.exit.now.number ≡ one.entry.now.number) }
             ensures two { (two.exit.now.table ≡ two.entry.now.table) × (two.exit.now.stage ≡ 0)
                 × (two.exit.now.number ≡ two.entry.now.number) }
-        { pair_at_work(rt, alloc, shared, one, two, [1, 2], start) },
-        &mut || -> Result<[u64; 2], AllocError>
+        { pair_at_work(rt, alloc, shared, one, two, [1, 2], writers, start) },
+        &mut || -> Result<[Option<u64>; 2], AllocError>
             requires three { (three.now.table ≡ shared.now.table) × (three.now.stage ≡ 0) }
             requires four { (four.now.table ≡ shared.now.table) × (four.now.stage ≡ 0) }
             ensures three { (three.exit.now.table ≡ three.entry.now.table)
@@ -178,17 +209,18 @@ fn four_at_work<R: Threads + Wait + Clock + Sync>(
             ensures four { (four.exit.now.table ≡ four.entry.now.table)
                 × (four.exit.now.stage ≡ 0)
                 × (four.exit.now.number ≡ four.entry.now.number) }
-        { pair_at_work(rt, alloc, shared, three, four, [3, 4], start) },
+        { pair_at_work(rt, alloc, shared, three, four, [3, 4], writers, start) },
     );
     Ok([lower?, upper?])
 }
 
-/// The last value of a front on which four callers were at work, with the numbers of their commits.
+/// Whether the last value of a front on which four callers were at work has just their commits.
 fn after_four<R: Threads + Wait + Clock + Sync>(
     rt: &R,
     alloc: Global,
+    writers: u64,
     start: Instant,
-) -> Result<([[u64; 2]; 2], Shown<Roll>), AllocError> {
+) -> Result<bool, AllocError> {
     let mut f = Four::opened(alloc)?;
     let made = four_at_work(
         rt,
@@ -198,35 +230,43 @@ fn after_four<R: Threads + Wait + Clock + Sync>(
         &mut f.two,
         &mut f.three,
         &mut f.four,
+        writers,
         start,
     );
     let last = f.end(rt);
     match made {
-        Ok(made) => Ok((made, last)),
+        Ok(made) => Ok(has_all(&last, &made)),
         Err(e) => Err(e),
     }
 }
 
 /// Whether the last value has just these commits of each caller, each caller's in order.
-fn has_all(last: &Shown<Roll>, made: &[[u64; 2]; 2]) -> bool {
+fn has_all(last: &Shown<Roll>, made: &[[Option<u64>; 2]; 2]) -> bool {
     let entries = last.value.entries.as_slice();
     let [[one, two], [three, four]] = *made;
     let all = one
-        .saturating_add(two)
-        .saturating_add(three)
-        .saturating_add(four);
+        .unwrap_or(0)
+        .saturating_add(two.unwrap_or(0))
+        .saturating_add(three.unwrap_or(0))
+        .saturating_add(four.unwrap_or(0));
     last.number == all
-        && in_order(entries, 1) == Some(one)
-        && in_order(entries, 2) == Some(two)
-        && in_order(entries, 3) == Some(three)
-        && in_order(entries, 4) == Some(four)
+        && in_order(entries, 1) == one
+        && in_order(entries, 2) == two
+        && in_order(entries, 3) == three
+        && in_order(entries, 4) == four
 }
 
 #[test]
 fn the_commits_of_four_threads_join_in_one_list(rt: HostRuntime) -> Result<(), Fail> {
     let start = Instant::now(&rt)?;
-    let (made, last) = after_four(&rt, rt.alloc(), start)?;
-    assert!(rt; has_all(&last, &made));
+    assert!(rt; after_four(&rt, rt.alloc(), 4, start)?);
+    Ok(())
+}
+
+#[test]
+fn three_readers_see_the_values_of_one_writer_in_order(rt: HostRuntime) -> Result<(), Fail> {
+    let start = Instant::now(&rt)?;
+    assert!(rt; after_four(&rt, rt.alloc(), 1, start)?);
     Ok(())
 }
 

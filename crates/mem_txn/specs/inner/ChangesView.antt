@@ -12,7 +12,7 @@ use Rattle.mem_txn.specs.Database.{state_seen, view_seen}
 use Rattle.mem_txn.specs.declared.changes.Changes.TheInside as changes
 use Rattle.mem_txn.specs.declared.txn_table.TxnTable.TheInside as txn_table
 use Rattle.mem_txn.specs.inner.Steps.{tables_of}
-use Rattle.mem_txn.specs.inner.VersionTables.{AreChangesOf, AreWithin, StandFor, unwritten}
+use Rattle.mem_txn.specs.inner.VersionTables.{AreChangesOf, AreAllWithin, StandFor, unwritten}
 use Rattle.mem_txn.specs.inner.Values.{AreFew}
 use Rattle.mem_txn.specs.inner.Versions.{Turned}
 
@@ -36,7 +36,7 @@ pub record AreCounted (turn : Turned) (own : ℕ) (ids : Counter) : Type 0 where
 -- the value is the state after all commits, in trees that hold its rows and whose cells were drawn
 pub record IsBase (turn : Turned) : Type 0 where
   pub view : let v = turn.base in v.view ≡ view_seen turn.caller
-  pub within : let v = turn.base in All (AreWithin v.ids) v.trees
+  pub within : let v = turn.base in AreAllWithin v.ids v.trees
   pub held : All HoldsRows (tables_of turn.base)
 
 -- the tables of a transaction with these writes began with those of its database's last value

@@ -3,7 +3,7 @@ use Rattle.std.specs.Prelude.{◌≡◌, ◌⊎◌, ◌+◌, ◌^◌, ◌<◌, A
 use Rattle.mdb_schema.specs.History.{after_writes, writes_in}
 use Rattle.mem_txn.specs.Changes.{Changes, after_commit, begun}
 use Rattle.table_index.specs.Watched.{HoldsRows}
-use Rattle.watch_word.specs.Logs.{Cell, Log}
+use Rattle.watch_word.specs.Logs.{Cell, IsLater, Log}
 use Rattle.mem_txn.specs.CellHistory.{Forest, HasFirings}
 use Rattle.mem_txn.specs.Database.{Caller, cells_seen, state_seen}
 use Rattle.mem_txn.specs.Transactions.{TellsChanges, changes_of, items_of}
@@ -12,7 +12,7 @@ use Rattle.mem_txn.specs.declared.outcome.CommitRefused.{CommitRefused}
 use Rattle.mem_txn.specs.declared.txn_error.BeginError.TheVariants as begin_errors
 use Rattle.mem_txn.specs.declared.txn_error.CommitError.TheVariants.{Memory, Spoiled}
 use Rattle.mem_txn.specs.declared.write_txn.WriteTxn.{WriteTxn}
-use Rattle.mem_txn.specs.inner.VersionTables.{AreWithin}
+use Rattle.mem_txn.specs.inner.VersionTables.{AreAllWithin}
 use Rattle.mem_txn.specs.inner.Firing.{AreGone, cells_told}
 use Rattle.mem_txn.specs.inner.Steps.{IsStep, tables_of}
 use Rattle.mem_txn.specs.inner.Values.{AreFew, Version}
@@ -37,7 +37,7 @@ pub record IsNext (p : Turned) (v : Version) : Type 0 where
     number = length p.caller.seen + 1;
     state = after_writes p.caller.schema (state_seen p.caller) v.writes;
   }
-  pub within : All (AreWithin v.ids) v.trees
+  pub within : AreAllWithin v.ids v.trees
   pub held : All HoldsRows (tables_of v)
   pub step : IsStep p.base v
   pub few : AreFew (writes_in p.caller.seen + length v.writes) v.ids
@@ -50,10 +50,12 @@ pub record IsNextOf (t : Changes) (turn : Turned) (v : Version) (gone : List (Li
   pub next : IsNext turn v
   pub told : AreGone turn.base.trees v.trees (cells_told gone)
 
--- the pass has made the commit, and the log has all that the commits up to it fire
+-- the pass has made the commit, and the log, which it then has seen, has all that the commits up to
+-- it fire
 pub record IsShown (t : Changes) (made : Caller × Log) : Type 0 where
   pub trees : Forest
-  pub pass : made.0 ≡ after_commit t trees
+  pub pass : made.0 ≡ after_commit t trees made.1
+  pub later : IsLater t.caller.log made.1
   pub book : made.1.book ≡ made.0.book
   pub fired : HasFirings (cells_seen made.0) (length made.0.seen) made.1
   pub told : TellsChanges (cells_seen made.0) made.1

@@ -11,7 +11,7 @@ use Rattle.table_index.specs.Written.{EachKept, IsKeyOf}
 use Rattle.watch_word.specs.Logs.{Cell, Log, has_fired}
 use Rattle.mem_txn.specs.CellHistory.{FiresIn, Forest}
 use Rattle.mem_txn.specs.Database.{view_after}
-use Rattle.mem_txn.specs.inner.VersionTables.{AreOpened, AreWithin}
+use Rattle.mem_txn.specs.inner.VersionTables.{AreOpened, AreAllWithin}
 use Rattle.mem_txn.specs.inner.Values.{IsBookOf, Version, Versions, history_in, schema_in}
 
 -- a table becomes another by writes of full keys of these rows
@@ -42,15 +42,16 @@ pub record IsStep (old new : Version) : Type 0 where
       (rows_written old.view.schema old.view.state new.writes) (tables_of old) (tables_of new)
   pub book : new.ids.book ≡ old.ids.book
   pub later : old.ids.next ≤ new.ids.next
-  -- each table of the schema had its trees, and there were no others
+  -- each table of the schema had its trees, and there were no others; so it is now
   pub planted : let v = old.view in length old.trees ≡ length v.schema
+  pub planted_now : let v = new.view in length new.trees ≡ length v.schema
 
 -- each value of a list is the state after the commits before it, in trees that hold its rows, and
 -- what its writes make of the value before it
 pub record AreSteps (h : Versions) : Type 0 where
   pub views : (n : ℕ) (e : ℕ × Version) → slice_get h n ≡ Some e
       → e.1.view ≡ view_after (schema_in h) (take n (history_in h))
-  pub within : (n : ℕ) (e : ℕ × Version) → slice_get h n ≡ Some e → All (AreWithin e.1.ids) e.1.trees
+  pub within : (n : ℕ) (e : ℕ × Version) → slice_get h n ≡ Some e → AreAllWithin e.1.ids e.1.trees
   pub held : (n : ℕ) (e : ℕ × Version) → slice_get h n ≡ Some e → All HoldsRows (tables_of e.1)
   pub books : (n : ℕ) (e : ℕ × Version) → slice_get h n ≡ Some e → IsBookOf h e.1.ids.book
   pub steps : (n : ℕ) (e f : ℕ × Version) → slice_get h n ≡ Some e → slice_get h (suc n) ≡ Some f

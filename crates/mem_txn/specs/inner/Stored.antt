@@ -16,6 +16,7 @@ use Rattle.mdb_schema.specs.inner.StoredQuery.{rows_code}
 use Rattle.radix_node.specs.Ids.{Book, Counter}
 use Rattle.table_index.specs.Table.{TableChange}
 use Rattle.table_index.specs.inner.Stored.{table_change_code, trees_code}
+use Rattle.watch_word.specs.Logs.{Log}
 use Rattle.mem_txn.specs.Changes.{Changes}
 use Rattle.mem_txn.specs.CellHistory.{Forest}
 use Rattle.mem_txn.specs.Database.{Caller, Callers, Database, Reading, View}
@@ -62,16 +63,21 @@ counts_code = coded_list coded_ℕ
 abbrev pub forest_code : Coded Forest
 forest_code = coded_list trees_code
 
--- a caller's number and database, its commits with the trees, and its counts and tries
+-- a log's book, and the keys of the cells that have fired
+abbrev pub log_code : Coded Log
+log_code = code_by (Book × List ℕ) (coded× book_coded counts_code)
+    (λ l. (l.book, l.fired)) (λ p. record { book = p.0; fired = p.1 }) (λ _. refl)
+
+-- a caller's number and database, its commits with the trees, and its counts, tries and log
 abbrev pub CallerParts : Type 0
 CallerParts =
     (ℕ × (FrontId × (DbSchema × Book)))
-    × ((History × (History × List Forest)) × (List ℕ × List ℕ))
+    × ((History × (History × List Forest)) × (List ℕ × (List ℕ × Log)))
 
 abbrev pub caller_parts : Caller → CallerParts
 caller_parts c = (
   (c.number, (c.database, (c.schema, c.book))),
-  ((c.seen, (c.own, c.trees)), (c.counts, c.tries)),
+  ((c.seen, (c.own, c.trees)), (c.counts, (c.tries, c.log))),
 )
 
 abbrev pub caller_from : CallerParts → Caller
@@ -84,15 +90,19 @@ caller_from p = record {
   trees = p.1.0.1.1;
   own = p.1.0.1.0;
   counts = p.1.1.0;
-  tries = p.1.1.1;
+  tries = p.1.1.1.0;
+  log = p.1.1.1.1;
 }
 
 abbrev pub caller_code : Coded Caller
 caller_code = code_by CallerParts
     (coded× (coded× coded_ℕ (coded× front_coded (coded× schema_code book_coded)))
     (coded× (coded× history_code (coded× history_code (coded_list forest_code)))
-    (coded× counts_code counts_code)))
+    (coded× counts_code (coded× counts_code log_code))))
     caller_parts caller_from (λ _. refl)
+
+abbrev pub no_book : Book
+no_book = record { number = 0; log_name = 0; cells_name = 0 }
 
 -- a caller that is none
 abbrev pub no_caller : Caller
@@ -100,12 +110,13 @@ no_caller = record {
   number = 0;
   database = no_front;
   schema = [];
-  book = record { number = 0; log_name = 0; cells_name = 0 };
+  book = no_book;
   seen = [];
   trees = [];
   own = [];
   counts = [];
   tries = [];
+  log = record { book = no_book; fired = [] };
 }
 
 abbrev pub callers_code : Coded Callers
@@ -113,10 +124,11 @@ callers_code = code_by (List Caller × ℕ) (coded× (coded_list caller_code) co
     (λ c. (c.passes, c.made)) (λ p. record { passes = p.0; made = p.1 }) (λ _. refl)
 
 abbrev pub database_code : Coded Database
-database_code = code_by (FrontId × (ℕ × DbSchema))
-    (coded× front_coded (coded× coded_ℕ schema_code))
-    (λ d. (d.database, (d.callers, d.schema)))
-    (λ p. record { database = p.0; callers = p.1.0; schema = p.1.1 }) (λ _. refl)
+database_code = code_by ((FrontId × ℕ) × (DbSchema × Book))
+    (coded× (coded× front_coded coded_ℕ) (coded× schema_code book_coded))
+    (λ d. ((d.database, d.callers), (d.schema, d.book)))
+    (λ p. record { database = p.0.0; callers = p.0.1; schema = p.1.0; book = p.1.1 })
+    (λ _. refl)
 
 abbrev pub view_code : Coded View
 view_code = code_by (DbSchema × (ℕ × State)) (coded× schema_code (coded× coded_ℕ state_code))

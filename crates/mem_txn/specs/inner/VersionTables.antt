@@ -14,12 +14,13 @@ use Rattle.mdb_schema.specs.declared.answer.Answer.{Answer}
 use Rattle.mdb_schema.specs.declared.ask_error.AskError.{AskError}
 use Rattle.mdb_schema.specs.declared.write_error.WriteError.{WriteError}
 use Rattle.mdb_schema.specs.declared.write_error.WriteError.TheVariants.{IdsSpent, Memory}
-use Rattle.radix_node.specs.Cells.{CellTree}
+use Rattle.radix_node.specs.Cells.{AreApart, CellTree}
 use Rattle.radix_node.specs.Ids.{Counter}
 use Rattle.radix_txn.specs.Notice.{IsOpened}
-use Rattle.table_index.specs.Table.{AreAllBelow, AreAllOf, IsChanged, IsSpent, TableRows, TableChange}
+use Rattle.table_index.specs.Table.{AreAllBelow, AreAllOf, AreSeparate, IsChanged, IsSpent, TableRows, TableChange}
 use Rattle.table_index.specs.Written.{HasWritten, Writes}
-use Rattle.mem_txn.specs.CellHistory.{Forest}
+use Rattle.watch_word.specs.Logs.{Cell}
+use Rattle.mem_txn.specs.CellHistory.{Forest, IsCellIn}
 
 abbrev pub schemas_of : List TableRows → DbSchema
 schemas_of ts = map (λ (t : TableRows). t.schema) ts
@@ -55,10 +56,27 @@ pub record AreWithin (ids : Counter) (trees : List CellTree) : Type 0 where
   pub below : AreAllBelow ids.next trees
   pub of : AreAllOf ids.book trees
 
--- the same of a table that is being changed, before the change and now
+-- no two trees share an id: cells of one id are in the tree of one index of one table
+abbrev pub AreAllSeparate : Forest → Type 0
+AreAllSeparate forest =
+    (c d : Cell) (table table' index index' : ℕ) → IsCellIn forest table index c
+    → IsCellIn forest table' index' d → c.id ≡ d.id → (table ≡ table') × (index ≡ index')
+
+-- all cells of the trees of all tables have ids that were drawn, and no two cells have one
+pub record AreAllWithin (ids : Counter) (forest : Forest) : Type 0 where
+  pub within : All (AreWithin ids) forest
+  pub separate : AreAllSeparate forest
+  pub apart : All (All AreApart) forest
+
+-- the cells of a table that is being changed have ids that were drawn, before the change and now
 pub record IsWithin (ids : Counter) (t : TableChange) : Type 0 where
   pub start : AreWithin ids t.start
   pub trees : AreWithin ids t.trees
+
+-- the tables of a transaction so, of whose present trees no two share an id
+pub record AreChangesWithin (ids : Counter) (tables : List TableChange) : Type 0 where
+  pub within : All (IsWithin ids) tables
+  pub separate : AreAllSeparate (trees_of (map standing tables))
 
 -- in each tree of the one list a cell is one of the tree at its place in the other, or its id is at
 -- least this
@@ -66,6 +84,14 @@ abbrev pub AreOpened : ℕ → List CellTree → List CellTree → Type 0
 AreOpened first [] [] = ⊤
 AreOpened first (old ∷ olds) (new ∷ news) = IsOpened first old new × AreOpened first olds news
 AreOpened first olds news = ⊥
+
+-- what a write draws of the ids and leaves of a table's cells, whatever it is answered
+pub record Draws (ids ids' : Counter) (old new : TableChange) : Type 0 where
+  pub within : IsWithin ids' new
+  pub opened : AreOpened ids.next old.trees new.trees
+  pub separate : AreSeparate old.trees → AreSeparate new.trees
+  pub book : ids'.book ≡ ids.book
+  pub later : ids.next ≤ ids'.next
 
 -- since its beginning a change opened cells from this id on, and wrote full keys of these rows
 -- alone

@@ -6,7 +6,7 @@ use Rattle.table_index.specs.Watched.{HoldsRows}
 pub use Rattle.mem_txn.specs.CellHistory.{Forest}
 use Rattle.mem_txn.specs.Database.{Caller, view_after}
 use Rattle.mem_txn.specs.inner.Steps.{AreSteps, tables_of}
-use Rattle.mem_txn.specs.inner.VersionTables.{AreWithin}
+use Rattle.mem_txn.specs.inner.VersionTables.{AreAllWithin}
 pub use Rattle.mem_txn.specs.inner.Values.{AreFew, IsBegun, IsBookOf, Version, Versions, ViewWithTrees, book_in, entry_of, history_in, opening, schema_in}
 
 -- The value is that of the last commit of the list: the state after all of them, in trees that hold
@@ -17,7 +17,7 @@ pub record StandsFor (h : Versions) (v : Version) : Type 0 where
   pub last : (c : ℕ) × (r : Versions) × (h ≡ r ++ (c, v) ∷ [])
   pub view : v.view ≡ view_after (schema_in h) (history_in h)
   pub book : IsBookOf h v.ids.book
-  pub within : All (AreWithin v.ids) v.trees
+  pub within : AreAllWithin v.ids v.trees
   pub held : All HoldsRows (tables_of v)
   pub few : AreFew (writes_in (history_in h)) v.ids
   pub steps : AreSteps h
@@ -34,15 +34,17 @@ caller_of k = record {
   own = map entry_of k.mine;
   counts = k.counts;
   tries = k.tries;
+  log = k.log;
 }
 
--- a pass at this stage: 0 without the writer's turn, 1 with it
+-- a pass at this stage, 0 without the writer's turn and 1 with it, with a log of its cells' book
 pub record IsToken (stage : ℕ) (k : Known Version) : Type 0 where
   pub at : k.stage ≡ stage
   pub named : 0 < k.number
   pub few : k.number ≤ 64
   pub begun : IsBegun k.seen
   pub steps : AreSteps k.seen
+  pub log : IsBookOf k.seen k.log.book
 
 abbrev pub AreTokens : List (Known Version) → Type 0
 AreTokens [] = Unit {0}

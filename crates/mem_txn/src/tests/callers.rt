@@ -29,10 +29,10 @@ fn own_row(alloc: Global, caller: u32, own: u64, age: u64) -> Result<Row, AllocE
 
 /// The insert of a caller's next row, and whether that is committed.
 #[derive(Drop)]
-struct Own {
-    caller: u32,
-    own: u64,
-    commits: bool,
+pub struct Own {
+    pub caller: u32,
+    pub own: u64,
+    pub commits: bool,
 }
 
 impl Work for Own {
@@ -119,7 +119,7 @@ fn fifty_borrowed<R: Wait>(
 }
 
 /// Whether both of two are so.
-fn are_both(first: Told, second: Told) -> Told {
+pub fn are_both(first: Told, second: Told) -> Told {
     Ok(first? && second?)
 }
 

@@ -6,7 +6,8 @@ use Rattle.client_session.specs.Answered.{HasAnswered, IsLater}
 use Rattle.client_session.specs.Progress as progress
 use Rattle.client_session.specs.Progress.{Progress}
 use Rattle.mdb_datum.specs.Bytes.{Bytes}
-use Rattle.mem_txn.specs.Database.{Caller, Callers, Database, IsOf, Opening, new_callers}
+use Rattle.mem_txn.specs.CellHistory.{Forest}
+use Rattle.mem_txn.specs.Database.{Caller, Callers, Database, IsOf, new_callers}
 
 -- sessions of which nothing is carried out yet, one for each pass and script
 abbrev pub begun : List Caller → List (List Line) → List Progress
@@ -15,7 +16,7 @@ begun ps ss = []
 
 -- the sessions of these scripts on a new database, which have all its passes
 pub record AreOpened (db : Database) (scripts : List (List Line)) (left : Callers) (ss : List Progress) : Type 0 where
-  pub opening : Opening
+  pub opening : Forest
   pub all : Callers
   pub are_all : all ≡ new_callers db opening (length scripts)
   pub callers : db.callers ≡ length scripts

@@ -179,7 +179,7 @@ fn told(alloc: Global, first: &[u8]) -> Result<(Told, u64), AllocError>
     let (tree, front, mut ids) = empty(alloc)?;
     let old = with_keys(&tree, &front, &mut ids, first, 18, &row)?;
     let (_, notice) = without_keys(&old, &front, &mut ids)?;
-    let log = fire_all(&notice, &front, 1);
+    let log = fire_all(&notice, &front, 1, &mut false);
     let told = (notice.listed(), notice.trees().is_some());
     Ok((told, count_moved(&old, 0, 18 * SECONDS, &log)?))
 }
@@ -203,7 +203,7 @@ fn moved(alloc: Global) -> Result<(Told, u64, u64), AllocError> {
     let (tree, front, mut ids) = empty(alloc)?;
     let old = with_keys(&tree, &front, &mut ids, b"", 36, &row)?;
     let (_, notice) = without_firsts(&old, &front, &mut ids, 19)?;
-    let log = fire_all(&notice, &front, 1);
+    let log = fire_all(&notice, &front, 1, &mut false);
     let told = (notice.listed(), notice.trees().is_some());
     let gone = count_moved(&old, 0, 19 * SECONDS, &log)?;
     Ok((

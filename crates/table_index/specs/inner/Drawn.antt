@@ -4,7 +4,7 @@ use Rattle.watch_word.specs.Logs.{Log}
 use Rattle.radix_node.specs.Ids.{Counter}
 use Rattle.radix_txn.specs.Drawn.{IsWithin}
 use Rattle.radix_txn.specs.Txn.{Txn}
-use Rattle.table_index.specs.Table.{AreDrawn}
+use Rattle.table_index.specs.Table.{AreDrawn, AreSeparate}
 use Rattle.table_index.specs.inner.Held.{AreSound, starts_of, trees_of}
 
 -- the trees of a table may be written, with ids of cells of the front's book
@@ -19,6 +19,7 @@ pub record HaveDrawn (log : Log) (most : ℕ) (old new : Counter) (before after 
   pub start : starts_of after ≡ starts_of before
   pub within : All (IsWithin new) after
   pub drawn : AreDrawn log old new (trees_of before) (trees_of after)
+  pub separate : AreSeparate (trees_of before) → AreSeparate (trees_of after)
   pub book : new.book ≡ old.book
   pub later : old.next ≤ new.next
   pub few : new.next ≤ old.next + most

@@ -1,7 +1,8 @@
 -- The rule of a book of cells, and what its steps tell. The book's log has an event for each cell
--- that came home, which is where its word is ready for all, and one for each that fired. A word is
--- 0 until its cell fires, and then the number of the commit that fired it.
-use Rattle.std.specs.Prelude.{◌≡◌, ℕ, ◌==◌, ◌<◌, Bool, true, false, not, List, [], ◌∷◌, length, if◌then◌else◌}
+-- that came home, which is where its word is ready for all, with the id that the cell has from then
+-- on, and one for each that fired. A word is 0 until its cell fires, and then the number of the
+-- commit that fired it.
+use Rattle.std.specs.Prelude.{◌≡◌, ℕ, ◌==◌, ◌<◌, Bool, true, false, not, List, [], ◌∷◌, length, if◌then◌else◌, Option, Some, None}
 use Rattle.logbook.specs.Pages.{Cell, cell, Step, View, Named, Book, nib, may_make}
 use Rattle.watch_word.specs.declared.event.Event.{Event}
 use Rattle.watch_word.specs.declared.event.Event.TheVariants.{Home, Fired}
@@ -10,24 +11,30 @@ use Rattle.watch_word.specs.Logs.{has, AreDistinct}
 -- the cells that fired, in order
 abbrev pub fired_in : List Event → List ℕ
 fired_in [] = []
-fired_in (Home k ∷ es) = fired_in es
+fired_in (Home k id ∷ es) = fired_in es
 fired_in (Fired k n ∷ es) = k ∷ fired_in es
 
 abbrev pub is_home : ℕ → List Event → Bool
 is_home k [] = false
-is_home k (Home j ∷ es) = if j == k then true else is_home k es
+is_home k (Home j id ∷ es) = if j == k then true else is_home k es
 is_home k (Fired j n ∷ es) = is_home k es
+
+-- the id with which the cell came home
+abbrev pub id_in : ℕ → List Event → Option ℕ
+id_in k [] = None
+id_in k (Home j id ∷ es) = if j == k then Some id else id_in k es
+id_in k (Fired j n ∷ es) = id_in k es
 
 -- the number of the commit that fired the cell, or 0
 abbrev pub number_of : ℕ → List Event → ℕ
 number_of k [] = 0
-number_of k (Home j ∷ es) = number_of k es
+number_of k (Home j id ∷ es) = number_of k es
 number_of k (Fired j n ∷ es) = if j == k then n else number_of k es
 
 -- no commit has the number 0
 abbrev pub AreNumbered : List Event → Type 0
 AreNumbered [] = Unit {0}
-AreNumbered (Home j ∷ es) = AreNumbered es
+AreNumbered (Home j id ∷ es) = AreNumbered es
 AreNumbered (Fired j n ∷ es) = (0 < n) × AreNumbered es
 
 -- Key 0 is the anchor, and key 1 a word that is never used.
@@ -48,9 +55,15 @@ abbrev pub Adds : Step Event → View Event ℕ → ℕ → View Event ℕ → T
 Adds st v n w =
     (k : ℕ) × (1 < k) × (w.1.0 ≡ nib may_make k 0) × (has k (fired_in w.0) ≡ false)
 
--- the cell came home
+-- the id that a step was asked to give
+abbrev pub id_asked : Event → ℕ
+id_asked (Home k id) = id
+id_asked (Fired k n) = 0
+
+-- the cell came home, with the id that was asked
 abbrev pub ComesHome : Step Event → View Event ℕ → ℕ → View Event ℕ → Type 0
-ComesHome st v n w = is_home v.1.0.key w.0 ≡ true
+ComesHome st v n w =
+    (is_home v.1.0.key w.0 ≡ true) × (id_in v.1.0.key w.0 ≡ Some (id_asked st.ask))
 
 -- the cell has fired, now or before
 abbrev pub Fires : Step Event → View Event ℕ → ℕ → View Event ℕ → Type 0

@@ -10,5 +10,6 @@ returns g c = record {
   answered = c.step_line-desk.ensures.answered;
   same = c.step_line-desk.ensures.kept;
   stopped = c.step_line-desk.ensures.stopped;
+  closed = c.step_line-desk.ensures.closed;
   later = c.step_line-desk.ensures.caller;
 }

@@ -3,4 +3,4 @@ use Rattle.db_front.proofs.AllPasses.{if_so}
 use Rattle.db_front.proofs.tests.opened.Goals as goal
 
 pub returns-clause-fresh : goal.returns-clause-fresh
-returns-clause-fresh c = if_so c.make_shared.result _ _ (λ t is. (_, ap (λ p. p.passes) is)) c.make_shared.ensures.passes
+returns-clause-fresh c = if_so c.make_shared.result _ _ (λ t is. (_, _, ap (λ p. p.passes) is)) c.make_shared.ensures.passes

@@ -18,7 +18,7 @@ returns g c =
     let s = c.in_ok-clients.clients in
     let done = c.answers_of-out.ensures in
     let after = c.answers_of-out.new.clients in
-    let H = c.close.ensures.0 in
-    let whole : IsWhole s.db (callers_back after.sessions.items) H = subst (λ (db : Database). IsWhole db (callers_back after.sessions.items) H) done.db c.close.ensures.1 in
-    let legal = all_legal s.db c.args.scripts s.passes s.sessions.items c.in_ok-clients.ensures.opened after.sessions.items done.later H whole (λ out. out.items) c.answers_of-out.result c.args.names.now c.requires.named done.answered done.text in
+    let J = c.close.ensures.0 in
+    let whole : IsWhole s.db (callers_back after.sessions.items) J = subst (λ (db : Database). IsWhole db (callers_back after.sessions.items) J) done.db c.close.ensures.1 in
+    let legal = all_legal s.db c.args.scripts s.passes s.sessions.items c.in_ok-clients.ensures.opened after.sessions.items done.later J whole (λ out. out.items) c.answers_of-out.result c.args.names.now c.requires.named done.answered done.text in
     subst (λ (schema : DbSchema). IfOk c.answers_of-out.result (λ out. Legal schema c.args.names.now c.args.scripts out.items)) c.in_ok-clients.ensures.schema legal

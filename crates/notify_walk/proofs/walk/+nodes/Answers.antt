@@ -28,7 +28,7 @@ fire_node-fire_edges-requires t c =
     let es = c.edges_under.result.now in (
       omega (arith, c.decreases, ap size c.edges_under.ensures),
       (
-        some_are c.args.front.now.book c.fire_leaf-log.result.book (all_cells n) (cells_at es) c.requires.of (c.fire_leaf-log.ensures.later.0 ∙ c.fire-log.ensures.later.0)
+        some_are c.args.front.now.book c.fire_leaf-log.result.book (all_cells n) (cells_at es) c.requires.of (c.fire_leaf-log.ensures.later.0 ∙ c.fire_one-log.ensures.later.0)
             (λ d h. under_cells n d (subst (λ (ns : CellNodes). Has d (map piece_cell (node_pieces ns))) c.edges_under.ensures h)),
         c.requires.number,
       ),
@@ -38,8 +38,8 @@ pub fire_node-returns-clause-told : goal.fire_node-returns-clause-told
 fire_node-returns-clause-told t c =
     let n = cell_node c.args.node.now in
     let es = c.edges_under.result.now in
-    let fired : has_fired n.cell c.fire-log.result ≡ true = search (rules) in
-    λ old same part. node_told n es c.args.new.now c.fire-log.result c.fire_leaf-log.result c.fire_edges.result c.edges_under.ensures c.fire_leaf-log.ensures.later c.fire_edges.ensures.later fired (c.fire_leaf-log.ensures.told old same part)
+    let fired : has_fired n.cell c.fire_one-log.result ≡ true = search (rules) in
+    λ old same part. node_told n es c.args.new.now c.fire_one-log.result c.fire_leaf-log.result c.fire_edges.result c.edges_under.ensures c.fire_leaf-log.ensures.later c.fire_edges.ensures.later fired (c.fire_leaf-log.ensures.told old same part)
     (c.fire_edges.ensures.told old same (under_of_tree n es old c.edges_under.ensures part))
 
 pub fire_edges-fire_node-log-requires : goal.fire_edges-fire_node-log-requires

@@ -15,4 +15,4 @@ returns-clause-answered g c =
 pub returns-clause-stopped : goal.returns-clause-stopped
 returns-clause-stopped g c =
     let f = c.self.inside in
-    stopped_on_err c.args.self.now f.client f.script f.desk c.put_desk.new.kept f.answered f.text.items f.failed c.self.view_is c.take_desk-desk.result c.carry_out-desk.result.0 c.carry_out-desk.result.1 c.carry_out-desk.new.text.items c.is_err-self-inside.result c.carry_out-desk.result.2 (search (rules)) (search (rules)) c.carry_out-desk.ensures.stopped
+    stopped_on_err c.args.self.now f.client f.script f.desk c.put_desk.new.kept f.answered f.text.items f.failed c.self.view_is c.take_desk-desk.result c.carry_out-desk.result.0 c.carry_out-desk.result.1 c.carry_out-desk.new.text.items c.is_err-self-inside.result c.carry_out-desk.result.2 (search (rules)) (search (rules)) c.carry_out-desk.ensures.closed c.carry_out-desk.ensures.stopped

@@ -1,10 +1,8 @@
 use Rattle.std.proofs.Common.{sym}
 use Rattle.std.specs.Prelude.{option_copied}
 use Rattle.std.proofs.lemmas.Result.{IfOk-weaker}
-use Rattle.watch_set.specs.Checks.{with_until}
-use Rattle.watch_set.specs.Members.{watches_of}
 use Rattle.client_session.specs.inner.SetsKept.{RepliesOnce}
-use Rattle.client_session.proofs.LooksTold.{checked_on}
+use Rattle.client_session.proofs.LooksTold.{begins, only_looked}
 use Rattle.client_session.proofs.WaitsTold.{awaited_held, once_there, once_told}
 use Rattle.client_session.proofs.watching.Watching.look_once.Goals as goal
 
@@ -22,9 +20,9 @@ returns-clause-told g c =
     let old = c.args.pass.now in
     let new = c.look_once.new.pass in
     IfOk-weaker c.once_reply.result (λ r. RepliesOnce ms c.in_ok-woken.woken r) _
-    (λ r is. once_told c.args.self.now c.args.set.now old new ms (option_copied c.args.until) (option_copied c.in-Some.until) c.in_ok-woken.woken r (sym c.in-Some.ensures) c.requires.holds c.look_once.ensures.seen c.moves_are_touches.ensures c.trees_are_complete.ensures c.in_ok-woken.ensures.look is)
+    (λ r is. once_told c.args.self.now c.args.set.now old new ms (option_copied c.args.until) (option_copied c.in-Some.until) c.in_ok-woken.woken r (sym c.in-Some.ensures) c.requires.holds (let looks = c.look_once.ensures.looks in begins old new looks.seen) c.moves_are_touches.ensures c.trees_are_complete.ensures c.in_ok-woken.ensures.look is)
     c.once_reply.ensures
 
 pub returns-clause-looked : goal.returns-clause-looked
 returns-clause-looked g c =
-    checked_on c.args.pass.now c.look_once.new.pass (with_until (watches_of c.in-Some.members.now) (option_copied c.in-Some.until)) c.look_once.ensures.seen c.look_once.ensures.others
+    only_looked c.args.pass.now c.look_once.new.pass c.look_once.ensures.looks

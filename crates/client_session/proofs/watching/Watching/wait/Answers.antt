@@ -20,5 +20,5 @@ returns-clause-told g c =
     let old = c.args.pass.now in
     let new = c.wait.new.pass in
     IfOk-weaker c.woken_reply.result (λ r. RepliesWoken ms c.in_ok-woken.woken r) _
-    (λ r is. wait_told c.args.self.now c.args.set.now old new ms (option_copied c.args.until) (option_copied c.in-Some.until) c.in_ok-woken.woken r (sym c.in-Some.ensures) c.requires.holds (begins old new c.wait.ensures.seen) c.moves_are_touches.ensures c.trees_are_complete.ensures c.in_ok-woken.ensures.woken is)
+    (λ r is. wait_told c.args.self.now c.args.set.now old new ms (option_copied c.args.until) (option_copied c.in-Some.until) c.in_ok-woken.woken r (sym c.in-Some.ensures) c.requires.holds (let looks = c.wait.ensures.looks in begins old new looks.seen) c.moves_are_touches.ensures c.trees_are_complete.ensures c.in_ok-woken.ensures.woken is)
     c.woken_reply.ensures

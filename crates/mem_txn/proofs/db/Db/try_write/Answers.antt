@@ -4,6 +4,7 @@ use Rattle.mem_txn.specs.Database.{Caller, HasRead, HasSeen}
 use Rattle.mem_txn.specs.Transactions.{HasWon}
 use Rattle.mem_txn.specs.inner.Versions.{Version, caller_of}
 use Rattle.mem_txn.proofs.BegunAnswers.{some_has, try_begins, try_refuses, won_at_last}
+use Rattle.mem_txn.proofs.HeardAlong.{heard_seen}
 use Rattle.mem_txn.proofs.OneHistory.{number_room, numbered, token_at, turned}
 use Rattle.mem_txn.proofs.db.Db.try_write.Goals as goal
 
@@ -11,39 +12,47 @@ use Rattle.mem_txn.proofs.db.Db.try_write.Goals as goal
 pub invariant_of-result-in-Err : goal.invariant_of-result-in-Err
 invariant_of-result-in-Err g c =
     let e = c.try_begin.ensures in
+    let left = c.in-Err.ensures.turn.memory in
     let number = ap (λ (k : Known Version). k.number) e.pass.others in
-    token_at 0 c.pass.inside.token c.try_begin.new.pass c.pass.invariant e.pass.seen 0 number c.in-Err.ensures.memory.out c.in-Err.ensures.memory.stood.1.steps
+    let log = ap (λ (k : Known Version). k.log) e.pass.others in
+    token_at 0 c.pass.inside.token c.try_begin.new.pass c.pass.invariant e.pass.seen 0 number left.out left.stood.1.steps log
 
 pub returns-in-Ok : goal.returns-in-Ok
 returns-in-Ok g c =
     let old = c.pass.inside.token in
     let new = c.try_begin.new.pass in
+    let q = c.of.result.caller in
+    let hears = c.of.ensures in
     let e = c.try_begin.ensures in
     let here = c.in-Ok-Some in
-    let won = (some_has here.field-0 here.shown _ here.field-0-is here.ensures.won).0 in
+    let won = (some_has here.field-0 here.shown _ here.field-0-is here.ensures.turn.won).0 in
     let number = (some_has here.field-0 here.shown _ here.field-0-is here.ensures.number).0 in
-    let seen : HasSeen c.args.pass c.of.result.caller = subst (λ (p : Caller). HasSeen p c.of.result.caller) c.pass.view_is (subst (HasSeen (caller_of old)) (sym c.of.ensures) (turned old new c.pass.invariant e.pass.others e.pass.seen (number_room old new here.shown.number number) e.pass.counts (0 ∷ [], sym won))) in
-    let read : HasRead c.args.pass c.of.result.caller (length c.of.result.caller.seen) = subst (λ (p : Caller). HasRead p c.of.result.caller (length c.of.result.caller.seen)) c.pass.view_is (subst (λ (q : Caller). HasRead (caller_of old) q (length q.seen)) (sym c.of.ensures) (numbered old new c.in-Ok-Some.shown.number c.pass.invariant e.pass.seen number)) in
-    let first : HasWon c.args.pass c.of.result.caller = subst (λ (p : Caller). HasWon p c.of.result.caller) c.pass.view_is (subst (HasWon (caller_of old)) (sym c.of.ensures) won) in
-    try_begins c.args.pass c.of.result.caller seen read (won_at_last c.args.pass c.of.result.caller first) first c.in-Ok.txn c.in-Ok.ensures
+    let turn = turned old new c.pass.invariant e.pass.others e.pass.seen (number_room old new here.shown.number number) e.pass.counts (0 ∷ [], sym won) in
+    let seen : HasSeen c.args.pass q = subst (λ (p : Caller). HasSeen p q) c.pass.view_is (heard_seen (caller_of old) (caller_of new) q turn hears) in
+    let read : HasRead c.args.pass q (length q.seen) = subst (λ (p : Caller). HasRead p q (length q.seen)) c.pass.view_is (subst (λ (z : Caller). HasRead (caller_of old) z (length z.seen)) (sym hears.others) (numbered old new here.shown.number c.pass.invariant e.pass.seen number)) in
+    let first : HasWon c.args.pass q = subst (λ (p : Caller). HasWon p q) c.pass.view_is (subst (HasWon (caller_of old)) (sym hears.others) won) in
+    try_begins c.args.pass q seen read (won_at_last c.args.pass q first) first c.in-Ok.txn c.in-Ok.ensures
 
 pub returns-in-Err-begun : goal.returns-in-Err-begun
 returns-in-Err-begun g c =
     let old = c.pass.inside.token in
     let new = c.try_begin.new.pass in
+    let q = c.of.result.caller in
+    let hears = c.of.ensures in
     let e = c.try_begin.ensures in
     let here = c.in-Ok-Some in
-    let won = (some_has here.field-0 here.shown _ here.field-0-is here.ensures.won).0 in
+    let won = (some_has here.field-0 here.shown _ here.field-0-is here.ensures.turn.won).0 in
     let number = (some_has here.field-0 here.shown _ here.field-0-is here.ensures.number).0 in
-    let seen : HasSeen c.args.pass c.of.result.caller = subst (λ (p : Caller). HasSeen p c.of.result.caller) c.pass.view_is (subst (HasSeen (caller_of old)) (sym c.of.ensures) (turned old new c.pass.invariant e.pass.others e.pass.seen (number_room old new here.shown.number number) e.pass.counts (0 ∷ [], sym won))) in
-    let read : HasRead c.args.pass c.of.result.caller (length c.of.result.caller.seen) = subst (λ (p : Caller). HasRead p c.of.result.caller (length c.of.result.caller.seen)) c.pass.view_is (subst (λ (q : Caller). HasRead (caller_of old) q (length q.seen)) (sym c.of.ensures) (numbered old new c.in-Ok-Some.shown.number c.pass.invariant e.pass.seen number)) in
-    let first : HasWon c.args.pass c.of.result.caller = subst (λ (p : Caller). HasWon p c.of.result.caller) c.pass.view_is (subst (HasWon (caller_of old)) (sym c.of.ensures) won) in
-    try_refuses c.args.pass c.of.result.caller seen read (won_at_last c.args.pass c.of.result.caller first) first c.in-Err-begun.refused c.in-Err-begun.ensures
+    let turn = turned old new c.pass.invariant e.pass.others e.pass.seen (number_room old new here.shown.number number) e.pass.counts (0 ∷ [], sym won) in
+    let seen : HasSeen c.args.pass q = subst (λ (p : Caller). HasSeen p q) c.pass.view_is (heard_seen (caller_of old) (caller_of new) q turn hears) in
+    let read : HasRead c.args.pass q (length q.seen) = subst (λ (p : Caller). HasRead p q (length q.seen)) c.pass.view_is (subst (λ (z : Caller). HasRead (caller_of old) z (length z.seen)) (sym hears.others) (numbered old new here.shown.number c.pass.invariant e.pass.seen number)) in
+    let first : HasWon c.args.pass q = subst (λ (p : Caller). HasWon p q) c.pass.view_is (subst (HasWon (caller_of old)) (sym hears.others) won) in
+    try_refuses c.args.pass q seen read (won_at_last c.args.pass q first) first c.in-Err-begun.refused c.in-Err-begun.ensures
 
 pub returns-in-Err : goal.returns-in-Err
 returns-in-Err g c =
     let e = c.try_begin.ensures in
-    let won = c.in-Err.ensures.memory.won in
+    let left = c.in-Err.ensures.turn.memory in
     let old = c.pass.inside.token in
-    let both : HasSeen c.args.pass (caller_of c.try_begin.new.pass) = subst (λ (p : Caller). HasSeen p (caller_of c.try_begin.new.pass)) c.pass.view_is (turned old c.try_begin.new.pass c.pass.invariant e.pass.others e.pass.seen c.in-Err.ensures.memory.room e.pass.counts (0 ∷ [], sym won)) in
-    (both, tt, subst (λ (p : Caller). HasWon p (caller_of c.try_begin.new.pass)) c.pass.view_is won)
+    let both : HasSeen c.args.pass (caller_of c.try_begin.new.pass) = subst (λ (p : Caller). HasSeen p (caller_of c.try_begin.new.pass)) c.pass.view_is (turned old c.try_begin.new.pass c.pass.invariant e.pass.others e.pass.seen left.room e.pass.counts (0 ∷ [], sym left.won)) in
+    (both, tt, subst (λ (p : Caller). HasWon p (caller_of c.try_begin.new.pass)) c.pass.view_is left.won)

@@ -41,7 +41,7 @@ returns-clause-held c =
     let forest : shown.trees ≡ v.trees = search rules in
     let there : question_cell shown.view.schema shown.view.state v.trees q ≡ Some cell =
     subst (λ (f : Forest). question_cell shown.view.schema shown.view.state f q ≡ Some cell) forest c.in_ok-answer.ensures.cell in
-    let book : cell.book ≡ v.ids.book = question_of_book v.ids cell v.trees c.self.invariant q shown.view.schema shown.view.state there in
+    let book : cell.book ≡ v.ids.book = question_of_book v.ids cell v.trees c.self.invariant.within q shown.view.schema shown.view.state there in
     let now : v.ids.book ≡ c.args.self.now.book = ap (λ (r : Reading). r.book) c.self.view_is in
     let held : HeldWatch = c.in_ok-held.held in
     let spot : held.spot ≡ c.in_ok-answer.field-0.spot = search rules in

@@ -4,7 +4,7 @@ use Rattle.std.specs.Arc.{arc_value}
 use Rattle.radix_node.specs.Ids.{Counter}
 use Rattle.mdb_schema.specs.History.{writes_in}
 use Rattle.mem_txn.specs.Database.{View, state_seen, view_seen}
-use Rattle.mem_txn.specs.inner.VersionTables.{AreWithin, trees_of}
+use Rattle.mem_txn.specs.inner.VersionTables.{AreAllWithin, trees_of}
 use Rattle.mem_txn.specs.inner.Versions.{AreFew, Forest, Turned, Version, ViewWithTrees}
 use Rattle.mem_txn.proofs.BegunAnswers.{begins_counted, begins_since, tables_stand}
 use Rattle.mem_txn.proofs.turn.Turn.tables.Goals as goal
@@ -17,8 +17,8 @@ of-requires c =
     let ids : c.in_ok-ids.ids ≡ base.ids = c.in_ok-ids.ensures ∙ ap (λ (v : Version). v.ids) c.deref.ensures in
     record {
       within =
-          subst (λ (i : Counter). All (AreWithin i) (trees_of (map arc_value c.tables.result.now))) (sym ids)
-          (subst (λ (f : Forest). All (AreWithin base.ids) f) (sym trees) c.self.invariant.stands.within);
+          subst (λ (i : Counter). AreAllWithin i (trees_of (map arc_value c.tables.result.now))) (sym ids)
+          (subst (λ (f : Forest). AreAllWithin base.ids f) (sym trees) c.self.invariant.stands.within);
     }
 
 pub returns-clause-tables : goal.returns-clause-tables

@@ -1,10 +1,10 @@
-use Rattle.std.proofs.Common.{◌^◌, [], sym, subst}
+use Rattle.std.proofs.Common.{rules, ◌^◌, [], sym, subst}
 use Rattle.mdb_schema.specs.Write.{remove_row}
 use Rattle.table_index.specs.Drawn.{MayBeWritten}
 use Rattle.table_index.specs.Table.{TableChange}
 use Rattle.mem_txn.specs.Changes.{gives_row}
-use Rattle.mem_txn.specs.inner.VersionTables.{AnswersRows, IsWithin}
-use Rattle.mem_txn.proofs.IdsCounted.{may_be_written, write_within}
+use Rattle.mem_txn.specs.inner.VersionTables.{AnswersRows, Draws, IsWithin}
+use Rattle.mem_txn.proofs.IdsCounted.{may_be_written, none_drawn, write_draws}
 use Rattle.mem_txn.proofs.RowsAdded.{remove_answers}
 use Rattle.mem_txn.proofs.TableAnswers.{removed_start}
 use Rattle.mem_txn.proofs.txn_table.TxnTable.remove.Goals as goal
@@ -18,13 +18,17 @@ returns-clause-answers c =
     subst (λ (t : TableChange). AnswersRows gives_row [] (remove_row t.schema row t.rows) c.remove-told.result c.args.ids.now c.remove-told.new.ids t new) c.in_ok-txn.ensures.open
     (remove_answers c.args.front.now c.args.ids.now c.remove-told.new.ids old new e.drawn.drawn e.drawn.later e.drawn.few (remove_row old.schema row old.rows) c.remove-told.result e.answers e.refused e.written)
 
-pub returns-clause-within : goal.returns-clause-within
-returns-clause-within c =
+pub returns-clause-cells : goal.returns-clause-cells
+returns-clause-cells c =
     let old : TableChange = c.in_ok-txn.txn in
     let new : TableChange = c.remove-told.new.self in
     let e = c.remove-told.ensures in
-    write_within c.args.front.now (2 ^ 26) c.args.ids.now c.remove-told.new.ids old new (subst (IsWithin c.args.ids.now) (sym c.in_ok-txn.ensures.open) c.requires.within)
-    (removed_start c.args.ids.now.next old new (remove_row old.schema c.args.row.now old.rows) c.remove-told.result e.answers) e.drawn
+    subst (λ (t : TableChange). Draws c.args.ids.now c.remove-told.new.ids t new) c.in_ok-txn.ensures.open
+    (write_draws c.args.front.now (2 ^ 26) c.args.ids.now c.remove-told.new.ids old new (subst (IsWithin c.args.ids.now) (sym c.in_ok-txn.ensures.open) c.requires.within)
+    (removed_start c.args.ids.now.next old new (remove_row old.schema c.args.row.now old.rows) c.remove-told.result e.answers) e.drawn)
+
+pub returns-in_err-txn-clause-cells : goal.returns-in_err-txn-clause-cells
+returns-in_err-txn-clause-cells c = none_drawn c.args.ids.now c.args.self.now c.opened.new.self (search rules) c.requires.within
 
 pub remove-told-requires : goal.remove-told-requires
 remove-told-requires c = record {

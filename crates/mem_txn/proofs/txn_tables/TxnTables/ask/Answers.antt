@@ -1,7 +1,7 @@
-use Rattle.std.proofs.Common.{refl, sym, subst, arith}
+use Rattle.std.proofs.Common.{subst}
 use Rattle.table_index.specs.Table.{TableChange}
-use Rattle.mem_txn.specs.inner.VersionTables.{AnswersAskAt, IsWithin, Tables}
-use Rattle.mem_txn.proofs.IdsCounted.{within-set}
+use Rattle.mem_txn.specs.inner.VersionTables.{AnswersAskAt, Tables}
+use Rattle.mem_txn.proofs.IdsCounted.{none_drawn, within-set}
 use Rattle.mem_txn.proofs.TableAnswers.{within-at}
 use Rattle.mem_txn.proofs.TablesFound.{place_there, place_within}
 use Rattle.mem_txn.proofs.txn_tables.TxnTables.ask.Goals as goal
@@ -13,7 +13,7 @@ invariant_of-self c =
     let table : TableChange = c.index_mut-table.result.now in
     let old : Tables = record { tables = items; ids = ids } in
     let there = place_there items c.args.place table (place_within old c.args.self.now c.args.place c.self.view_is c.requires.within) c.index_mut-table.ensures.value in
-    within-set ids ids items c.args.place c.ask.new.self refl (omega arith) c.self.invariant (subst (IsWithin ids) (sym c.ask.ensures.unchanged) (within-at ids items c.args.place table there c.self.invariant))
+    within-set ids ids items c.args.place table c.ask.new.self there c.self.invariant (none_drawn ids table c.ask.new.self c.ask.ensures.unchanged (within-at ids items c.args.place table there c.self.invariant.within))
 
 pub returns-clause-answers : goal.returns-clause-answers
 returns-clause-answers c =

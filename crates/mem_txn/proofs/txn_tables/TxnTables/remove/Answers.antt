@@ -15,10 +15,16 @@ remove-requires-clause-within c =
     let table : TableChange = c.index_mut-table.result.now in
     let old : Tables = record { tables = items; ids = ids } in
     let there = place_there items c.args.place table (place_within old c.args.self.now c.args.place c.self.view_is c.requires.within) c.index_mut-table.ensures.value in
-    within-at ids items c.args.place table there c.self.invariant
+    within-at ids items c.args.place table there c.self.invariant.within
 
 pub invariant_of-self : goal.invariant_of-self
-invariant_of-self c = within-set c.self.inside.ids c.remove.new.ids c.self.inside.tables.items c.args.place c.remove.new.self c.remove.ensures.book c.remove.ensures.later c.self.invariant c.remove.ensures.within
+invariant_of-self c =
+    let ids = c.self.inside.ids in
+    let items = c.self.inside.tables.items in
+    let table : TableChange = c.index_mut-table.result.now in
+    let old : Tables = record { tables = items; ids = ids } in
+    let there = place_there items c.args.place table (place_within old c.args.self.now c.args.place c.self.view_is c.requires.within) c.index_mut-table.ensures.value in
+    within-set ids c.remove.new.ids items c.args.place table c.remove.new.self there c.self.invariant c.remove.ensures.cells
 
 pub returns : goal.returns
 returns c =
@@ -33,5 +39,5 @@ returns c =
       there = there;
       answers = c.remove.ensures.answers;
       set = refl;
-      book = c.remove.ensures.book;
+      book = c.remove.ensures.cells.book;
     })

@@ -14,10 +14,16 @@ wipe-requires-clause-within c =
     let table : TableChange = c.index_mut-table.result.now in
     let old : Tables = record { tables = items; ids = ids } in
     let there = place_there items c.args.place table (place_within old c.args.self.now c.args.place c.self.view_is c.requires.within) c.index_mut-table.ensures.value in
-    within-at ids items c.args.place table there c.self.invariant
+    within-at ids items c.args.place table there c.self.invariant.within
 
 pub invariant_of-self : goal.invariant_of-self
-invariant_of-self c = within-set c.self.inside.ids c.wipe.new.ids c.self.inside.tables.items c.args.place c.wipe.new.self c.wipe.ensures.book c.wipe.ensures.later c.self.invariant c.wipe.ensures.within
+invariant_of-self c =
+    let ids = c.self.inside.ids in
+    let items = c.self.inside.tables.items in
+    let table : TableChange = c.index_mut-table.result.now in
+    let old : Tables = record { tables = items; ids = ids } in
+    let there = place_there items c.args.place table (place_within old c.args.self.now c.args.place c.self.view_is c.requires.within) c.index_mut-table.ensures.value in
+    within-set ids c.wipe.new.ids items c.args.place table c.wipe.new.self there c.self.invariant c.wipe.ensures.cells
 
 pub returns : goal.returns
 returns c =
@@ -32,5 +38,5 @@ returns c =
       there = there;
       answers = c.wipe.ensures.answers;
       set = refl;
-      book = c.wipe.ensures.book;
+      book = c.wipe.ensures.cells.book;
     })

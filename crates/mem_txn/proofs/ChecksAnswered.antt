@@ -1,0 +1,71 @@
+-- A check of a watch in the state that a pass has read.
+use Rattle.std.proofs.Common.{◌≡◌, ◌∙◌, Bool, Option, length, sym, ap, subst}
+use Rattle.std.specs.Prelude.{IfNone, IfSome}
+use Rattle.db_front.specs.Passes.{Known}
+use Rattle.watch_word.specs.Logs.{IsLater, Log, has_fired}
+use Rattle.mem_txn.specs.Checked.{HasHeard, Hears, IsHeldBy, IsLate, Tells, number_of}
+use Rattle.mem_txn.specs.Database.{Reading, reading_of}
+use Rattle.mem_txn.specs.Held.{HeldWatch}
+use Rattle.mem_txn.specs.declared.look.Look.{Look}
+use Rattle.mem_txn.specs.inner.Looks.{CellsAreOfBook, Finds}
+use Rattle.mem_txn.specs.inner.Values.{ViewWithTrees}
+use Rattle.mem_txn.specs.inner.Versions.{IsToken, Version, caller_of}
+use Rattle.mem_txn.proofs.AlongHistory.{watches_hold}
+use Rattle.mem_txn.proofs.HeardAlong.{heard_later, held_heard}
+use Rattle.mem_txn.proofs.LooksTold.{found_late, found_told, shown_to}
+use Rattle.mem_txn.proofs.OneHistory.{hears_of, token_kept}
+use Rattle.mem_txn.proofs.OneIdOneCell.{ids_tell}
+use Rattle.mem_txn.proofs.StepsAlong.{book_is}
+
+-- the watch is of the log's book
+pub watch_book : (k : Known Version) → IsToken 0 k → (h : HeldWatch) → IsHeldBy (caller_of k) h → h.spot.watch.book ≡ k.log.book
+watch_book k token h held = held.book ∙ sym (book_is k.seen k.log.book token.log)
+
+module _ (old new : Known Version) (token : IsToken 0 old) (front : Log) (kept : new ≡ record old { log = front }) (later : IsLater old.log front) (h : HeldWatch) (held : IsHeldBy (caller_of old) h) where
+  -- the log that is kept
+  is_kept : new.log ≡ front
+  is_kept = ap (λ (k : Known Version). k.log) kept
+
+  keeps_its_log : new ≡ record old { log = new.log }
+  keeps_its_log = kept ∙ ap (λ (l : Log). let k : Known Version = record old { log = l } in k) (sym is_kept)
+
+  keeps_later : IsLater old.log new.log
+  keeps_later = subst (IsLater old.log) (sym is_kept) later
+
+  -- the pass then has heard more
+  pub check_hears : Hears (caller_of old) (caller_of new)
+  check_hears = hears_of old new keeps_its_log keeps_later
+
+  pub check_token : IsToken 0 new
+  check_token = token_kept 0 old new token keeps_its_log keeps_later
+
+  module _ (heard : HasHeard (caller_of old)) where
+    pub check_heard : HasHeard (caller_of new)
+    check_heard = heard_later (caller_of old) (caller_of new) check_hears heard
+
+    module _ (r : Reading) (read : r ≡ reading_of (caller_of old)) (fired : Bool) (is : fired ≡ has_fired h.spot.watch front) (o : Option Look) (found : Finds (record { view = r.view; trees = r.trees }) fired h o) where
+      -- the state is the one that it has seen
+      abbrev shown : ViewWithTrees
+      shown = record { view = r.view; trees = r.trees }
+
+      is_shown : shown ≡ shown_to (caller_of new)
+      is_shown =
+          ap (λ (x : Reading). let v : ViewWithTrees = record { view = x.view; trees = x.trees } in v) read
+          ∙ ap (λ (k : Known Version). shown_to (caller_of k)) (sym kept)
+
+      fired_now : fired ≡ has_fired h.spot.watch new.log
+      fired_now = is ∙ ap (has_fired h.spot.watch) (sym is_kept)
+
+      held_now : IsHeldBy (caller_of new) h
+      held_now = held_heard (caller_of old) (caller_of new) h check_hears held
+
+      -- what is found is told
+      pub check_told : IfSome o (λ l. (number_of l ≡ length (caller_of new).seen) × Tells (caller_of new) h l)
+      check_told =
+          found_told (caller_of new) h held_now (watches_hold new check_token.begun check_token.steps) check_heard shown is_shown fired fired_now o found
+
+      -- where nothing is found the watch is late
+      pub check_late : CellsAreOfBook r → IfNone o (IsLate (caller_of new) h)
+      check_late books =
+          let book : r.book ≡ (caller_of new).book = ap (λ (x : Reading). x.book) read ∙ ap (λ (k : Known Version). (caller_of k).book) (sym kept) in
+          found_late (caller_of new) h held_now (watches_hold new check_token.begun check_token.steps) check_heard shown is_shown fired fired_now (ids_tell new check_token.begun check_token.steps) (λ c there. books h.query c there ∙ book) o found
