@@ -30,6 +30,3 @@ pub use read::read_script;
 pub use script::Script;
 pub use script_error::ScriptError;
 pub use scripts::Scripts;
-
-#[cfg(test)]
-mod tests;

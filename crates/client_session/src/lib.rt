@@ -18,8 +18,6 @@ mod rule;
 mod run;
 mod session;
 mod stepped;
-#[cfg(test)]
-mod tests;
 mod watching;
 
 pub use session::Session;

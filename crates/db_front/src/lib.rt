@@ -49,8 +49,6 @@ mod passes;
 mod plays;
 mod shared;
 mod shown;
-#[cfg(test)]
-mod tests;
 mod turns;
 mod version;
 mod waits;

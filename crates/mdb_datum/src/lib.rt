@@ -15,8 +15,6 @@ mod error;
 mod read;
 mod row;
 mod same;
-#[cfg(test)]
-mod tests;
 mod text;
 mod write;
 

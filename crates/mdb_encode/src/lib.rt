@@ -29,6 +29,3 @@ pub use error::{ArgError, KeyError};
 pub use key::{Key, Keys};
 pub use kind::{Kind, Kinds};
 pub use row::keys_of;
-
-#[cfg(test)]
-mod tests;

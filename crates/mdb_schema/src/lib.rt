@@ -42,6 +42,3 @@ pub use schema::Schema;
 pub use schema_rule::SchemaRule;
 pub use table_def::TableDef;
 pub use write_error::WriteError;
-
-#[cfg(test)]
-mod tests;

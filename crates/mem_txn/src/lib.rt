@@ -42,8 +42,6 @@ pub mod pass_laws;
 mod passes;
 mod read_txn;
 mod snapshot;
-#[cfg(test)]
-mod tests;
 mod turn;
 mod txn_error;
 mod txn_table;

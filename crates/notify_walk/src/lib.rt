@@ -11,8 +11,6 @@ ghost use Rattle.notify_walk.specs.Fired.{HaveFired};
 ghost use Rattle.radix_node.specs.Cells.{AreCellsOf};
 ghost use Rattle.watch_word.specs.Logs.{AreDistinct, IsLater, has_fired};
 
-#[cfg(test)]
-mod tests;
 mod walk;
 
 use radix_txn::Notice;

@@ -12,8 +12,6 @@ mod ends;
 mod level;
 mod lower_bound;
 mod prefixed;
-#[cfg(test)]
-mod tests;
 mod upper_bound;
 mod walk;
 

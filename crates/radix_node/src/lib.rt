@@ -14,8 +14,6 @@ mod leaf;
 mod left;
 mod node;
 mod node_ref;
-#[cfg(test)]
-mod tests;
 mod tree;
 pub mod tree_laws;
 

@@ -17,8 +17,6 @@ mod notice;
 mod remains;
 mod remove;
 mod target;
-#[cfg(test)]
-mod tests;
 mod txn;
 
 pub use edit::Edit;

@@ -31,8 +31,6 @@ mod stored;
 mod table;
 pub mod table_laws;
 mod table_txn;
-#[cfg(test)]
-mod tests;
 mod tree_edit;
 mod trees;
 mod txn;

@@ -11,8 +11,6 @@ mod look;
 mod member;
 mod set;
 pub mod set_laws;
-#[cfg(test)]
-mod tests;
 mod woken;
 
 pub use set::WatchSet;

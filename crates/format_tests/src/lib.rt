@@ -1,0 +1,11 @@
+//! Tests of the documents, the keys, the schemas and the clients' scripts, by their public calls alone.
+#![tactic(auto)]
+
+#[cfg(test)]
+mod documents;
+#[cfg(test)]
+mod keys;
+#[cfg(test)]
+mod schemas;
+#[cfg(test)]
+mod scripts;

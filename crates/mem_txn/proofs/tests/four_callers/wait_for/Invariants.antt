@@ -1,5 +1,0 @@
-use Rattle.mem_txn.specs.CallerOf.{IsCaller}
-use Rattle.mem_txn.proofs.tests.four_callers.wait_for.Given as goal
-
-abbrev pub invariant-loop : goal.invariant-loop
-invariant-loop g l = IsCaller l.db l.initial.pass.number l.pass

@@ -1,6 +1,0 @@
-use Rattle.std.proofs.Common.{◌≡◌}
-use Rattle.mem_txn.specs.Transactions.{changes_of}
-use Rattle.mem_txn.proofs.tests.worked.are_done.Given as goal
-
-abbrev pub invariant-loop-step : goal.invariant-loop-step
-invariant-loop-step l = (changes_of l.txn).caller ≡ (changes_of l.initial.txn).caller

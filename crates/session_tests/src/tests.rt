@@ -1,0 +1,146 @@
+//! Whole sessions: scripts with the text of their answers, worked from the format of both.
+ghost use Rattle.std.specs.Prelude.{◌≡◌, IfOk};
+ghost use Rattle.mem_txn.specs.CellHistory.{Forest};
+ghost use Rattle.mem_txn.specs.Database.{new_callers};
+
+use client_script::{Script, read_script};
+use client_session::{Session, Stepped};
+use mdb_ports::OpenGate;
+use mdb_schema::{Schema, read_schema};
+use mem_txn::{Db, Passes};
+use std::alloc::{AllocError, Global};
+use std::marker::Model;
+use std::sync::Wait;
+use std::test::Fail;
+
+mod callers;
+mod steps;
+mod users;
+mod watches;
+
+/// A script, and the text of its answers in a new database.
+type Case = (&'static str, &'static str);
+
+/// Whether what was told is right. A text that can't be read counts as want of memory, which ends a
+/// test.
+type Told = Result<bool, AllocError>;
+
+/// The schema that a text reads as.
+fn schema_of(alloc: Global, text: &str) -> Result<Schema, AllocError> {
+    match read_schema(alloc, text.as_bytes()) {
+        Ok(schema) => Ok(schema),
+        Err(_) => Err(AllocError),
+    }
+}
+
+/// The script that a text reads as.
+fn script_of(alloc: Global, text: &str) -> Result<Script, AllocError> {
+    match read_script(alloc, text.as_bytes()) {
+        Ok(script) => Ok(script),
+        Err(_) => Err(AllocError),
+    }
+}
+
+/// A new database over the tables of users, and the pass of its one caller.
+fn new_db(alloc: Global) -> Result<(Db, Passes), AllocError>
+    ensures passes { IfOk result
+        (λ made. (opening : Forest) × (made.1 ≡ new_callers made.0 opening 1)) }
+    ensures alone { IfOk result (λ made. made.0.callers ≡ 1) }
+{
+    Db::create(alloc, schema_of(alloc, users::SCHEMA)?, 1)
+}
+
+/// A database of one caller, and the caller's session.
+struct Solo {
+    db: Db,
+    passes: Passes,
+    session: Session,
+}
+
+impl Model for Solo {
+    ghost use Rattle.std.specs.Prelude.{◌≡◌, []};
+    ghost use Rattle.mem_txn.specs.CallerOf.{IsCaller};
+
+    ghost Value = { Unit {0} };
+
+    ghost view = { λ s. tt };
+
+    ghost invariant = { λ s. IsCaller s.db 1 s.session.caller × (s.db.callers ≡ 1)
+        × (s.passes ≡ record { passes = []; made = 1 }) };
+}
+
+impl Solo {
+    /// A session of the script that a text reads as, in a new database.
+    fn opened(alloc: Global, script: &str) -> Result<Solo, AllocError> {
+        Solo::of(alloc, script_of(alloc, script)?)
+    }
+
+    /// A session of a script in a new database.
+    fn of(alloc: Global, script: Script) -> Result<Solo, AllocError> {
+        let (db, mut passes) = new_db(alloc)?;
+        match passes.take() {
+            Some(pass) => Ok(Solo {
+                db,
+                passes,
+                session: Session::new(alloc, pass.number(), script, pass),
+            }),
+            None => unreachable!(),
+        }
+    }
+
+    /// Whether the text of the answers is this.
+    fn has_told(&self, answers: &str) -> bool {
+        self.session.answers() == answers.as_bytes()
+    }
+
+    /// Runs the session, and tells whether the text of its answers is this then.
+    fn tells<R: Wait>(&mut self, rt: &R, answers: &str) -> Told {
+        self.session.run(rt, &self.db, &OpenGate)?;
+        Ok(self.has_told(answers))
+    }
+
+    /// Takes one step.
+    fn step<R: Wait>(&mut self, rt: &R) -> Result<Stepped, AllocError> {
+        self.session.step(rt, &self.db)
+    }
+
+    /// Ends the session and closes its database, and gives the number of commits.
+    fn close<R: Wait>(self, rt: &R) -> u64 {
+        let Solo {
+            db,
+            mut passes,
+            session,
+        } = self;
+        passes.give(session.end(&db));
+        db.close(rt, passes).number()
+    }
+}
+
+/// Whether a script is answered so in a new database.
+fn is_answered<R: Wait>(rt: &R, alloc: Global, case: &Case) -> Told {
+    let mut solo = Solo::opened(alloc, case.0)?;
+    let told = solo.tells(rt, case.1);
+    solo.close(rt);
+    told
+}
+
+/// Fails with the place of the first case that is answered otherwise.
+fn all_answered<R: Wait>(rt: &R, alloc: Global, cases: &[Case]) -> Result<(), Fail> {
+    for at in 0..cases.len() {
+        if !is_answered(rt, alloc, &cases[at])? {
+            return Err(Fail::from(at));
+        }
+    }
+    Ok(())
+}
+
+/// What goes to a thread.
+fn may_be_sent<T: Send>(_value: &T) {}
+
+#[test]
+fn all_may_go_to_threads(rt: HostRuntime) -> Result<(), Fail> {
+    let solo = Solo::opened(rt.alloc(), "")?;
+    may_be_sent(&solo.session);
+    solo.close(&rt);
+    Ok(())
+}

@@ -1,0 +1,92 @@
+//! What no clause says: that each call succeeds while there is memory.
+mod change;
+mod drawn;
+mod ids;
+mod long;
+mod mixed;
+mod owned;
+mod plain;
+mod played;
+mod refused;
+mod watched;
+mod wipe;
+mod without_memory;
+mod words;
+mod work;
+mod worked;
+
+use mdb_datum::{Datum, Items, Row, Text, read_doc};
+use mdb_schema::{Ask, Query, Schema, TableDef, read_schema};
+use std::alloc::{AllocError, Global};
+use std::test::Fail;
+use work::{Base, Work};
+
+static SCHEMA: &str = "{\"memdb\":1,\"tables\":{\"t\":{\"indexes\":{\
+    \"id\":{\"unique\":true,\"indexer\":{\"kind\":\"text\",\"field\":\"name\"}},\
+    \"tags\":{\"allow_missing\":true,\"indexer\":{\"kind\":\"text_list\",\"field\":\"tags\"}}}}}}";
+
+/// The row that a text is. Another text counts as want of memory, which ends a test.
+#[tactic(auto, using(mdb_datum::proofs::Variants::doc_of_members))]
+fn row_of(alloc: Global, text: &str) -> Result<Row, AllocError> {
+    match read_doc(alloc, text.as_bytes()) {
+        Ok(Datum::Members(members)) => Row::of(alloc, members),
+        _ => Err(AllocError),
+    }
+}
+
+/// Whether what was done is right.
+type Told = Result<bool, AllocError>;
+
+/// The arguments that a text lists. Another text counts as want of memory, which ends a test.
+fn args_of(alloc: Global, text: &str) -> Result<Items, AllocError> {
+    match read_doc(alloc, text.as_bytes()) {
+        Ok(Datum::Items(items)) => Ok(items),
+        _ => Err(AllocError),
+    }
+}
+
+/// A question of an index, with the arguments that a text lists.
+fn asked_of(alloc: Global, ask: Ask, index: &Text, args: &str) -> Result<Query, AllocError> {
+    let args = args_of(alloc, args)?;
+    let table = Text::of(alloc, "t")?;
+    Query::of(alloc, ask, &table, index, args)
+}
+
+/// A question of the table, with the arguments that a text lists.
+fn asked(alloc: Global, ask: Ask, index: &str, args: &str) -> Result<Query, AllocError> {
+    let index = Text::of(alloc, index)?;
+    asked_of(alloc, ask, &index, args)
+}
+
+/// What a schema says of its first table.
+fn def_of(alloc: Global, schema: &str) -> Result<TableDef, AllocError> {
+    match read_schema(alloc, schema.as_bytes()) {
+        Ok(schema) => first_def(&schema),
+        Err(_) => Err(AllocError),
+    }
+}
+
+/// What a schema says of its first table.
+fn first_def(schema: &Schema) -> Result<TableDef, AllocError> {
+    match schema.table(0) {
+        Some(def) => def.share(),
+        None => Err(AllocError),
+    }
+}
+
+/// The first table of a schema, without rows.
+fn table_of(alloc: Global, schema: &str) -> Result<Base, AllocError> {
+    let def = def_of(alloc, schema)?;
+    Base::empty(alloc, &def)
+}
+
+/// A change of that table.
+fn begun(alloc: Global, schema: &str) -> Result<Work, AllocError> {
+    let table = table_of(alloc, schema)?;
+    table.txn()
+}
+
+/// Fails with a name where something else was found.
+fn right(found: bool, name: &'static str) -> Result<(), Fail> {
+    if found { Ok(()) } else { Err(Fail::from(name)) }
+}

@@ -1,0 +1,98 @@
+//! Each allocation may fail: a write that finds no memory spoils its change, and the table that the
+//! change began with answers as before.
+use super::drawn::{NAMES, Random, SCHEMA, Write, whole};
+use super::mixed::told;
+use super::work::{Base, Work};
+use super::{Told, begun, right};
+use mdb_schema::WriteError;
+use std::alloc::{AllocError, Global};
+use std::test::Fail;
+use table_index::WipeError;
+
+/// The texts of the rows of an index.
+fn rows_of(alloc: Global, table: &Base, name: &'static str) -> Result<Vec<u8>, AllocError> {
+    match told(alloc, table, &whole(alloc, name)?) {
+        Ok(rows) => Ok(rows),
+        Err(_) => Err(AllocError),
+    }
+}
+
+/// The texts of the rows of each index.
+fn listed(alloc: Global, table: &Base) -> Result<Vec<Vec<u8>>, AllocError> {
+    let mut lists = Vec::new(alloc);
+    for name in &NAMES {
+        lists.push(rows_of(alloc, table, name)?)?;
+    }
+    Ok(lists)
+}
+
+/// Makes a write, and tells whether it found no memory.
+fn finds_no_memory(txn: &mut Work, write: &Write) -> bool {
+    match write {
+        Write::Put(row) => txn.put(row) == Err(WriteError::Memory),
+        Write::Remove(row) => txn.remove(row).err() == Some(WriteError::Memory),
+        Write::Wipe(question) => txn.take_all(&question.query).err() == Some(WipeError::Memory),
+        Write::WipePrefix(question) => {
+            txn.take_prefix(&question.query).err() == Some(WipeError::Memory)
+        }
+    }
+}
+
+/// Makes a drawn write, and tells whether it finds no memory just where it spoils the change.
+fn spoils_so(alloc: Global, random: &mut Random, txn: &mut Work) -> Told {
+    let write = random.write(alloc)?;
+    Ok(finds_no_memory(txn, &write) == txn.spoiled())
+}
+
+/// Makes drawn writes until one finds no memory, and tells whether that one alone spoils the
+/// change.
+fn one_spoils(alloc: Global, random: &mut Random, txn: &mut Work) -> Told {
+    for _ in 0..40 {
+        if !spoils_so(alloc, random, txn)? {
+            return Ok(false);
+        }
+        if txn.spoiled() {
+            return Ok(true);
+        }
+    }
+    Ok(true)
+}
+
+/// The same of a new change of a table.
+fn one_spoils_anew(alloc: Global, random: &mut Random, table: &Base) -> Told {
+    let mut txn = table.txn()?;
+    one_spoils(alloc, random, &mut txn)
+}
+
+/// The same, and whether each index of the table lists the same rows as before.
+fn is_kept(alloc: Global, random: &mut Random, table: &Base) -> Told {
+    let before = listed(alloc, table)?;
+    let spoils = one_spoils_anew(alloc, random, table)?;
+    Ok(spoils && listed(alloc, table)? == before)
+}
+
+/// The same of the table of a change, where that isn't spoiled.
+fn is_kept_by(alloc: Global, random: &mut Random, txn: &mut Work) -> Told {
+    if txn.spoiled() {
+        return Ok(true);
+    }
+    let table = txn.stand()?;
+    is_kept(alloc, random, &table)
+}
+
+/// The same after drawn writes in the change, of which one alone may spoil it.
+fn is_kept_after(alloc: Global, txn: &mut Work) -> Told {
+    let mut random = Random(0x2545_f491_4f6c_dd1d);
+    Ok(one_spoils(alloc, &mut random, txn)? && is_kept_by(alloc, &mut random, txn)?)
+}
+
+/// The same on a new table. It is so whichever allocation of a write fails.
+fn is_always_kept(alloc: Global) -> Told {
+    let mut txn = begun(alloc, SCHEMA)?;
+    Ok(is_kept_after(alloc, &mut txn).unwrap_or(true))
+}
+
+#[test]
+fn a_refused_write_leaves_the_table(rt: HostRuntime) -> Result<(), Fail> {
+    right(is_always_kept(rt.alloc())?, "another table")
+}

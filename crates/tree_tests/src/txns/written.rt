@@ -1,0 +1,283 @@
+//! Writes that are in order, and what is read of a tree.
+ghost use Rattle.std.specs.Prelude.{◌≡◌, ◌≤◌, true, false, IfOk, OnOk, length};
+ghost use Rattle.radix_node.specs.Cells.{AreBelow, AreOf};
+
+use super::Line;
+use mdb_datum::{Datum, Row, read_doc};
+use radix_node::{Edges, Ids, Node, Tree};
+use radix_txn::{Edit, Notice, TreeTxn};
+use std::alloc::{AllocError, Global};
+use std::marker::Model;
+use std::mem;
+use watch_word::{Front, open_book};
+
+/// The row that a text is. Another text counts as want of memory, which ends a test.
+#[tactic(auto, using(mdb_datum::proofs::Variants::doc_of_members))]
+pub fn row_of(alloc: Global, text: &str) -> Result<Row, AllocError> {
+    match read_doc(alloc, text.as_bytes()) {
+        Ok(Datum::Members(members)) => Row::of(alloc, members),
+        _ => Err(AllocError),
+    }
+}
+
+/// The row of a number.
+pub fn row(alloc: Global, number: u64) -> Result<Row, AllocError> {
+    let text = format!(in alloc; "{{\"n\":{number}}}")?;
+    row_of(alloc, text.as_str())
+}
+
+/// Whether there is a row, and it is that of the number.
+pub fn is_row(row: Option<&Row>, number: u64) -> bool {
+    match row {
+        Some(row) => is_number(row.get("n"), number),
+        None => false,
+    }
+}
+
+/// Whether there is a datum, and it is the number.
+fn is_number(datum: Option<&Datum>, number: u64) -> bool {
+    match datum {
+        Some(Datum::Whole(n)) => *n == i128::from(number),
+        _ => false,
+    }
+}
+
+// ---- writes, each an error where it would be out of order
+
+/// A transaction, with what its writes draw cells from.
+#[derive(Drop)]
+pub struct Work {
+    txn: TreeTxn,
+    front: Front,
+    ids: Ids,
+}
+
+impl Model for Work {
+    ghost use Rattle.std.specs.Prelude.{◌≡◌};
+    ghost use Rattle.radix_node.specs.Cells.{AreBelow, AreOf};
+    ghost use Rattle.radix_txn.specs.Txn.{Txn};
+    ghost use Rattle.radix_txn.specs.inner.Stored.{txn_code};
+
+    ghost Value = { Txn };
+
+    ghost coded = { txn_code };
+
+    ghost view = { λ w. w.txn };
+
+    ghost invariant = { λ w. (w.front.book ≡ w.ids.book)
+        × AreBelow w.ids.next w.txn.tree × AreBelow w.ids.next w.txn.start
+        × AreOf w.ids.book w.txn.tree };
+}
+
+impl Work {
+    /// A transaction on an empty tree.
+    pub fn new(alloc: Global) -> Result<Work, AllocError> {
+        let (book, front) = open_book(alloc)?;
+        let mut ids = Ids::starting(book, 0);
+        let txn = empty_txn(alloc, &front, &mut ids)?;
+        Ok(Work { txn, front, ids })
+    }
+
+    /// The transaction.
+    pub fn txn(&self) -> &TreeTxn
+        ensures { result.now ≡ self.now }
+    {
+        &self.txn
+    }
+
+    /// How many ids are left to draw.
+    pub fn left(&self) -> u64 {
+        self.ids.left()
+    }
+
+    /// Whether a write of a key is in order.
+    fn is_ready(&self, key: &[u8]) -> bool
+        ensures { result ≡ true → (length key.now ≤ 2048) × (self.now.spoiled ≡ false) }
+    {
+        key.len() <= 2_048 && !self.txn.spoiled()
+    }
+
+    /// Puts a row under a key, and gives the old row.
+    pub fn put(&mut self, key: &[u8], row: &Row) -> Result<Option<Row>, AllocError> {
+        if !self.is_ready(key) || self.ids.left() < 4_096 {
+            return Err(AllocError);
+        }
+        self.txn.insert(&self.front, &mut self.ids, key, row)
+    }
+
+    /// Takes out a key, and gives its row.
+    pub fn take(&mut self, key: &[u8]) -> Result<Option<Row>, AllocError> {
+        if !self.is_ready(key) || self.ids.left() < 4_096 {
+            return Err(AllocError);
+        }
+        self.txn.delete(&self.front, &mut self.ids, key)
+    }
+
+    /// Takes out the keys that begin with a prefix, and tells how many there were.
+    pub fn take_all(&mut self, prefix: &[u8]) -> Result<u64, AllocError> {
+        if !self.is_ready(prefix) || self.ids.left() < 4_096 {
+            return Err(AllocError);
+        }
+        self.txn.delete_prefix(&self.front, &mut self.ids, prefix)
+    }
+
+    /// The present tree.
+    pub fn stand(&mut self) -> Result<Tree, AllocError> {
+        if self.txn.spoiled() {
+            return Err(AllocError);
+        }
+        self.txn.stand()
+    }
+
+    /// Goes on with a new transaction on the present tree, by the same ids.
+    pub fn renew(&mut self) -> Result<(), AllocError> {
+        self.txn = next_txn(&mut self.txn)?;
+        Ok(())
+    }
+
+    /// The present tree and the notice, which end the transaction; a new one on the tree follows it.
+    pub fn follow(&mut self) -> Result<(Tree, Notice), AllocError> {
+        let next = next_txn(&mut self.txn)?;
+        let ended = mem::replace(&mut self.txn, next);
+        ended_by(ended)
+    }
+
+    /// The present tree and the notice, which end the transaction.
+    pub fn freeze(self) -> Result<(Tree, Notice), AllocError> {
+        let Work { txn, .. } = self;
+        ended_by(txn)
+    }
+}
+
+/// A transaction on an empty tree.
+fn empty_txn(alloc: Global, front: &Front, ids: &mut Ids) -> Result<TreeTxn, AllocError>
+    requires book { front.now.book ≡ ids.old.book }
+    requires left { ids.old.next ≡ 0 }
+    ensures same_book { ids.new.book ≡ ids.old.book }
+    ensures next { OnOk result (ids.new.next ≤ 1) }
+    ensures below { IfOk result (λ t. AreBelow ids.new.next t.tree) }
+    ensures below_start { IfOk result (λ t. AreBelow ids.new.next t.start) }
+    ensures of { IfOk result (λ t. AreOf ids.new.book t.tree) }
+{
+    let tree = Tree::empty(alloc, front, ids)?;
+    tree.txn()
+}
+
+/// A transaction on the present tree of another one.
+fn next_txn(txn: &mut TreeTxn) -> Result<TreeTxn, AllocError>
+    ensures unchanged { txn.new ≡ txn.old }
+    ensures tree { IfOk result (λ t. t.tree ≡ txn.old.tree) }
+    ensures start { IfOk result (λ t. t.start ≡ txn.old.tree) }
+{
+    if txn.spoiled() {
+        return Err(AllocError);
+    }
+    txn.stand()?.txn()
+}
+
+/// The tree and the notice that a transaction ends with.
+fn ended_by(txn: TreeTxn) -> Result<(Tree, Notice), AllocError> {
+    if txn.spoiled() {
+        return Err(AllocError);
+    }
+    txn.freeze()
+}
+
+/// A transaction with these keys put in turn, each with its place for its number.
+pub fn work_of(alloc: Global, keys: &[&[u8]]) -> Result<Work, AllocError> {
+    let mut work = Work::new(alloc)?;
+    put_each(alloc, &mut work, keys)?;
+    Ok(work)
+}
+
+/// Puts these keys in turn, each with its place for its number.
+fn put_each(alloc: Global, work: &mut Work, keys: &[&[u8]]) -> Result<(), AllocError> {
+    for (place, key) in keys.iter().enumerate() {
+        put_number(alloc, work, key, place as u64)?;
+    }
+    Ok(())
+}
+
+/// Puts the row of a number, and gives the old row.
+pub fn put_row(
+    alloc: Global,
+    work: &mut Work,
+    key: &[u8],
+    number: u64,
+) -> Result<Option<Row>, AllocError> {
+    let row = row(alloc, number)?;
+    work.put(key, &row)
+}
+
+/// Puts the row of a number.
+pub fn put_number(
+    alloc: Global,
+    work: &mut Work,
+    key: &[u8],
+    number: u64,
+) -> Result<(), AllocError> {
+    drop(put_row(alloc, work, key, number)?);
+    Ok(())
+}
+
+/// The tree of a transaction that is ended.
+pub fn frozen(work: Work) -> Result<Tree, AllocError> {
+    let (tree, _) = work.freeze()?;
+    Ok(tree)
+}
+
+/// The tree of these keys.
+pub fn tree_of(alloc: Global, keys: &[&[u8]]) -> Result<Tree, AllocError> {
+    let work = work_of(alloc, keys)?;
+    frozen(work)
+}
+
+// ---- trees
+
+/// Whether these are the labels of edges, in their order.
+pub fn labels_are(edges: &Edges, labels: &[u8]) -> bool {
+    edges.len() == labels.len()
+        && edges
+            .iter()
+            .zip(labels)
+            .all(|(e, label)| e.label() == *label)
+}
+
+/// Whether a node has this prefix, a leaf where that is said, and edges of these labels.
+pub fn is_node(node: &Node, prefix: &[u8], has_leaf: bool, labels: &[u8]) -> bool {
+    node.prefix() == prefix && node.leaf().is_some() == has_leaf && labels_are(node.edges(), labels)
+}
+
+/// Whether the path of a line leads to its node.
+fn leads_to_one(tree: &Tree, (path, prefix, has_leaf, labels): Line) -> bool {
+    match tree.seek(path) {
+        Some(node) => is_node(node, prefix, has_leaf, labels),
+        None => false,
+    }
+}
+
+/// Whether these are the nodes of the tree, where each edge of one leads to another one of them.
+pub fn nodes_are(tree: &Tree, nodes: &[Line]) -> bool {
+    for line in nodes {
+        if !leads_to_one(tree, *line) {
+            return false;
+        }
+    }
+    true
+}
+
+// ---- notices
+
+/// Whether a notice has the cell of an id.
+pub fn has(notice: &Notice, id: u64) -> bool {
+    notice.cells().iter().any(|cell| cell.id() == id)
+}
+
+// ---- writes one by one
+
+/// An insert of `ab`, one of `b`, and a delete of what begins with `a`; how many keys that was.
+pub fn three_writes(work: &mut Work, row: &Row) -> Result<u64, AllocError> {
+    drop(work.put(b"ab", row)?);
+    drop(work.put(b"b", row)?);
+    work.take_all(b"a")
+}

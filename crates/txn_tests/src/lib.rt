@@ -1,0 +1,7 @@
+//! Tests of the transactions and of the sets of watches, by their public calls alone.
+#![tactic(auto)]
+
+#[cfg(test)]
+mod sets;
+#[cfg(test)]
+mod txns;

@@ -1,0 +1,204 @@
+//! What no clause says: that each call succeeds while there is memory.
+ghost use Rattle.std.specs.Prelude.{◌≡◌, [], IfOk, IfSome};
+ghost use Rattle.mem_txn.specs.Checked.{IsBeginning};
+ghost use Rattle.mem_txn.specs.Database.{IsOf};
+ghost use Rattle.mem_txn.specs.CallerOf.{IsCaller};
+ghost use Rattle.mem_txn.specs.Transactions.{changes_of};
+
+mod callers;
+mod drawn;
+mod four_callers;
+mod late;
+mod long_run;
+mod watches;
+mod without_memory;
+mod worked;
+
+use mdb_datum::{Datum, Items, Row, Text, read_doc};
+use mdb_schema::{Answer, Ask, Query, Rows, Schema, read_schema};
+use mem_txn::{
+    BeginRefused, CommitRefused, Committed, Db, Pass, Passes, ReadTxn, Receipt, WriteTxn,
+};
+use std::alloc::{AllocError, Global};
+use std::sync::Wait;
+
+static SCHEMA: &str = r#"{"memdb":1,"tables":{
+    "notes":{"indexes":{"id":{"unique":true,"indexer":{"kind":"text","field":"name"}}}},
+    "users":{"indexes":{"age":{"indexer":{"kind":"uint","field":"age","width":2}},
+    "id":{"unique":true,"indexer":{"kind":"text","field":"name"}},
+    "mail":{"unique":true,"allow_missing":true,"indexer":{"kind":"text","field":"mail"}},
+    "tags":{"allow_missing":true,"indexer":{"kind":"text_list","field":"tags"}}}}}}"#;
+
+/// Whether what was done is right.
+type Told = Result<bool, AllocError>;
+
+/// A transaction whose items aren't copied.
+type Txn = WriteTxn<String>;
+
+/// What the end of a transaction gives: the receipt of its commit, or nothing after an abort.
+type Done = Result<Option<Receipt<String>>, AllocError>;
+
+/// A question: what is asked, of which table and index, with which arguments.
+type Question = (Ask, &'static str, &'static str, &'static str);
+
+/// What is done in a transaction.
+trait Work {
+    /// Does it, and tells whether the transaction is to be committed. A wrong answer counts as want
+    /// of memory, which ends a test.
+    fn run(&mut self, alloc: Global, txn: &mut Txn) -> Told
+        ensures { (changes_of txn.new).caller ≡ (changes_of txn.old).caller };
+}
+
+/// The schema of two tables.
+fn schema_of(alloc: Global) -> Result<Schema, AllocError> {
+    match read_schema(alloc, SCHEMA.as_bytes()) {
+        Ok(schema) => Ok(schema),
+        Err(_) => Err(AllocError),
+    }
+}
+
+/// A database of two callers, the list of its passes without them, and they.
+pub fn pair(alloc: Global) -> Result<(Db, Passes, Pass, Pass), AllocError>
+    ensures one { IfOk result (λ made. IsCaller made.0 1 made.2) }
+    ensures two { IfOk result (λ made. IsCaller made.0 2 made.3) }
+    ensures both { IfOk result (λ made. made.0.callers ≡ 2) }
+    ensures rest { IfOk result (λ made. made.1 ≡ record { passes = []; made = 2 }) }
+{
+    let (db, mut passes) = Db::create(alloc, schema_of(alloc)?, 2)?;
+    match (passes.take(), passes.take()) {
+        (Some(one), Some(two)) => Ok((db, passes, one, two)),
+        _ => unreachable!(),
+    }
+}
+
+/// The last state, when both passes are back.
+pub fn closed<R: Wait>(rt: &R, db: Db, mut passes: Passes, one: Pass, two: Pass) -> ReadTxn
+    requires one { IsCaller db 1 one }
+    requires two { IsCaller db 2 two }
+    requires both { db.callers ≡ 2 }
+    requires rest { passes ≡ record { passes = []; made = 2 } }
+{
+    passes.give(one);
+    passes.give(two);
+    db.close(rt, passes)
+}
+
+/// The receipt of a transaction's commit.
+fn committed<R: Wait>(rt: &R, db: &Db, txn: Txn) -> (Pass, Done)
+    requires own { IsOf db.now (changes_of txn).caller }
+    ensures own { IsCaller db.now (changes_of txn).caller.number result.0 }
+    ensures more { IsBeginning (changes_of txn).caller result.0 }
+    ensures book { let pass = result.0 in
+        IfOk result.1 (λ done. IfSome done (λ r. let log = r.log in log.book ≡ pass.book)) }
+{
+    match txn.commit(rt, db) {
+        Ok(Committed { pass, receipt }) => (pass, Ok(Some(receipt))),
+        Err(CommitRefused { pass, cause: _ }) => (pass, Err(AllocError)),
+    }
+}
+
+/// Does some work in a transaction, and ends it by its commit or its abort.
+fn work_in<W: Work, R: Wait>(rt: &R, alloc: Global, db: &Db, txn: Txn, work: &mut W) -> (Pass, Done)
+    requires own { IsOf db.now (changes_of txn).caller }
+    ensures own { IsCaller db.now (changes_of txn).caller.number result.0 }
+    ensures more { IsBeginning (changes_of txn).caller result.0 }
+    ensures book { let pass = result.0 in
+        IfOk result.1 (λ done. IfSome done (λ r. let log = r.log in log.book ≡ pass.book)) }
+{
+    let mut txn = txn;
+    match work.run(alloc, &mut txn) {
+        Ok(true) => committed(rt, db, txn),
+        Ok(false) => (txn.abort(db), Ok(None)),
+        Err(AllocError) => (txn.abort(db), Err(AllocError)),
+    }
+}
+
+/// Does some work in a new transaction of a caller.
+fn transact<W: Work, R: Wait>(
+    rt: &R,
+    alloc: Global,
+    db: &Db,
+    pass: Pass,
+    work: &mut W,
+) -> (Pass, Done)
+    requires own { IsOf db.now pass }
+    ensures own { IsCaller db.now pass.number result.0 }
+    ensures more { IsBeginning pass result.0 }
+    ensures book { let after = result.0 in
+        IfOk result.1 (λ done. IfSome done (λ r. let log = r.log in log.book ≡ after.book)) }
+{
+    match db.write(rt, pass) {
+        Ok(txn) => work_in(rt, alloc, db, txn, work),
+        Err(BeginRefused { pass, cause: _ }) => (pass, Err(AllocError)),
+    }
+}
+
+/// Whether a transaction was committed.
+fn is_made(done: Done) -> Told {
+    Ok(done?.is_some())
+}
+
+/// The row that a text is. Another text counts as want of memory, which ends a test.
+#[tactic(auto, using(mdb_datum::proofs::Variants::doc_of_members))]
+pub fn row_of(alloc: Global, text: &str) -> Result<Row, AllocError> {
+    match read_doc(alloc, text.as_bytes()) {
+        Ok(Datum::Members(members)) => Row::of(alloc, members),
+        _ => Err(AllocError),
+    }
+}
+
+/// The arguments that a text lists.
+fn args_of(alloc: Global, text: &str) -> Result<Items, AllocError> {
+    match read_doc(alloc, text.as_bytes()) {
+        Ok(Datum::Items(items)) => Ok(items),
+        _ => Err(AllocError),
+    }
+}
+
+/// The question of these words, of an index of a table.
+fn query_at(
+    alloc: Global,
+    ask: Ask,
+    table: &Text,
+    index: &Text,
+    args: &str,
+) -> Result<Query, AllocError> {
+    Query::of(alloc, ask, table, index, args_of(alloc, args)?)
+}
+
+/// The question of these words.
+pub fn query_of(alloc: Global, question: &Question) -> Result<Query, AllocError> {
+    let table = Text::of(alloc, question.1)?;
+    let index = Text::of(alloc, question.2)?;
+    query_at(alloc, question.0, &table, &index, question.3)
+}
+
+/// Adds a line with a row's text.
+fn push_line(row: &Row, text: &mut Vec<u8>) -> Result<(), AllocError> {
+    row.append_doc(text)?;
+    text.push(b'\n')?;
+    Ok(())
+}
+
+/// The texts of rows, one a line.
+fn lines_of(alloc: Global, rows: &Rows) -> Result<Vec<u8>, AllocError> {
+    let mut text = Vec::new(alloc);
+    for row in rows.iter() {
+        push_line(row, &mut text)?;
+    }
+    Ok(text)
+}
+
+/// The text of an answer: the lines of its rows, or its row, or `none`.
+fn told_of(alloc: Global, answer: &Answer) -> Result<Vec<u8>, AllocError> {
+    match answer {
+        Answer::Many(rows) => lines_of(alloc, rows),
+        Answer::One(Some(row)) => Ok(row.doc()?),
+        Answer::One(None) => Ok(Vec::from_array(alloc, *b"none")?),
+    }
+}
+
+/// Whether an answer has this text.
+fn is_told(alloc: Global, answer: &Answer, expected: &str) -> Told {
+    Ok(told_of(alloc, answer)?.as_slice() == expected.as_bytes())
+}

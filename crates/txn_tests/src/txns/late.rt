@@ -1,0 +1,107 @@
+//! A watch that a commit fires which the state that was read hasn't, and a front that was given before.
+ghost use Rattle.std.specs.Prelude.{◌≡◌};
+ghost use Rattle.mem_txn.specs.CallerOf.{IsCaller};
+ghost use Rattle.mem_txn.specs.Checked.{HasHeard, IsHeldBy};
+ghost use Rattle.mem_txn.specs.Database.{IsOf, reading_of};
+
+use super::four_callers::watch_now;
+use super::worked::{Step, Steps};
+use super::{Question, Told, closed, is_made, pair, query_of, transact};
+use mdb_schema::{Ask, Query};
+use mem_txn::{Db, Held, Look, Pass, ReadTxn};
+use std::alloc::{AllocError, Global};
+use std::sync::Wait;
+use std::test::Fail;
+
+/// The question of a user who isn't there.
+const NOBODY: Question = (Ask::First, "users", "id", r#"["foo"]"#);
+
+/// The commit that stores the user.
+const FOO: &[Step] = &[Step::Insert(("users", r#"{"name":"foo","age":1}"#, "inserted"))];
+
+/// Whether a watch has fired, asked by a front of its database.
+fn has_moved(db: &Db, pass: &Pass, held: &Held) -> bool
+    requires own { IsOf db.now pass.now }
+    requires held { IsHeldBy pass.now held.now }
+{
+    held.watch().moved(&db.front()).fired
+}
+
+/// Whether the watch is late in the state that was read, and has fired in the next.
+fn is_late<R: Wait>(rt: &R, db: &Db, pass: &mut Pass, read: &ReadTxn, held: &Held) -> Told
+    requires own { IsOf db.now pass.old }
+    requires read { read.now ≡ reading_of pass.old }
+    requires heard { HasHeard pass.old }
+    requires held { IsHeldBy pass.old held.now }
+    ensures { IsCaller db.now pass.old.number pass.new }
+{
+    let late = read.check(pass, held).is_none();
+    Ok(late && db.check(rt, pass, held)? == Look::Fired { at: 1 })
+}
+
+/// Whether it is quiet before another caller's commit, and late after it.
+fn is_late_behind<R: Wait>(
+    rt: &R,
+    alloc: Global,
+    db: &Db,
+    one: Pass,
+    two: Pass,
+    read: &ReadTxn,
+    held: &Held,
+) -> (Pass, Pass, Told)
+    requires one { IsCaller db.now 1 one }
+    requires two { IsCaller db.now 2 two }
+    requires read { read.now ≡ reading_of one }
+    requires heard { HasHeard one }
+    requires held { IsHeldBy one held.now }
+    ensures one { IsCaller db.now 1 result.0 }
+    ensures two { IsCaller db.now 2 result.1 }
+{
+    let mut one = one;
+    let quiet = !has_moved(db, &one, held);
+    let (two, done) = transact(rt, alloc, db, two, &mut Steps(FOO));
+    let fired = has_moved(db, &one, held);
+    let late = is_late(rt, db, &mut one, read, held);
+    (one, two, all_so(quiet && fired, is_made(done), late))
+}
+
+/// Whether all three are so.
+fn all_so(first: bool, second: Told, third: Told) -> Told {
+    Ok(second? && third? && first)
+}
+
+/// The same of a watch that is asked before.
+fn is_late_asked<R: Wait>(
+    rt: &R,
+    alloc: Global,
+    db: &Db,
+    one: Pass,
+    two: Pass,
+    query: &Query,
+) -> (Pass, Pass, Told)
+    requires one { IsCaller db.now 1 one }
+    requires two { IsCaller db.now 2 two }
+    ensures one { IsCaller db.now 1 result.0 }
+    ensures two { IsCaller db.now 2 result.1 }
+{
+    let mut one = one;
+    match watch_now(rt, db, &mut one, query) {
+        Ok((read, held)) => is_late_behind(rt, alloc, db, one, two, &read, &held),
+        Err(_) => (one, two, Err(AllocError)),
+    }
+}
+
+/// The same in a new database.
+fn is_found_late<R: Wait>(rt: &R, alloc: Global) -> Told {
+    let query = query_of(alloc, &NOBODY)?;
+    let (db, passes, one, two) = pair(alloc)?;
+    let (one, two, told) = is_late_asked(rt, alloc, &db, one, two, &query);
+    drop(closed(rt, db, passes, one, two));
+    told
+}
+
+#[test]
+fn a_check_finds_a_later_commit_late(rt: HostRuntime) -> Result<(), Fail> {
+    assert!(rt; is_found_late(&rt, rt.alloc())?);
+    Ok(())
+}
