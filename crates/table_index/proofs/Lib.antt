@@ -1,6 +1,7 @@
 pub mod WriteAnswers
 pub mod AskedKeys
 pub mod AskedRows
+pub mod Beginnings
 pub mod Changes
 pub mod CutTrees
 pub mod DrawnIds
@@ -15,16 +16,21 @@ pub mod KeyLoops
 pub mod KeysTold
 pub mod ListedKeys
 pub mod Lookups
+pub mod NetSteps
 pub mod NewTrees
 pub mod OneByOne
 mod OnlyIdKey
 pub mod OwnNames
+pub mod PiecesTaken
 pub mod PutSteps
 pub mod Removals
 pub mod RowCounts
 pub mod RowKeys
 pub mod SeparateTrees
+pub mod SharedPairs
+pub mod SharedPieces
 pub mod StoredRows
+pub mod TableNets
 pub mod RowRemoval
 pub mod WalkedRows
 pub mod WatchedRows

@@ -1,5 +1,6 @@
 pub mod Drawn
 pub mod Frozen
+pub mod Shared
 pub mod Spot
 pub mod Table
 pub mod Walks

@@ -19,7 +19,10 @@ mod id_key;
 mod ids_left;
 mod listed;
 mod lookup;
+mod net;
+mod net_walk;
 mod notices;
+mod pieces;
 mod put;
 mod question;
 mod question_key;
@@ -40,6 +43,7 @@ mod wipe;
 mod wipe_error;
 mod wipe_rules;
 
+pub use net::{Net, NetList};
 pub use notices::Notices;
 pub use table::Table;
 pub use table_txn::TableTxn;

@@ -4,6 +4,7 @@ mod drawn;
 mod ids;
 mod long;
 mod mixed;
+mod net;
 mod owned;
 mod plain;
 mod played;

@@ -233,7 +233,7 @@ pub fn tell_answer(answer: Result<Answer, AskError>, out: &mut String) -> Result
 }
 
 /// Adds a row, or that there is none.
-fn tell_one(row: Option<&Row>, out: &mut String) -> Result<(), AllocError> {
+pub fn tell_one(row: Option<&Row>, out: &mut String) -> Result<(), AllocError> {
     match row {
         Some(row) => {
             out.push_str("row")?;

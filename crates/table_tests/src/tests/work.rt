@@ -1,5 +1,5 @@
 //! Tables and changes with what their writes draw cells from.
-ghost use Rattle.std.specs.Prelude.{◌≡◌, ◌+◌, ◌≤◌, ◌^◌};
+ghost use Rattle.std.specs.Prelude.{◌≡◌, ◌+◌, ◌≤◌, ◌^◌, IfOk};
 
 use mdb_datum::Row;
 use mdb_schema::{Answer, AskError, Query, Rows, TableDef, WriteError};
@@ -7,7 +7,8 @@ use radix_iter::Walk;
 use radix_node::Ids;
 use std::alloc::{AllocError, Global};
 use std::marker::Model;
-use table_index::{Notices, Table, TableTxn, WipeError};
+use table_index::table_laws::rows_are_held;
+use table_index::{NetList, Notices, Table, TableTxn, WipeError};
 use watch_word::{Front, open_book};
 
 /// A table, and what the schema says of it.
@@ -73,7 +74,10 @@ impl Base {
     }
 
     /// A change of the table.
-    pub fn txn(&self) -> Result<Work, AllocError> {
+    pub fn txn(&self) -> Result<Work, AllocError>
+        ensures schema { IfOk result (λ w. w.schema ≡ self.now.schema) }
+        ensures start { IfOk result (λ w. w.start ≡ self.now.trees) }
+    {
         Ok(Work {
             def: self.def.share()?,
             txn: self.table.txn()?,
@@ -125,7 +129,10 @@ impl Work {
     }
 
     /// Puts a row in; true where it replaces one.
-    pub fn put(&mut self, row: &Row) -> Result<bool, WriteError> {
+    pub fn put(&mut self, row: &Row) -> Result<bool, WriteError>
+        ensures schema { self.new.schema ≡ self.old.schema }
+        ensures start { self.new.start ≡ self.old.start }
+    {
         if self.txn.spoiled() {
             return Err(WriteError::Memory);
         }
@@ -133,7 +140,10 @@ impl Work {
     }
 
     /// Takes out the row of another's `id` key.
-    pub fn remove(&mut self, row: &Row) -> Result<Row, WriteError> {
+    pub fn remove(&mut self, row: &Row) -> Result<Row, WriteError>
+        ensures schema { self.new.schema ≡ self.old.schema }
+        ensures start { self.new.start ≡ self.old.start }
+    {
         if self.txn.spoiled() {
             return Err(WriteError::Memory);
         }
@@ -141,7 +151,10 @@ impl Work {
     }
 
     /// Takes out each row that a question lists, and gives them.
-    pub fn take_all(&mut self, query: &Query) -> Result<Rows, WipeError> {
+    pub fn take_all(&mut self, query: &Query) -> Result<Rows, WipeError>
+        ensures schema { self.new.schema ≡ self.old.schema }
+        ensures start { self.new.start ≡ self.old.start }
+    {
         if self.txn.spoiled() {
             return Err(WipeError::Memory);
         }
@@ -200,5 +213,19 @@ impl Work {
             return Err(AllocError);
         }
         txn.freeze()
+    }
+
+    /// What the change makes of the table that it began with.
+    pub fn net(self, base: &Base) -> Result<NetList, AllocError>
+        requires schema { self.schema ≡ base.now.schema }
+        requires start { self.start ≡ base.now.trees }
+    {
+        let Work { txn, .. } = self;
+        if txn.spoiled() {
+            return Err(AllocError);
+        }
+        rows_are_held(&base.table);
+        let frozen = txn.freeze()?;
+        base.table.net(&frozen.0)
     }
 }
