@@ -1,0 +1,5 @@
+pub mod Moving
+pub mod Noted
+pub mod PollsAgain
+pub mod Registered
+pub mod SameCaller

@@ -1,0 +1,2 @@
+pub mod AtContext
+pub mod NotedAt
