@@ -28,17 +28,17 @@ use Rattle.run_io.proofs.InOrder.{IsNotWhole, large_not_whole, absent_not_whole,
 
 -- ---- the words
 
-named_once : (words : List Bytes) (a b : Named) → files_named words ≡ Some a → files_named words ≡ Some b → a ≡ b
+pub named_once : (words : List Bytes) (a b : Named) → files_named words ≡ Some a → files_named words ≡ Some b → a ≡ b
 named_once words a b e f = let h : Some a ≡ Some b = sym e ∙ f in cc
 
-never_named : (words : List Bytes) (named : Named) → files_named words ≡ None → files_named words ≡ Some named → ⊥
+pub never_named : (words : List Bytes) (named : Named) → files_named words ≡ None → files_named words ≡ Some named → ⊥
 never_named words named e f = let h : None ≡ Some named = sym e ∙ f in cc
 
-numbers_once : (words : List Bytes) (n : Numbers) → numbers_named words ≡ None → numbers_named words ≡ Some n → ⊥
+pub numbers_once : (words : List Bytes) (n : Numbers) → numbers_named words ≡ None → numbers_named words ≡ Some n → ⊥
 numbers_once words n e f = let h : None ≡ Some n = sym e ∙ f in cc
 
 -- words aren't both commands
-one_command : (words : List Bytes) (named : Named) (n : Numbers) → files_named words ≡ Some named → numbers_named words ≡ Some n → ⊥
+pub one_command : (words : List Bytes) (named : Named) (n : Numbers) → files_named words ≡ Some named → numbers_named words ≡ Some n → ⊥
 one_command words named n run make = by_test (list_all may_name_a_file words) run make
   where
     by_word : (word : Bytes) (rest : List Bytes) (b : Bool) → bytes_eq (codes "run") word ≡ b → cond b (files_behind rest) None ≡ Some named → make_of (word ∷ rest) ≡ Some n → ⊥

@@ -17,6 +17,7 @@ pub mod ManySessions
 pub mod MoreScripts
 pub mod NameBytes
 pub mod NumberDigits
+pub mod OneCause
 pub mod PlacesByCaller
 pub mod PlainTexts
 pub mod PlainWords

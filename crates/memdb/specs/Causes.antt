@@ -60,3 +60,20 @@ pub data CallsFor (words : List Bytes) (seen : Observed) (status : ℕ) : Type 0
 abbrev pub IsOneOf : List ℕ → ℕ → Type 0
 IsOneOf [] status = ⊥
 IsOneOf (s ∷ ss) status = (status ≡ s) ⊎ IsOneOf ss status
+
+-- no two statuses are called for
+abbrev pub NoTwoCauses : Type 0
+NoTwoCauses = (words : List Bytes) (seen : Observed) (s t : ℕ)
+    → CallsFor words seen s → CallsFor words seen t → s ≡ t
+
+-- one status is called for, and no other
+pub record HasOneCause (words : List Bytes) (seen : Observed) : Type 0 where
+  pub status : ℕ
+  pub among : IsOneOf (0 ∷ 1 ∷ 2 ∷ 3 ∷ 5 ∷ 7 ∷ []) status
+  pub called : CallsFor words seen status
+  pub only : (other : ℕ) → CallsFor words seen other → other ≡ status
+
+-- so it is where the files tell their bytes, and no read fails but of a file that isn't there
+abbrev pub OneCauseWhereTold : Type 0
+OneCauseWhereTold =
+    (words : List Bytes) (seen : Observed) → HasNoExcuse seen → HasOneCause words seen

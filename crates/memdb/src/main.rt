@@ -9,6 +9,7 @@
 #![tactic(auto)]
 
 mod answers;
+mod causes;
 mod clients;
 mod made;
 mod outcome;
