@@ -135,3 +135,14 @@ pub record Wrote (old new : Option Bytes) (P : Bytes → Type 0) : Type 0 where
   pub text : Bytes
   pub holds : P text
   pub grown : Grows old new text
+
+-- ---- the end
+
+-- how a run ends: the text of its status is written whole; or, with 6, only a part of a text; or,
+-- with 4, nothing
+pub data HasEnded (words : List Bytes) (seen : Observed) (old new : Option Bytes) (status : ℕ)
+    : Type 0 where
+  answered : Wrote old new (IsAnswer words seen status) → HasEnded words seen old new status
+  cut_short : status ≡ 6 → Wrote old new (CutShort words seen)
+      → HasEnded words seen old new status
+  out_of_memory : status ≡ 4 → new ≡ old → HasEnded words seen old new status

@@ -4,11 +4,12 @@
 //! hold, an answer of 0 says that the bytes written are answers in one history, and every other
 //! answer has its cause. The modules below it read the words, run the clients' sessions on a
 //! database (`client_session`), and say what is written; `run_io` loads the files and writes the
-//! text. `main` hands it the real files and the real output, of which nothing is claimed but counts
-//! and causes.
+//! text. `main` hands it the host's arguments, the real files and the real output. Of these files
+//! and this output nothing is claimed but counts and causes.
 #![tactic(auto)]
 
 mod answers;
+mod arguments;
 mod causes;
 mod clients;
 mod made;
@@ -20,56 +21,50 @@ mod sessions;
 mod tests;
 mod words;
 
-use mdb_datum::Text;
-use mdb_ports::{DirFiles, OpenGate, OutSink};
+ghost use Rattle.std.specs.Prelude.{◌≡◌, ℕ, ◌∷◌, []};
+ghost use Rattle.mdb_ports.specs.Faults.{Rose};
+ghost use Rattle.memdb.specs.Arguments.{words_in};
+ghost use Rattle.memdb.specs.Causes.{CallsFor, IsOneOf};
+ghost use Rattle.memdb.specs.Outcome.{HasEnded};
+ghost use Rattle.run_io.specs.Observed.{observed};
+
+use crate::arguments::words_of;
+use mdb_ports::{DirFiles, Files, OpenGate, OutSink, Sink};
 use std::alloc::{AllocError, Global};
 use std::process::ExitCode;
-use std::rt::{Env, Files as HostFiles};
 use std::sync::Wait;
 use std::thread::Threads;
 use std::{env, io};
 
-/// Carries out the command of the words, and ends with its status.
+/// Carries out the command of the host's arguments, over the real files and the real output, and
+/// ends with its status.
 fn main(rt: HostRuntime) -> ExitCode {
-    let alloc = rt.alloc();
-    match command_line(&rt, alloc) {
-        Ok(words) => ExitCode::from(run_on_host(&rt, alloc, &words)),
-        Err(AllocError) => ExitCode::from(4),
-    }
+    let mut files = DirFiles::new(&rt);
+    let mut out = OutSink::new(&rt);
+    let args = env::args(&rt);
+    ExitCode::from(run_arguments(&rt, rt.alloc(), args, &mut files, &mut out))
 }
 
-/// Runs the command that the words are over the real files and the real output.
-fn run_on_host<R: HostFiles + Print + Threads + Wait + Sync>(
+/// Carries out the command that the arguments behind the first are, and answers its status, as
+/// [`run::run`] does.
+fn run_arguments<R: Threads + Wait + Sync, F: Files, S: Sink>(
     rt: &R,
     alloc: Global,
-    words: &[Text],
-) -> u8 {
-    let mut files = DirFiles::new(rt);
-    let mut out = OutSink::new(rt);
-    run::run(rt, alloc, words, &mut files, &mut out, &OpenGate)
-}
-
-/// The words after the program's name. Where one of them is no text there are none, which is no
-/// command.
-fn command_line(rt: &(impl Env + AllocGlobal), alloc: Global) -> Result<Vec<Text>, AllocError> {
-    match env::args(rt) {
-        Ok(args) => words_of(alloc, args),
-        Err(error) if error.kind() == io::ErrorKind::OutOfMemory => Err(AllocError),
-        Err(_error) => Ok(Vec::new(alloc)),
+    args: io::Result<env::Args>,
+    files: &mut F,
+    out: &mut S,
+) -> u8
+    ensures ended { let seen = observed (F.told files.old) (F.reliable files.old)
+        (F.faults files.old) (F.faults files.new) in
+        HasEnded (words_in args) seen (S.told out.old) (S.told out.new) result }
+    ensures comes { let seen = observed (F.told files.old) (F.reliable files.old)
+        (F.faults files.old) (F.faults files.new) in
+        (status : ℕ) → CallsFor (words_in args) seen status
+        → IsOneOf (status ∷ 4 ∷ 6 ∷ []) result }
+    ensures failed { result ≡ 6 → Rose (S.faults out.old) (S.faults out.new) }
+{
+    match words_of(alloc, args) {
+        Ok(words) => run::run(rt, alloc, &words, files, out, &OpenGate),
+        Err(AllocError) => 4,
     }
-}
-
-/// The arguments behind the first, as texts of their own.
-fn words_of(alloc: Global, args: env::Args) -> Result<Vec<Text>, AllocError> {
-    let mut words = Vec::new(alloc);
-    for word in args.skip(1) {
-        add_word(alloc, word, &mut words)?;
-    }
-    Ok(words)
-}
-
-/// Adds a word, as a text of its own.
-fn add_word(alloc: Global, word: String, words: &mut Vec<Text>) -> Result<(), AllocError> {
-    words.push(Text::of(alloc, &word)?)?;
-    Ok(())
 }

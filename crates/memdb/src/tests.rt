@@ -2,11 +2,13 @@
 //! failure at each call and each allocation.
 use super::*;
 use crate::tests::clients::{are_sixty_four, are_two_hundred};
+use mdb_datum::Text;
 use mdb_ports::{CallList, FileList, Gate, MemFiles, MemSink};
 use std::sync::Wait;
 use std::test::Fail;
 use std::thread::Threads;
 
+mod arguments;
 mod catalogue;
 mod clients;
 mod held;
