@@ -14,10 +14,14 @@ answered_rows (Ok (Many rows)) = rows
 answered_rows (Ok (One row)) = []
 answered_rows (Err e) = []
 
+-- the question for all rows is answered
+pub rows_asked : (n : Numbers) (v : View) (last : IsLastMade n v) → ask v.schema v.state all_rows ≡ Ok (Many last.left.rows)
+rows_asked n v last = ap (λ (x : View). ask x.schema x.state all_rows) last.view ∙ last.left.answer
+
 -- the rows that are answered are those that are left
 same_rows : (n : Numbers) (v : View) (rows : List Fields) (last : IsLastMade n v) → ask v.schema v.state all_rows ≡ Ok (Many rows) → rows ≡ last.left.rows
 same_rows n v rows last told =
-    sym (ap answered_rows told) ∙ ap (λ (x : View). answered_rows (ask x.schema x.state all_rows)) last.view ∙ ap answered_rows last.left.answer
+    sym (ap answered_rows told) ∙ ap answered_rows (rows_asked n v last)
 
 pub commits_told : (n : Numbers) (v : View) → IsLastMade n v → v.number ≡ n.clients * n.count
 commits_told n v last = ap (λ (x : View). x.number) last.view ∙ last.left.commits

@@ -5,10 +5,10 @@ ghost use Rattle.memdb.specs.inner.MadeInputs.{made_scripts, rounds_behind};
 
 use crate::made::drawing::Drawing;
 use crate::made::round::write_rounds;
-use client_script::{Script, Scripts, read_script};
+use client_script::{Script, ScriptError, Scripts, read_script};
 use std::alloc::{AllocError, Global};
 
-/// The script that the text of a client is read as.
+/// The script that the text of a client is read as. Its only error is want of memory.
 fn made_script(
     alloc: Global,
     client: u32,
@@ -24,7 +24,17 @@ fn made_script(
     write_rounds(client, count, drawing, &mut text)?;
     match read_script(alloc, &text) {
         Ok(script) => Ok(script),
-        Err(_) => Err(AllocError),
+        Err(error) => Err(want_of_memory(error)),
+    }
+}
+
+/// Want of memory, where an error is nothing else.
+fn want_of_memory(error: ScriptError) -> AllocError
+    requires { error ≡ ScriptError.Memory }
+{
+    match error {
+        ScriptError::Memory => AllocError,
+        _ => unreachable!(),
     }
 }
 

@@ -7,7 +7,7 @@ ghost use Rattle.memdb.specs.inner.LastState.{IsLastMade};
 ghost use Rattle.memdb.specs.inner.MadeInputs.{age_in, ages_in, all_rows};
 
 use mdb_datum::{Datum, Items, Row, Text};
-use mdb_schema::{Answer, Ask, Query, Rows};
+use mdb_schema::{Answer, Ask, AskError, Query, Rows};
 use mem_txn::ReadTxn;
 use std::alloc::{AllocError, Global};
 
@@ -37,7 +37,7 @@ impl Tally {
     }
 }
 
-/// All rows of the table `items`.
+/// All rows of the table `items`. Its only error is want of memory.
 fn rows_left(alloc: Global, last: &ReadTxn) -> Result<Rows, AllocError>
     requires { (n : Numbers) × IsLastMade n last.now.view }
     ensures { IfOk result (λ rows.
@@ -47,7 +47,17 @@ fn rows_left(alloc: Global, last: &ReadTxn) -> Result<Rows, AllocError>
     match last.ask(&question) {
         Ok(Answer::Many(rows)) => Ok(rows),
         Ok(Answer::One(_)) => unreachable!(),
-        Err(_) => Err(AllocError),
+        Err(error) => Err(want_of_memory(error)),
+    }
+}
+
+/// Want of memory, where an error is nothing else.
+fn want_of_memory(error: AskError) -> AllocError
+    requires { error ≡ AskError.Memory }
+{
+    match error {
+        AskError::Memory => AllocError,
+        _ => unreachable!(),
     }
 }
 
