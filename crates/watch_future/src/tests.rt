@@ -256,7 +256,7 @@ fn is_noted<R: Wait>(
     pass: &mut Pass,
     awaited: &Awaited,
     list: &mut NoteList,
-) -> bool
+) -> Told
     requires own { IsCaller db.now 1 pass.old }
     requires can { let w = awaited.now in CanPoll db.now pass.old w.set w.notes }
     requires empty { list.old ≡ [] }
@@ -267,10 +267,10 @@ fn is_noted<R: Wait>(
     let until = awaited.notes.as_ref();
     awaited_cells_are_of_the_book(db, pass, &awaited.set, until);
     match poll_watch(rt, db, pass, &awaited.set, until, list) {
-        Poll::Pending => true,
-        Poll::Ready(_) => {
+        Poll::Pending => Ok(true),
+        Poll::Ready(told) => {
             list.clear();
-            false
+            told.and(Ok(false))
         }
     }
 }
@@ -284,6 +284,20 @@ fn has_moved(db: &Db, list: &NoteList) -> bool
 
 /// A row, whether a watch of the notes cancels, and what a poll tells after the commit of the row.
 type Expected = (Line, bool, Woken);
+
+/// Whether a poll told what it should, where all before it was right.
+fn is_right(
+    noted: Told,
+    right: bool,
+    told: Poll<Result<Woken, AllocError>>,
+    expected: Woken,
+) -> Told {
+    noted?;
+    match told {
+        Poll::Ready(told) => Ok(told? == expected && right),
+        Poll::Pending => Ok(false),
+    }
+}
 
 /// Whether a first poll is pending, and after the commit of a row the list of notes has moved and
 /// a poll tells what it should.
@@ -304,14 +318,17 @@ fn is_told<R: Wait>(
     ensures two { IsCaller db.now 2 result.0 }
 {
     let mut list = NoteList::new(alloc);
-    let quiet = is_noted(rt, db, one, awaited, &mut list) && !has_moved(db, &list);
+    let noted = is_noted(rt, db, one, awaited, &mut list);
+    let quiet = noted == Ok(true) && !has_moved(db, &list);
     let (two, row) = insert(rt, alloc, db, two, &expected.0);
     let moved = has_moved(db, &list);
     list.clear();
     let until = awaited.notes.as_ref();
     let told = poll_watch(rt, db, one, &awaited.set, until, &mut list);
-    let right = quiet && moved && told == Poll::Ready(Ok(expected.2));
-    (two, row.and(Ok(right)))
+    (
+        two,
+        is_right(row.and(noted), quiet && moved, told, expected.2),
+    )
 }
 
 /// The same behind the first commit.
@@ -371,7 +388,7 @@ fn is_ready<R: Abort + Wait + RandomSource + AllocGlobal>(
     one: &mut Pass,
     awaited: Awaited,
     expected: Woken,
-) -> bool
+) -> Told
     requires own { IsCaller db.now 1 one.old }
     requires can { CanPoll db.now one.old awaited.set awaited.notes }
     ensures { IsCaller db.now 1 one.new }
@@ -381,7 +398,7 @@ fn is_ready<R: Abort + Wait + RandomSource + AllocGlobal>(
     match block_on(rt, future) {
         Ok((back, told)) => {
             let _ = &*back;
-            told == Ok(expected)
+            Ok(told? == expected)
         }
         Err(_) => panic!(rt; "there was not enough memory for a task"),
     }
@@ -411,7 +428,7 @@ fn is_registered<R: Wait>(
     queue: &Queue,
     mut cx: Context<'_>,
     other: Vacancy<'_>,
-) -> bool
+) -> Told
     requires own { IsCaller db.now 1 one.old }
     requires can { CanPoll db.now one.old awaited.set awaited.notes }
     ensures { IsCaller db.now 1 one.new }
@@ -423,12 +440,12 @@ fn is_registered<R: Wait>(
     cx.end(&polled);
     other.schedule();
     match polled {
-        Poll::Ready((back, _)) => {
+        Poll::Ready((back, told)) => {
             let None = future.end() else {
                 unreachable!();
             };
             let _ = &*back;
-            false
+            told.and(Ok(false))
         }
         Poll::Pending => {
             let asleep = is_next(rt, queue, tasks.1);
@@ -436,7 +453,7 @@ fn is_registered<R: Wait>(
                 unreachable!();
             };
             let _ = &*back;
-            asleep && is_next(rt, queue, tasks.0)
+            Ok(asleep && is_next(rt, queue, tasks.0))
         }
     }
 }
@@ -454,7 +471,7 @@ fn registers<R: Wait + RandomSource + AllocGlobal>(
     db: &Db,
     one: &mut Pass,
     awaited: Awaited,
-) -> io::Result<bool>
+) -> io::Result<Told>
     requires own { IsCaller db.now 1 one.old }
     requires can { CanPoll db.now one.old awaited.set awaited.notes }
     ensures { IsCaller db.now 1 one.new }
@@ -465,7 +482,7 @@ fn registers<R: Wait + RandomSource + AllocGlobal>(
         Some(cx) => Ok(is_registered(rt, alloc, db, one, awaited, &queue, cx, other)),
         None => {
             other.cancel();
-            Ok(false)
+            Ok(Ok(false))
         }
     }
 }
@@ -476,13 +493,13 @@ fn registers_then<R: Wait + RandomSource + AllocGlobal>(
     alloc: Global,
     db: &Db,
     one: &mut Pass,
-) -> io::Result<bool>
+) -> io::Result<Told>
     requires own { IsCaller db.now 1 one.old }
     ensures { IsCaller db.now 1 one.new }
 {
     match awaited_now(rt, alloc, db, one, true) {
         Ok(awaited) => registers(rt, alloc, db, one, awaited),
-        Err(AllocError) => Ok(false),
+        Err(AllocError) => Ok(Err(AllocError)),
     }
 }
 
@@ -490,7 +507,7 @@ fn registers_then<R: Wait + RandomSource + AllocGlobal>(
 fn is_woken_at_end<R: Wait + RandomSource + AllocGlobal>(
     rt: &R,
     alloc: Global,
-) -> Result<io::Result<bool>, AllocError> {
+) -> Result<io::Result<Told>, AllocError> {
     let (db, passes, mut one, two) = pair(alloc)?;
     let (two, ann) = insert(rt, alloc, &db, two, &INSERT_ANN);
     let told = registers_then(rt, alloc, &db, &mut one);
@@ -500,7 +517,7 @@ fn is_woken_at_end<R: Wait + RandomSource + AllocGlobal>(
 
 #[test]
 fn a_pending_future_has_registered_and_its_end_withdraws(rt: HostRuntime) -> Result<(), Fail> {
-    assert!(rt; is_woken_at_end(&rt, rt.alloc())??);
+    assert!(rt; is_woken_at_end(&rt, rt.alloc())???);
     Ok(())
 }
 
@@ -524,7 +541,7 @@ fn is_ready_behind<R: Abort + Wait + RandomSource + AllocGlobal>(
         return (two, Err(AllocError));
     }
     match made {
-        Ok(awaited) => (two, Ok(is_ready(rt, alloc, db, one, awaited, expected.2))),
+        Ok(awaited) => (two, is_ready(rt, alloc, db, one, awaited, expected.2)),
         Err(AllocError) => (two, Err(AllocError)),
     }
 }

@@ -154,15 +154,15 @@ fn look_for<R: Wait>(
     }
 }
 
-/// Sleeps until there are so many commits. It tells whether there are: another caller may have ended
-/// the waits.
+/// Sleeps until there are so many commits. Where another caller has ended the waits, that one found
+/// no memory, and so this one is told the same.
 fn wait_for<R: Wait>(rt: &R, db: &Db, pass: &mut Pass, query: &Query, count: u64) -> Told
     requires own { IsOf db.now pass.old }
     ensures { IsCaller db.now pass.old.number pass.new }
 {
     for _ in rt.forever() {
         let Some(next) = db.next_commit() else {
-            return Ok(false);
+            return Err(AllocError);
         };
         match look_for(rt, db, pass, query, count)? {
             Next::Done => return Ok(true),
