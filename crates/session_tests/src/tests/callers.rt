@@ -172,12 +172,12 @@ impl Duo {
     /// line is left, or it found no memory.
     fn is_free_then<R: Wait>(&mut self, rt: &R) -> Told {
         for _ in 0..4 {
-            match self.one.step(rt, &self.db) {
+            match self.step(rt, false) {
                 Ok(Stepped::Ended) | Err(_) => break,
                 Ok(_) => {}
             }
         }
-        Ok(self.two.step(rt, &self.db)? == Stepped::Answered { line: 1 })
+        Ok(self.step(rt, true)? == Stepped::Answered { line: 1 })
     }
 
     /// Whether each caller has its answers.
