@@ -4,6 +4,7 @@ ghost use Rattle.std.specs.Prelude.{IfSome, IsSomeAnd, OnErr};
 ghost use Rattle.std.specs.Io.KnownBytes.{ReadConsumes};
 ghost use Rattle.mdb_ports.specs.Faults.{HasCause};
 ghost use Rattle.mdb_ports.specs.Files.{Fetches, IsAbsentIfReliable, untold};
+ghost use Rattle.mdb_ports.specs.Streams.{GoesTo, stream};
 
 use crate::fault::counted;
 use crate::named_file::{NamedFile, read_piece};
@@ -26,7 +27,7 @@ pub struct DirFiles<'a, R: HostFiles> {
 
 impl<'a, R: HostFiles> Model for DirFiles<'a, R> {
     ghost use Rattle.std.specs.Prelude.{option_map};
-    ghost use Rattle.mdb_ports.specs.Streams.{DirState};
+    ghost use Rattle.mdb_ports.specs.Streams.{DirState, stream};
 
     ghost Value = { DirState };
 
@@ -34,7 +35,7 @@ impl<'a, R: HostFiles> Model for DirFiles<'a, R> {
       opened = option_map (λ f. record {
         name = f.name.bytes;
         place = f.place;
-        left = R.File.remaining f.file;
+        stream = stream R.File.remaining R.File.stream_position R.File.stream_bytes f.file;
       }) d.opened;
       faults = d.faults;
     } };
@@ -75,10 +76,13 @@ impl<'a, R: HostFiles> Files for DirFiles<'a, R> {
             (λ f. (f.name ≡ name.now) × (f.place ≡ min (at + n) (2 ^ 64 - 1)))) }
         ensures closed { OnErr result (self.new.opened ≡ None) }
 
-        // The bytes are the next ones of the file that is open, where it has the name and stands
-        // there.
-        ensures in_order { IfSome self.old.opened (λ f. f.name ≡ name.now → f.place ≡ at
-            → IfSome self.new.opened (λ g. ReadConsumes f.left g.left result into.new)) }
+        // The bytes are the next ones of a file that stands at `at`: the one that was open, where it
+        // has the name, or else one that is opened now.
+        ensures moved { let told = stream R.File.remaining R.File.stream_position R.File.stream_bytes in
+            IfOk result (λ _. IfSome self.new.opened (λ g. (there : R.File)
+            × IfSome self.old.opened (λ f. f.name ≡ name.now
+            → GoesTo f.stream f.place at (told there))
+            × ReadConsumes (R.File.remaining there) g.stream.left result into.new)) }
     {
         let outcome = read_piece(self.rt, &mut self.opened, name, at, into);
         counted(outcome, &mut self.faults)

@@ -2,7 +2,7 @@
 ghost use Rattle.std.specs.Prelude.{◌≡◌, ◌≢◌, ◌≤◌, ◌+◌, ◌-◌, ◌^◌, min, length, None, Ok, Some};
 ghost use Rattle.std.specs.Prelude.{IsOk, IsSomeAnd, IfOk, OnOk, OnErr, IfSome};
 ghost use Rattle.std.specs.Io.KnownBytes.{ReadConsumes};
-ghost use Rattle.std.specs.Io.Seek.{MovesTo};
+ghost use Rattle.mdb_ports.specs.Streams.{GoesTo, stream};
 
 use crate::retry::read_retrying;
 use arrayvec::ArrayString;
@@ -50,9 +50,11 @@ pub(crate) fn read_piece<R: HostFiles>(
     ensures kept { IfOk result (λ n. IsSomeAnd opened.new
         (λ f. (f.name.bytes ≡ name.now) × (f.place ≡ min (at + n) (2 ^ 64 - 1)))) }
     ensures closed { OnErr result (opened.new ≡ None) }
-    ensures in_order { IfSome opened.old (λ f. f.name.bytes ≡ name.now → f.place ≡ at
-        → IfSome opened.new (λ g.
-        ReadConsumes (R.File.remaining f.file) (R.File.remaining g.file) result into.new)) }
+    ensures moved { let told = stream R.File.remaining R.File.stream_position R.File.stream_bytes in
+        IfOk result (λ _. IfSome opened.new (λ g. (there : R.File)
+        × IfSome opened.old (λ f. f.name.bytes ≡ name.now
+        → GoesTo (told f.file) f.place at (told there))
+        × ReadConsumes (R.File.remaining there) (R.File.remaining g.file) result into.new)) }
 {
     let file = file_named(rt, opened.take(), name)?;
     read_kept(opened, file, at, into)
@@ -71,8 +73,10 @@ fn read_kept<F: Read + Seek + Drop>(
     ensures kept { IfOk result (λ n. IsSomeAnd opened.new
         (λ f. (f.name ≡ file.name) × (f.place ≡ min (at + n) (2 ^ 64 - 1)))) }
     ensures closed { OnErr result (opened.new ≡ None) }
-    ensures in_order { file.place ≡ at → IfSome opened.new (λ f.
-        ReadConsumes (F.remaining file.file) (F.remaining f.file) result into.new) }
+    ensures moved { let told = stream F.remaining F.stream_position F.stream_bytes in
+        IfOk result (λ _. IfSome opened.new (λ f. (there : F)
+        × GoesTo (told file.file) file.place at (told there)
+        × ReadConsumes (F.remaining there) (F.remaining f.file) result into.new)) }
 {
     let n = file.read_from(at, into)?;
     *opened = Some(file);
@@ -114,8 +118,10 @@ impl<F: Read + Seek> NamedFile<F> {
         ensures bound { IfOk result (λ n. n ≤ length into.old) }
         ensures place { IfOk result (λ n. self.new.place ≡ min (at + n) (2 ^ 64 - 1)) }
         ensures name { self.new.name ≡ self.old.name }
-        ensures in_order { self.old.place ≡ at
-            → ReadConsumes (F.remaining self.old.file) (F.remaining self.new.file) result into.new }
+        ensures moved { let told = stream F.remaining F.stream_position F.stream_bytes in
+            IfOk result (λ _. (there : F)
+            × GoesTo (told self.old.file) self.old.place at (told there)
+            × ReadConsumes (F.remaining there) (F.remaining self.new.file) result into.new) }
     {
         self.stand_at(at)?;
         let n = read_retrying(&mut self.file, into)?;
@@ -127,10 +133,9 @@ impl<F: Read + Seek> NamedFile<F> {
     fn stand_at(&mut self, at: u64) -> io::Result<()>
         ensures stands { OnOk result (self.new.place ≡ at) }
         ensures name { self.new.name ≡ self.old.name }
-        ensures there { self.old.place ≡ at → (IsOk result × (self.new ≡ self.old)) }
-        ensures moves { self.old.place ≢ at
-            → MovesTo (F.stream_position self.old.file) (F.stream_position self.new.file) at
-            result }
+        ensures there { self.old.place ≡ at → IsOk result }
+        ensures goes { let told = stream F.remaining F.stream_position F.stream_bytes in
+            OnOk result (GoesTo (told self.old.file) self.old.place at (told self.new.file)) }
     {
         if self.place != at {
             self.file.seek(SeekFrom::Start(at))?;
