@@ -1,4 +1,6 @@
 //! Streams that a signal interrupts, that take part of what is written, or that can't seek.
+ghost use Rattle.std.specs.Prelude.{◌≡◌, length};
+
 use super::put_three;
 use crate::named_file::NamedFile;
 use crate::*;
@@ -15,11 +17,26 @@ fn interrupts(left: &Cell<u32>) -> bool {
 }
 
 /// An output of which the first calls are interrupted, and the others take at most so many bytes,
-/// or fail.
+/// or fail. It keeps what it took of three bytes.
 #[derive(Drop)]
 struct FakeOutput {
     interruptions: Cell<u32>,
     takes: Option<usize>,
+    taken: Cell<[u8; 3]>,
+}
+
+impl FakeOutput {
+    /// Keeps the front of three bytes, and gives how many bytes it has.
+    fn keep(&self, front: &[u8]) -> usize
+        ensures { result ≡ length front.now }
+    {
+        let mut taken = self.taken.get();
+        for (at, byte) in front.iter().enumerate().take(3) {
+            taken[at] = *byte;
+        }
+        self.taken.set(taken);
+        front.len()
+    }
 }
 
 impl Print for FakeOutput {
@@ -44,39 +61,40 @@ impl Print for FakeOutput {
             return Err(io::Error::from(ErrorKind::Interrupted));
         }
         match self.takes {
-            Some(most) => Ok(bytes.len().min(most)),
+            Some(most) => Ok(self.keep(&bytes[..bytes.len().min(most)])),
             None => Err(io::Error::from(ErrorKind::StorageFull)),
         }
     }
 }
 
-/// Each row: how many calls are interrupted, how many bytes a call takes, and what a put of three
-/// bytes answers.
-const OUTPUTS: &[(u32, Option<usize>, Result<usize, Failed>)] = &[
-    (0, Some(9), Ok(3)),
-    (0, Some(2), Ok(2)),
-    (0, Some(0), Err(Failed)),
-    (0, None, Err(Failed)),
-    (2, Some(2), Ok(2)),
-    (2, None, Err(Failed)),
+/// How many calls are interrupted, how many bytes a call takes, what a put of three bytes answers,
+/// and what the output has of them then.
+type Output = (u32, Option<usize>, Result<usize, Failed>, &'static [u8; 3]);
+
+const OUTPUTS: &[Output] = &[
+    (0, Some(9), Ok(3), b"abc"),
+    (0, Some(2), Ok(2), b"ab."),
+    (0, Some(0), Err(Failed), b"..."),
+    (0, None, Err(Failed), b"..."),
+    (2, Some(2), Ok(2), b"ab."),
+    (2, None, Err(Failed), b"..."),
 ];
 
-/// What a put of three bytes into such an output answers.
-fn put_into(interruptions: u32, takes: Option<usize>) -> Result<usize, Failed> {
+/// Whether a put into such an output answers so, and the output has these bytes then.
+fn is_put_so(row: &Output) -> bool {
     let output = FakeOutput {
-        interruptions: Cell::new(interruptions),
-        takes,
+        interruptions: Cell::new(row.0),
+        takes: row.1,
+        taken: Cell::new(*b"..."),
     };
-    put_three(&mut OutSink::new(&output))
+    let told = put_three(&mut OutSink::new(&output));
+    told == row.2 && output.taken.get() == *row.3
 }
 
 #[test]
 fn a_short_or_interrupted_write_is_told_as_it_was(rt: HostRuntime) {
-    for (interruptions, takes, want) in OUTPUTS {
-        assert!(rt;
-            put_into(*interruptions, *takes) == *want,
-            "{interruptions}, {takes:?}"
-        );
+    for row in OUTPUTS {
+        assert!(rt; is_put_so(row), "{}, {:?}", row.0, row.1);
     }
 }
 
