@@ -2,6 +2,7 @@
 ghost use Rattle.mdb_schema.specs.worked.DeclaredNames.{DeclaredNames};
 ghost use Rattle.mdb_schema.specs.worked.EachKind.{EachKind};
 ghost use Rattle.mdb_schema.specs.worked.OneRule.{OneRule};
+ghost use Rattle.mdb_schema.specs.worked.TrackedTables.{TrackedTables};
 ghost use Rattle.mdb_schema.specs.worked.TwoRules.{TwoRules};
 ghost use Rattle.mdb_schema.specs.worked.WholeSchemas.{WholeSchemas};
 
@@ -13,6 +14,7 @@ use std::process::Abort;
 mod lookup;
 mod one_rule;
 mod read;
+mod tracked;
 mod two_rules;
 
 /// A text, and what its file is told as: a schema, or the rule that it breaks with the names of the
@@ -22,21 +24,28 @@ type Case = (&'static str, &'static str);
 /// A file, at the place of `@`.
 const WHOLE: &str = "@";
 
-/// What stands in `tables`, at the place of `@`.
-const TABLES: &str = r#"{"memdb":1,"tables":{@}}"#;
+/// What stands in `tables`, at the place of `@`, in each version of the format.
+const TABLES: [&str; 2] = [r#"{"memdb":1,"tables":{@}}"#, r#"{"memdb":2,"tables":{@}}"#];
 
-/// What stands in `indexes` of the table `t`, at the place of `@`.
-const INDEXES: &str = r#"{"memdb":1,"tables":{"t":{"indexes":{@}}}}"#;
+/// What stands in `indexes` of the table `t`, at the place of `@`. In version 2 the table is tracked.
+const INDEXES: [&str; 2] = [
+    r#"{"memdb":1,"tables":{"t":{"indexes":{@}}}}"#,
+    r#"{"memdb":2,"tables":{"t":{"tracked":true,"indexes":{@}}}}"#,
+];
 
-/// The indexer of the index `id` of the table `t`, at the place of `@`.
-const INDEXER: &str =
-    r#"{"memdb":1,"tables":{"t":{"indexes":{"id":{"unique":true,"indexer":@}}}}}"#;
+/// The indexer of the index `id` of the table `t`, at the place of `@`. In version 2 the table is
+/// tracked.
+const INDEXER: [&str; 2] = [
+    r#"{"memdb":1,"tables":{"t":{"indexes":{"id":{"unique":true,"indexer":@}}}}}"#,
+    r#"{"memdb":2,"tables":{"t":{"tracked":true,"indexes":{"id":{"unique":true,"indexer":@}}}}}"#,
+];
 
 /// Nothing runs here: the clauses are computed.
 fn worked_documents()
     ensures one { OneRule }
     ensures two { TwoRules }
     ensures read { WholeSchemas }
+    ensures tracked { TrackedTables }
     ensures kinds { EachKind }
     ensures names { DeclaredNames }
 {}
@@ -97,6 +106,19 @@ fn check_all<R: Abort>(
 ) -> Result<(), AllocError> {
     for (text, wanted) in cases {
         assert!(rt; is_told(alloc, frame, text, wanted)?, "{text}");
+    }
+    Ok(())
+}
+
+/// Reads texts in each of the frames, in all of which they are told as the same.
+fn check_in_each<R: Abort>(
+    rt: &R,
+    alloc: Global,
+    frames: &[&str],
+    cases: &[Case],
+) -> Result<(), AllocError> {
+    for frame in frames {
+        check_all(rt, alloc, frame, cases)?;
     }
     Ok(())
 }

@@ -11,10 +11,12 @@ use Rattle.mdb_encode.specs.Bytes.{Bytes, byte_order}
 use Rattle.mdb_schema.specs.Broken.{◌>>=◌, needed, passed}
 use Rattle.mdb_schema.specs.Members.{object_fields}
 use Rattle.mdb_schema.specs.Names.{is_declared_name}
-use Rattle.mdb_schema.specs.Reading.{index_list, is_version_one, table_list}
-use Rattle.mdb_schema.specs.Shapes.{has_only, both, number_in, table_shape, schema_shape}
+use Rattle.mdb_schema.specs.Reading.{index_list, table_list}
+use Rattle.mdb_schema.specs.Shapes.{has_only, both, flag_or_false, names_of_table, number_in, table_shape, schema_shape}
+use Rattle.mdb_schema.specs.Version.{version_numbered}
 use Rattle.mdb_schema.specs.inner.Regular.{EachRegular, AreMembersRegular}
 use Rattle.mdb_schema.specs.declared.schema_rule.SchemaRule.TheVariants as rule
+use Rattle.mdb_schema.specs.declared.version.Version.{Version}
 use Rattle.mdb_schema.proofs.Chains.{passed_on, needed_there, passed_true, both_there, under_test}
 
 names_there : (fs : FieldList) → map (λ (f : Field). f.0) (fields_in fs) ≡ names_in fs
@@ -71,25 +73,27 @@ pub record IsIndexList (f : Field) (fs : List Field) : Type 0 where
   pub has_id : member (codes "id") fs ≡ Some id
   pub regular : IsRegular f.1 → AreMembersRegular fs
 
-pub index_list_found : (f : Field) (fs : List Field) → index_list f ≡ Ok fs → IsIndexList f fs
-index_list_found f fs e =
-    let tested = λ (gs : List Field). passed rule.NoIndexes (nat_lt 0 (length gs)) >>= (λ some. passed rule.TooManyIndexes (nat_le (length gs) 32) >>= (λ few. needed rule.NoId (member (codes "id") gs) >>= (λ id. Ok gs))) in
-    let a = passed_on (passed rule.BadName (is_declared_name f.0)) (λ declared. needed rule.BadShape (object_fields f.1) >>= (λ members. needed rule.BadShape (table_shape members) >>= tested)) fs e in
-    let b = passed_on (needed rule.BadShape (object_fields f.1)) (λ members. needed rule.BadShape (table_shape members) >>= tested) fs a.2 in
-    let s = passed_on (needed rule.BadShape (table_shape b.0)) tested fs b.2 in
-    let n = passed_on (passed rule.NoIndexes (nat_lt 0 (length s.0))) (λ some. passed rule.TooManyIndexes (nat_le (length s.0) 32) >>= (λ few. needed rule.NoId (member (codes "id") s.0) >>= (λ id. Ok s.0))) fs s.2 in
-    let w = passed_on (passed rule.TooManyIndexes (nat_le (length s.0) 32)) (λ few. needed rule.NoId (member (codes "id") s.0) >>= (λ id. Ok s.0)) fs n.2 in
-    let i = passed_on (needed rule.NoId (member (codes "id") s.0)) (λ id. Ok s.0) fs w.2 in
-    let same : s.0 ≡ fs = let h = i.2 in cc in
-    let shape = needed_there rule.BadShape (table_shape b.0) s.0 s.1 in
-    let found = under_test (has_only (codes "indexes" ∷ []) b.0) (option_and_then object_fields (member (codes "indexes") b.0)) s.0 shape in
-    subst (λ (l : List Field). IsIndexList f l) same (record {
+pub index_list_found : (v : Version) (f : Field) (p : List Field × Bool) → index_list v f ≡ Ok p → IsIndexList f p.0
+index_list_found v f p e =
+    let tested = λ (q : List Field × Bool). passed rule.NoIndexes (nat_lt 0 (length q.0)) >>= (λ some. passed rule.TooManyIndexes (nat_le (length q.0) 32) >>= (λ few. needed rule.NoId (member (codes "id") q.0) >>= (λ id. Ok q))) in
+    let a = passed_on (passed rule.BadName (is_declared_name f.0)) (λ declared. needed rule.BadShape (object_fields f.1) >>= (λ members. needed rule.BadShape (table_shape v members) >>= tested)) p e in
+    let b = passed_on (needed rule.BadShape (object_fields f.1)) (λ members. needed rule.BadShape (table_shape v members) >>= tested) p a.2 in
+    let s = passed_on (needed rule.BadShape (table_shape v b.0)) tested p b.2 in
+    let n = passed_on (passed rule.NoIndexes (nat_lt 0 (length s.0.0))) (λ some. passed rule.TooManyIndexes (nat_le (length s.0.0) 32) >>= (λ few. needed rule.NoId (member (codes "id") s.0.0) >>= (λ id. Ok s.0))) p s.2 in
+    let w = passed_on (passed rule.TooManyIndexes (nat_le (length s.0.0) 32)) (λ few. needed rule.NoId (member (codes "id") s.0.0) >>= (λ id. Ok s.0)) p n.2 in
+    let i = passed_on (needed rule.NoId (member (codes "id") s.0.0)) (λ id. Ok s.0) p w.2 in
+    let same : s.0 ≡ p = let h = i.2 in cc in
+    let shape = needed_there rule.BadShape (table_shape v b.0) s.0 s.1 in
+    let indexes = option_and_then object_fields (member (codes "indexes") b.0) in
+    let tracked = flag_or_false (member (codes "tracked") b.0) in
+    let found = under_test (has_only (names_of_table v) b.0) (both indexes tracked) s.0 shape in
+    subst (λ (q : List Field × Bool). IsIndexList f q.0) same (record {
       name = passed_true rule.BadName (is_declared_name f.0) a.0 a.1;
-      some = some_of (length s.0) (passed_true rule.NoIndexes (nat_lt 0 (length s.0)) n.0 n.1);
-      few = few_of (length s.0) 32 (passed_true rule.TooManyIndexes (nat_le (length s.0) 32) w.0 w.1);
+      some = some_of (length s.0.0) (passed_true rule.NoIndexes (nat_lt 0 (length s.0.0)) n.0 n.1);
+      few = few_of (length s.0.0) 32 (passed_true rule.TooManyIndexes (nat_le (length s.0.0) 32) w.0 w.1);
       id = i.0;
-      has_id = needed_there rule.NoId (member (codes "id") s.0) i.0 i.1;
-      regular = λ regular. under_regular (codes "indexes") b.0 s.0 (fields_regular f.1 b.0 regular (needed_there rule.BadShape (object_fields f.1) b.0 b.1)).1 found.1;
+      has_id = needed_there rule.NoId (member (codes "id") s.0.0) i.0 i.1;
+      regular = λ regular. under_regular (codes "indexes") b.0 s.0.0 (fields_regular f.1 b.0 regular (needed_there rule.BadShape (object_fields f.1) b.0 b.1)).1 (both_there indexes tracked s.0 found.1).0;
     })
 
 -- the members for the tables of a schema
@@ -98,19 +102,19 @@ pub record IsTableList (d : Doc) (fs : List Field) : Type 0 where
   pub few : length fs ≤ 64
   pub regular : IsRegular d → AreMembersRegular fs
 
-pub table_list_found : (d : Doc) (fs : List Field) → table_list d ≡ Ok fs → IsTableList d fs
-table_list_found d fs e =
-    let tested = λ (p : ℤ × List Field). passed rule.BadVersion (is_version_one p.0) >>= (λ version. passed rule.NoTables (nat_lt 0 (length p.1)) >>= (λ some. passed rule.TooManyTables (nat_le (length p.1) 64) >>= (λ few. Ok p.1))) in
-    let b = passed_on (needed rule.BadShape (object_fields d)) (λ members. needed rule.BadShape (schema_shape members) >>= tested) fs e in
-    let p = passed_on (needed rule.BadShape (schema_shape b.0)) tested fs b.2 in
-    let v = passed_on (passed rule.BadVersion (is_version_one p.0.0)) (λ version. passed rule.NoTables (nat_lt 0 (length p.0.1)) >>= (λ some. passed rule.TooManyTables (nat_le (length p.0.1) 64) >>= (λ few. Ok p.0.1))) fs p.2 in
-    let n = passed_on (passed rule.NoTables (nat_lt 0 (length p.0.1))) (λ some. passed rule.TooManyTables (nat_le (length p.0.1) 64) >>= (λ few. Ok p.0.1)) fs v.2 in
-    let w = passed_on (passed rule.TooManyTables (nat_le (length p.0.1) 64)) (λ few. Ok p.0.1) fs n.2 in
-    let same : p.0.1 ≡ fs = let h = w.2 in cc in
+pub table_list_found : (d : Doc) (listed : Version × List Field) → table_list d ≡ Ok listed → IsTableList d listed.1
+table_list_found d listed e =
+    let tested = λ (p : ℤ × List Field). needed rule.BadVersion (version_numbered p.0) >>= (λ version. passed rule.NoTables (nat_lt 0 (length p.1)) >>= (λ some. passed rule.TooManyTables (nat_le (length p.1) 64) >>= (λ few. Ok (version, p.1)))) in
+    let b = passed_on (needed rule.BadShape (object_fields d)) (λ members. needed rule.BadShape (schema_shape members) >>= tested) listed e in
+    let p = passed_on (needed rule.BadShape (schema_shape b.0)) tested listed b.2 in
+    let v = passed_on (needed rule.BadVersion (version_numbered p.0.0)) (λ version. passed rule.NoTables (nat_lt 0 (length p.0.1)) >>= (λ some. passed rule.TooManyTables (nat_le (length p.0.1) 64) >>= (λ few. Ok (version, p.0.1)))) listed p.2 in
+    let n = passed_on (passed rule.NoTables (nat_lt 0 (length p.0.1))) (λ some. passed rule.TooManyTables (nat_le (length p.0.1) 64) >>= (λ few. Ok (v.0, p.0.1))) listed v.2 in
+    let w = passed_on (passed rule.TooManyTables (nat_le (length p.0.1) 64)) (λ few. Ok (v.0, p.0.1)) listed n.2 in
+    let same : (v.0, p.0.1) ≡ listed = let h = w.2 in cc in
     let shape = needed_there rule.BadShape (schema_shape b.0) p.0 p.1 in
     let found = under_test (has_only (codes "memdb" ∷ codes "tables" ∷ []) b.0) (both (option_and_then number_in (member (codes "memdb") b.0)) (option_and_then object_fields (member (codes "tables") b.0))) p.0 shape in
     let two = both_there (option_and_then number_in (member (codes "memdb") b.0)) (option_and_then object_fields (member (codes "tables") b.0)) p.0 found.1 in
-    subst (λ (l : List Field). IsTableList d l) same (record {
+    subst (λ (l : Version × List Field). IsTableList d l.1) same (record {
       some = some_of (length p.0.1) (passed_true rule.NoTables (nat_lt 0 (length p.0.1)) n.0 n.1);
       few = few_of (length p.0.1) 64 (passed_true rule.TooManyTables (nat_le (length p.0.1) 64) w.0 w.1);
       regular = λ regular. under_regular (codes "tables") b.0 p.0.1 (fields_regular d b.0 regular (needed_there rule.BadShape (object_fields d) b.0 b.1)).1 two.1;

@@ -19,6 +19,7 @@ use Rattle.mdb_schema.specs.Shapes.{index_shape}
 use Rattle.mdb_schema.specs.inner.Regular.{EachRegular}
 use Rattle.mdb_schema.specs.declared.error.SchemaError.{SchemaError}
 use Rattle.mdb_schema.specs.declared.schema_rule.SchemaRule.TheVariants as rule
+use Rattle.mdb_schema.specs.declared.version.Version.{Version}
 use Rattle.mdb_schema.proofs.Chains.{passed_on, passed_true, unnamed, each_parts, same_length, all_of}
 use Rattle.mdb_schema.proofs.LawfulIndexers.{indexer_lawful}
 use Rattle.mdb_schema.proofs.IndexLists.{index_list_found, table_list_found}
@@ -88,47 +89,47 @@ index_names_read t (f ∷ fs) is e =
     (λ i. sym n i ∷ s i) ∙ ap index_names c.4
 
 -- a table of what was read
-pub table_lawful : (f : Field) (fs : List Field) (is : List IndexSchema) → IsRegular f.1 → index_list f ≡ Ok fs → each (named_index f.0) fs ≡ Ok is → IsLawfulTable (record { name = f.0; indexes = is })
-table_lawful f fs is regular listed read =
-    let l = index_list_found f fs listed in
-    let long = same_length (named_index f.0) fs is read in
+pub table_lawful : (v : Version) (f : Field) (p : List Field × Bool) (is : List IndexSchema) → IsRegular f.1 → index_list v f ≡ Ok p → each (named_index f.0) p.0 ≡ Ok is → IsLawfulTable (record { name = f.0; tracked = p.1; indexes = is })
+table_lawful v f p is regular listed read =
+    let l = index_list_found v f p listed in
+    let long = same_length (named_index f.0) p.0 is read in
     record {
       name = l.name;
       some = subst (λ n. 0 < n) (sym long) l.some;
       few = subst (λ n. n ≤ 32) (sym long) l.few;
-      order = subst (λ (ns : List Bytes). AreInOrder ns) (index_names_read f.0 fs is read) (l.regular regular).0;
-      has_id = found_again f.0 (codes "id") fs is l.id read l.has_id;
-      each = all_of (λ (i : IndexSchema). IsLawfulIndex i) (named_index f.0) (λ g j h. (named_kept f.0 g j h).0) fs is read;
+      order = subst (λ (ns : List Bytes). AreInOrder ns) (index_names_read f.0 p.0 is read) (l.regular regular).0;
+      has_id = found_again f.0 (codes "id") p.0 is l.id read l.has_id;
+      each = all_of (λ (i : IndexSchema). IsLawfulIndex i) (named_index f.0) (λ g j h. (named_kept f.0 g j h).0) p.0 is read;
     }
 
-table_kept : (f : Field) (t : TableSchema) → IsRegular f.1 → table_in f ≡ Ok t → IsLawfulTable t × (f.0 ≡ t.name)
-table_kept f t regular e =
-    let last = λ (is : List IndexSchema). let r : Result TableSchema Broken = Ok (record { name = f.0; indexes = is }) in r in
-    let m = passed_on (at_names (Some f.0) None (index_list f)) (λ (members : List Field). each (named_index f.0) members >>= last) t e in
-    let x = passed_on (each (named_index f.0) m.0) last t m.2 in
-    let made : TableSchema = record { name = f.0; indexes = x.0 } in
+table_kept : (v : Version) (f : Field) (t : TableSchema) → IsRegular f.1 → table_in v f ≡ Ok t → IsLawfulTable t × (f.0 ≡ t.name)
+table_kept v f t regular e =
+    let last = λ (tracked : Bool) (is : List IndexSchema). let r : Result TableSchema Broken = Ok (record { name = f.0; tracked = tracked; indexes = is }) in r in
+    let m = passed_on (at_names (Some f.0) None (index_list v f)) (λ (p : List Field × Bool). each (named_index f.0) p.0 >>= last p.1) t e in
+    let x = passed_on (each (named_index f.0) m.0.0) (last m.0.1) t m.2 in
+    let made : TableSchema = record { name = f.0; tracked = m.0.1; indexes = x.0 } in
     let is : made ≡ t = let h = x.2 in cc in
     subst (λ (u : TableSchema). IsLawfulTable u × (f.0 ≡ u.name)) {x = made} is
-    (table_lawful f m.0 x.0 regular (unnamed (Some f.0) None (index_list f) m.0 m.1) x.1, refl)
+    (table_lawful v f m.0 x.0 regular (unnamed (Some f.0) None (index_list v f) m.0 m.1) x.1, refl)
 
-tables_kept : (fs : List Field) (ts : List TableSchema) → EachRegular fs → each table_in fs ≡ Ok ts → All IsLawfulTable ts × (map (λ (f : Field). f.0) fs ≡ table_names ts)
-tables_kept [] ts regular e =
+tables_kept : (v : Version) (fs : List Field) (ts : List TableSchema) → EachRegular fs → each (table_in v) fs ≡ Ok ts → All IsLawfulTable ts × (map (λ (f : Field). f.0) fs ≡ table_names ts)
+tables_kept v [] ts regular e =
     let h : [] ≡ ts = cc in (subst (λ (l : List TableSchema). All IsLawfulTable l) h (All-nil IsLawfulTable), ap table_names h)
-tables_kept (f ∷ fs) ts regular e =
-    let c = each_parts table_in f fs ts e in
-    let first = table_kept f c.0 regular.0 c.2 in
-    let rest = tables_kept fs c.1 regular.1 c.3 in
+tables_kept v (f ∷ fs) ts regular e =
+    let c = each_parts (table_in v) f fs ts e in
+    let first = table_kept v f c.0 regular.0 c.2 in
+    let rest = tables_kept v fs c.1 regular.1 c.3 in
     let n = first.1 in
     let s = rest.1 in
     (subst (λ (l : List TableSchema). All IsLawfulTable l) c.4 (All-cons IsLawfulTable c.0 c.1 first.0 rest.0), (λ i. n i ∷ s i) ∙ ap table_names c.4)
 
 -- a schema of what was read
-pub schema_lawful : (d : Doc) (fs : List Field) (s : DbSchema) → IsRegular d → table_list d ≡ Ok fs → each table_in fs ≡ Ok s → IsLawfulSchema s
-schema_lawful d fs s regular listed read =
-    let l = table_list_found d fs listed in
-    let long = same_length table_in fs s read in
+pub schema_lawful : (d : Doc) (p : Version × List Field) (s : DbSchema) → IsRegular d → table_list d ≡ Ok p → each (table_in p.0) p.1 ≡ Ok s → IsLawfulSchema s
+schema_lawful d p s regular listed read =
+    let l = table_list_found d p listed in
+    let long = same_length (table_in p.0) p.1 s read in
     let members = l.regular regular in
-    let kept = tables_kept fs s members.1 read in
+    let kept = tables_kept p.0 p.1 s members.1 read in
     record {
       some = subst (λ n. 0 < n) (sym long) l.some;
       few = subst (λ n. n ≤ 64) (sym long) l.few;
@@ -138,6 +139,6 @@ schema_lawful d fs s regular listed read =
 
 pub answer_lawful : (d : Doc) (r : Result DbSchema SchemaError) → IsCanonical d → AnswersSchema (schema_in d) r → IfOk r (λ s. IsLawfulSchema s)
 answer_lawful d (Ok s) canonical told =
-    let m = passed_on (at_names None None (table_list d)) (λ (members : List Field). each table_in members) s told in
+    let m = passed_on (at_names None None (table_list d)) (λ (p : Version × List Field). each (table_in p.0) p.1) s told in
     schema_lawful d m.0 s canonical.regular (unnamed None None (table_list d) m.0 m.1) m.2
 answer_lawful d (Err e) canonical told = tt

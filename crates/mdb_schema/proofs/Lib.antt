@@ -1,4 +1,5 @@
 pub mod Chains
+pub mod ChangeLaws
 pub mod Each
 pub mod EntriesAfter
 pub mod EntriesOfRows

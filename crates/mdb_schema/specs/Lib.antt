@@ -20,6 +20,7 @@ pub mod Shapes
 pub mod State
 pub mod Tests
 pub mod Touched
+pub mod Version
 pub mod Watchable
 pub mod Wipe
 pub mod Write

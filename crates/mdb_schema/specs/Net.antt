@@ -1,11 +1,14 @@
--- What a change makes of the rows of a table: the row before and the row after, under each `id` key
--- where these differ. A row that is replaced by one with the same members is no change.
-use Rattle.std.specs.Prelude.{◌≡◌, ◌↔◌, List, [], ◌∷◌, map, filter, Bool, true, false, not, Option, Some, None}
+-- What writes make of the rows of a table: the row before and the row after, under each `id` key
+-- where these differ. A row that is replaced by one with the same members is no change. And what they
+-- make of a state: the same of each tracked table.
+use Rattle.std.specs.Prelude.{◌≡◌, ◌↔◌, ◌++◌, ℕ, zero, suc, List, [], ◌∷◌, map, filter, slice_get, Bool, true, false, not, if◌then◌else◌, Option, Some, None}
 use Rattle.mdb_datum.specs.Row.{Fields}
 use Rattle.mdb_datum.specs.Same.{has_same_members}
 use Rattle.mdb_encode.specs.Bytes.{Bytes}
-use Rattle.mdb_schema.specs.Schema.{TableSchema}
-use Rattle.mdb_schema.specs.State.{AreLawfulRows, id_key, row_at, with_row, without_row}
+use Rattle.mdb_schema.specs.History.{after_writes}
+use Rattle.mdb_schema.specs.Schema.{TableSchema, DbSchema}
+use Rattle.mdb_schema.specs.State.{State, IsLawfulState, AreLawfulRows, id_key, row_at, with_row, without_row}
+use Rattle.mdb_schema.specs.Write.{Write}
 
 -- of one `id` key: the row before and the row after, if there is one
 pub record Net : Type 0 where
@@ -65,3 +68,77 @@ NoNetWhereSame =
 -- so writes that undo each other leave none
 abbrev pub NetOfUndone : Type 0
 NetOfUndone = (t : TableSchema) (rows : List Fields) → AreLawfulRows t rows → net t rows rows ≡ []
+
+-- ---- of a state
+
+-- a change of a state: the table's place in the schema, and the row before and the row after
+pub record Change : Type 0 where
+  pub table : ℕ
+  pub before : Option Fields
+  pub after : Option Fields
+
+abbrev pub change_at : ℕ → Net → Change
+change_at place n = record { table = place; before = n.before; after = n.after }
+
+-- what became of the rows of a table at a place, where it is tracked
+abbrev pub changes_in : ℕ → TableSchema → List Fields → List Fields → List Change
+changes_in place t old new = if t.tracked then map (change_at place) (net t old new) else []
+
+-- the same of the tables from a place on
+abbrev pub changes_from : ℕ → DbSchema → State → State → List Change
+changes_from place (t ∷ ts) (old ∷ olds) (new ∷ news) =
+    changes_in place t old new ++ changes_from (suc place) ts olds news
+changes_from place ts olds news = []
+
+-- the changes from a state to another: table by table in the schema's order, which is the byte order
+-- of their names, and in each rising by `id` key
+abbrev pub changes : DbSchema → State → State → List Change
+changes schema old new = changes_from 0 schema old new
+
+-- ---- what holds of the changes from a lawful state to another
+
+-- the state with the change of a row made in the table at a place
+abbrev pub with_net_at : DbSchema → ℕ → Net → State → State
+with_net_at (t ∷ ts) zero n (rows ∷ s) = with_net t n rows ∷ s
+with_net_at (t ∷ ts) (suc place) n (rows ∷ s) = rows ∷ with_net_at ts place n s
+with_net_at ts place n s = s
+
+abbrev pub with_change : DbSchema → Change → State → State
+with_change schema c s = with_net_at schema c.table (record { before = c.before; after = c.after }) s
+
+-- the state with changes made, whose order is all the same
+abbrev pub with_changes : DbSchema → List Change → State → State
+with_changes schema [] s = s
+with_changes schema (c ∷ cs) s = with_change schema c (with_changes schema cs s)
+
+-- the first state, with the rows of the second in each tracked table
+abbrev pub with_tracked : DbSchema → State → State → State
+with_tracked (t ∷ ts) (old ∷ olds) (new ∷ news) =
+    (if t.tracked then new else old) ∷ with_tracked ts olds news
+with_tracked ts olds news = olds
+
+-- the changes, made on the old state, give the new rows in each tracked table, and leave the other
+-- tables as they are
+abbrev pub ChangesLeadToNew : Type 0
+ChangesLeadToNew =
+    (schema : DbSchema) (old new : State) → IsLawfulState schema old → IsLawfulState schema new
+    → with_changes schema (changes schema old new) old ≡ with_tracked schema old new
+
+-- each tracked table has the same rows in both states
+abbrev pub IsSameWhereTracked : DbSchema → State → State → Type 0
+IsSameWhereTracked schema old new =
+    (place : ℕ) (t : TableSchema) → slice_get schema place ≡ Some t → t.tracked ≡ true
+    → slice_get old place ≡ slice_get new place
+
+-- there is no change exactly where the tracked tables have the same rows
+abbrev pub NoChangeWhereSame : Type 0
+NoChangeWhereSame =
+    (schema : DbSchema) (old new : State) → IsLawfulState schema old → IsLawfulState schema new
+    → (changes schema old new ≡ []) ↔ IsSameWhereTracked schema old new
+
+-- so writes that undo each other in each tracked table leave none
+abbrev pub ChangesOfUndone : Type 0
+ChangesOfUndone =
+    (schema : DbSchema) (s : State) (ws : List Write) → IsLawfulState schema s
+    → IsSameWhereTracked schema s (after_writes schema s ws)
+    → changes schema s (after_writes schema s ws) ≡ []

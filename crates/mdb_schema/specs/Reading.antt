@@ -15,9 +15,11 @@ use Rattle.mdb_schema.specs.Members.{object_fields, text_bytes}
 use Rattle.mdb_schema.specs.Names.{is_declared_name}
 use Rattle.mdb_schema.specs.Schema.{IndexSchema, TableSchema, DbSchema}
 use Rattle.mdb_schema.specs.Shapes.{schema_shape, table_shape, index_shape, folded_shape, width_shape, plain_shape, equals_shape, compound_shape}
+use Rattle.mdb_schema.specs.Version.{version_numbered}
 use Rattle.mdb_schema.specs.declared.schema_rule.SchemaRule.TheVariants as rule
 use Rattle.mdb_schema.specs.declared.kind_name.KindName.{KindName}
 use Rattle.mdb_schema.specs.declared.kind_name.KindName.TheVariants as kind
+use Rattle.mdb_schema.specs.declared.version.Version.{Version}
 
 -- a width in bytes
 abbrev pub width_of : ℤ → Checked ℕ
@@ -143,41 +145,37 @@ index_in f = do
 abbrev pub named_index : Bytes → Field → Result IndexSchema Broken
 named_index table f = at_names (Some table) (Some f.0) (index_in f)
 
--- the members for the indexes of a table under its name
-abbrev pub index_list : Field → Checked (List Field)
-index_list f = do
+-- the members for the indexes of a table under its name, and whether it is tracked
+abbrev pub index_list : Version → Field → Checked (List Field × Bool)
+index_list v f = do
   declared ← passed rule.BadName (is_declared_name f.0)
   members ← needed rule.BadShape (object_fields f.1)
-  indexes ← needed rule.BadShape (table_shape members)
-  some ← passed rule.NoIndexes (nat_lt 0 (length indexes))
-  few ← passed rule.TooManyIndexes (nat_le (length indexes) 32)
-  id ← needed rule.NoId (member (codes "id") indexes)
-  Ok indexes
+  shape ← needed rule.BadShape (table_shape v members)
+  some ← passed rule.NoIndexes (nat_lt 0 (length shape.0))
+  few ← passed rule.TooManyIndexes (nat_le (length shape.0) 32)
+  id ← needed rule.NoId (member (codes "id") shape.0)
+  Ok shape
 
-abbrev pub table_in : Field → Result TableSchema Broken
-table_in f = do
-  members ← at_names (Some f.0) None (index_list f)
-  is ← each (named_index f.0) members
-  Ok (record { name = f.0; indexes = is })
+abbrev pub table_in : Version → Field → Result TableSchema Broken
+table_in v f = do
+  shape ← at_names (Some f.0) None (index_list v f)
+  is ← each (named_index f.0) shape.0
+  Ok (record { name = f.0; tracked = shape.1; indexes = is })
 
-abbrev pub is_version_one : ℤ → Bool
-is_version_one (pos n) = n == 1
-is_version_one (negsuc n) = false
-
--- the members for the tables of a schema
-abbrev pub table_list : Doc → Checked (List Field)
+-- the version of a schema's format, and the members for its tables
+abbrev pub table_list : Doc → Checked (Version × List Field)
 table_list d = do
   members ← needed rule.BadShape (object_fields d)
   shape ← needed rule.BadShape (schema_shape members)
-  version ← passed rule.BadVersion (is_version_one shape.0)
+  version ← needed rule.BadVersion (version_numbered shape.0)
   some ← passed rule.NoTables (nat_lt 0 (length shape.1))
   few ← passed rule.TooManyTables (nat_le (length shape.1) 64)
-  Ok shape.1
+  Ok (version, shape.1)
 
 abbrev pub schema_in : Doc → Result DbSchema Broken
 schema_in d = do
-  members ← at_names None None (table_list d)
-  each table_in members
+  listed ← at_names None None (table_list d)
+  each (table_in listed.0) listed.1
 
 -- the schema that a file's reading is
 abbrev pub schema_of : Reading → Result DbSchema Broken

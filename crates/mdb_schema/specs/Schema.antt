@@ -13,8 +13,10 @@ pub record IndexSchema : Type 0 where
   pub allow_missing : Bool
   pub indexer : Indexer
 
+-- a table: its name, whether it is tracked, as one whose changes are told, and its indexes
 pub record TableSchema : Type 0 where
   pub name : Bytes
+  pub tracked : Bool
   pub indexes : List IndexSchema
 
 abbrev pub DbSchema : Type 0

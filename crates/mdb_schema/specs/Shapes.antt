@@ -1,12 +1,14 @@
 -- The shapes of the objects in a schema's document. `None` stands for another shape: a member too
--- many, one that isn't there and has to be, or one of another form. `unique`, `allow_missing` and
--- `lowercase` are false where they are left out.
+-- many, one that isn't there and has to be, or one of another form. `tracked`, `unique`,
+-- `allow_missing` and `lowercase` are false where they are left out.
 use Rattle.std.specs.Prelude.{ℤ, List, Bool, false, if◌then◌else◌, Option, Some, None, option_and_then, [], ◌∷◌, codes}
 use Rattle.std.specs.List.{list_any, list_all}
 use Rattle.std.specs.Str.{bytes_eq}
 use Rattle.mdb_datum.specs.Doc.{Doc, flag, whole, list, object, Field, docs_in, member}
 use Rattle.mdb_encode.specs.Bytes.{Bytes}
 use Rattle.mdb_schema.specs.Members.{object_fields, text_bytes, filled}
+use Rattle.mdb_schema.specs.declared.version.Version.{Version}
+use Rattle.mdb_schema.specs.declared.version.Version.TheVariants as version
 
 -- each member has one of these names
 abbrev pub has_only : List Bytes → List Field → Bool
@@ -46,10 +48,16 @@ schema_shape fs = if has_only (codes "memdb" ∷ codes "tables" ∷ []) fs
     then both (option_and_then number_in (member (codes "memdb") fs))
     (option_and_then object_fields (member (codes "tables") fs)) else None
 
--- `indexes`, an object
-abbrev pub table_shape : List Field → Option (List Field)
-table_shape fs = if has_only (codes "indexes" ∷ []) fs
-    then option_and_then object_fields (member (codes "indexes") fs) else None
+-- the members that a table may have: `tracked` in version 2 alone
+abbrev pub names_of_table : Version → List Bytes
+names_of_table version.One = codes "indexes" ∷ []
+names_of_table version.Two = codes "indexes" ∷ codes "tracked" ∷ []
+
+-- `indexes`, an object, and `tracked`
+abbrev pub table_shape : Version → List Field → Option (List Field × Bool)
+table_shape v fs = if has_only (names_of_table v) fs
+    then both (option_and_then object_fields (member (codes "indexes") fs))
+    (flag_or_false (member (codes "tracked") fs)) else None
 
 -- `indexer`, and `unique` and `allow_missing`
 abbrev pub index_shape : List Field → Option (Doc × (Bool × Bool))

@@ -4,8 +4,10 @@ pub mod Documents
 pub mod EachKind
 pub mod OneRule
 pub mod Sample
+pub mod TrackedTables
 pub mod TwoRules
 pub mod WholeSchemas
+pub mod WorkedChanges
 pub mod WorkedGuards
 pub mod WorkedKinds
 pub mod WorkedNets

@@ -3,6 +3,7 @@
 ghost use Rattle.mdb_schema.specs.Laws.{StepKeeps, HistoryKeeps, EachKeyIsAnEntry, EachEntryIsAKey};
 ghost use Rattle.mdb_schema.specs.Laws.{EntriesRise, WipeLeaves, WipeOfNothing};
 ghost use Rattle.mdb_schema.specs.Net.{NetLeadsToNew, NetOfUndone, NoNetWhereSame};
+ghost use Rattle.mdb_schema.specs.Net.{ChangesLeadToNew, ChangesOfUndone, NoChangeWhereSame};
 
 /// A write that is accepted keeps a lawful state lawful, and so the state after any commits is
 /// lawful.
@@ -32,4 +33,13 @@ pub fn nets_are_what_differs()
     ensures leads { NetLeadsToNew }
     ensures empty { NoNetWhereSame }
     ensures undone { NetOfUndone }
+{}
+
+/// The changes from a state to another, made on the first, give the rows of the second in each tracked
+/// table, and leave the other tables as they are. There is none exactly where the tracked tables have
+/// the same rows, and so writes that undo each other there leave none.
+pub fn changes_are_what_differs_where_tracked()
+    ensures leads { ChangesLeadToNew }
+    ensures empty { NoChangeWhereSame }
+    ensures undone { ChangesOfUndone }
 {}

@@ -27,6 +27,7 @@ mod schema;
 mod schema_rule;
 mod shapes;
 mod table_def;
+mod version;
 mod write_error;
 
 pub use answer::Answer;

@@ -10,7 +10,7 @@ ghost use Rattle.mdb_schema.specs.Broken.{each};
 ghost use Rattle.mdb_schema.specs.LawfulSchema.{IsLawfulIndex, IsLawfulSchema, IsLawfulTable};
 ghost use Rattle.mdb_schema.specs.Names.{is_declared_name};
 ghost use Rattle.mdb_schema.specs.Reading.{is_multi, id_in, index_rules, index_members, index_kind};
-ghost use Rattle.mdb_schema.specs.Reading.{index_in, named_index, is_version_one, index_list};
+ghost use Rattle.mdb_schema.specs.Reading.{index_in, named_index, index_list};
 ghost use Rattle.mdb_schema.specs.Reading.{table_in, table_list, schema_in, schema_of};
 ghost use Rattle.mdb_schema.specs.SchemaAnswer.{AnswersSchema};
 ghost use Rattle.mdb_schema.specs.inner.IndexerAnswer.{Answers};
@@ -25,6 +25,7 @@ use crate::schema::Schema;
 use crate::schema_rule::SchemaRule;
 use crate::shapes::{index_shape, object_in, schema_shape, table_shape};
 use crate::table_def::TableDef;
+use crate::version::{Version, version_numbered};
 use mdb_datum::{Datum, DocError, Members, Text, read_doc};
 use mdb_encode::Kind;
 use std::alloc::{AllocError, Global};
@@ -191,10 +192,14 @@ fn named_index(
     }
 }
 
-/// The members for the indexes of a table.
-fn index_list<'a>(name: &Text, document: &'a Datum) -> Result<&'a Members, SchemaRule>
-    ensures { result_map_both (λ m. members_of m.now) (λ r. r) result
-        ≡ index_list (name.now, doc_of document.now) }
+/// The members for the indexes of a table, and whether it is tracked.
+fn index_list<'a>(
+    version: Version,
+    name: &Text,
+    document: &'a Datum,
+) -> Result<(&'a Members, bool), SchemaRule>
+    ensures { result_map_both (λ p. (members_of p.0.now, p.1)) (λ r. r) result
+        ≡ index_list version (name.now, doc_of document.now) }
 {
     if !is_declared_name(name.as_str()) {
         return Err(SchemaRule::BadName);
@@ -202,7 +207,7 @@ fn index_list<'a>(name: &Text, document: &'a Datum) -> Result<&'a Members, Schem
     let Some(members) = object_in(document) else {
         return Err(SchemaRule::BadShape);
     };
-    let Some(indexes) = table_shape(members) else {
+    let Some((indexes, tracked)) = table_shape(version, members) else {
         return Err(SchemaRule::BadShape);
     };
     if indexes.len() == 0 {
@@ -214,7 +219,7 @@ fn index_list<'a>(name: &Text, document: &'a Datum) -> Result<&'a Members, Schem
     if indexes.get("id").is_none() {
         return Err(SchemaRule::NoId);
     }
-    Ok(indexes)
+    Ok((indexes, tracked))
 }
 
 /// The indexes of a table, each whole before the next.
@@ -235,69 +240,80 @@ fn indexes_in(alloc: Global, table: &Text, members: &Members) -> Result<Vec<Inde
 }
 
 /// The table of these indexes, under a copy of the name.
-fn table_of(alloc: Global, name: &Text, indexes: Vec<IndexDef>) -> Result<TableDef, AllocError>
-    requires { IsLawfulTable (record { name = name.now; indexes = indexes.items }) }
+fn table_of(
+    alloc: Global,
+    name: &Text,
+    tracked: bool,
+    indexes: Vec<IndexDef>,
+) -> Result<TableDef, AllocError>
+    requires { IsLawfulTable (record {
+      name = name.now;
+      tracked = tracked;
+      indexes = indexes.items;
+    }) }
     ensures { IfOk result (λ table. table
-        ≡ record { name = name.now; indexes = indexes.items }) }
+        ≡ record { name = name.now; tracked = tracked; indexes = indexes.items }) }
 {
     let own = Text::of(alloc, name.as_str())?;
-    TableDef::of(alloc, own, indexes)
+    TableDef::of(alloc, own, tracked, indexes)
 }
 
 /// The table under a name.
-fn table_in(alloc: Global, name: &Text, document: &Datum) -> Result<TableDef, SchemaError>
+fn table_in(
+    alloc: Global,
+    version: Version,
+    name: &Text,
+    document: &Datum,
+) -> Result<TableDef, SchemaError>
     requires { IsRegular (doc_of document.now) }
-    ensures { AnswersSchema (table_in (name.now, doc_of document.now)) result }
+    ensures { AnswersSchema (table_in version (name.now, doc_of document.now)) result }
 {
-    let members = match index_list(name, document) {
-        Ok(members) => members,
+    let (members, tracked) = match index_list(version, name, document) {
+        Ok(listed) => listed,
         Err(rule) => return Err(named(alloc, IndexerError::Broken(rule), Some(name), None)),
     };
     let indexes = indexes_in(alloc, name, members)?;
-    Ok(table_of(alloc, name, indexes)?)
+    Ok(table_of(alloc, name, tracked, indexes)?)
 }
 
-/// Whether the version of the format is 1, the only one.
-fn is_version_one(number: i128) -> bool
-    ensures { result ≡ is_version_one number }
-{
-    number == 1
-}
-
-/// The members for the tables of a schema.
-fn table_list(document: &Datum) -> Result<&Members, SchemaRule>
-    ensures { result_map_both (λ m. members_of m.now) (λ r. r) result
+/// The version of the format, and the members for the tables of a schema.
+fn table_list(document: &Datum) -> Result<(Version, &Members), SchemaRule>
+    ensures { result_map_both (λ p. (p.0, members_of p.1.now)) (λ r. r) result
         ≡ table_list (doc_of document.now) }
 {
     let Some(members) = object_in(document) else {
         return Err(SchemaRule::BadShape);
     };
-    let Some((version, tables)) = schema_shape(members) else {
+    let Some((number, tables)) = schema_shape(members) else {
         return Err(SchemaRule::BadShape);
     };
-    if !is_version_one(version) {
+    let Some(version) = version_numbered(number) else {
         return Err(SchemaRule::BadVersion);
-    }
+    };
     if tables.len() == 0 {
         return Err(SchemaRule::NoTables);
     }
     if tables.len() > MOST_TABLES {
         return Err(SchemaRule::TooManyTables);
     }
-    Ok(tables)
+    Ok((version, tables))
 }
 
 /// The tables, each whole before the next.
-fn tables_in(alloc: Global, members: &Members) -> Result<Vec<TableDef>, SchemaError>
+fn tables_in(
+    alloc: Global,
+    version: Version,
+    members: &Members,
+) -> Result<Vec<TableDef>, SchemaError>
     requires { EachRegular (members_of members.now) }
-    ensures { AnswersList (each table_in (members_of members.now)) result }
+    ensures { AnswersList (each (table_in version) (members_of members.now)) result }
 {
     let mut tables = Vec::new(alloc);
     for at in 0..members.len() {
         let Some((name, document)) = members.pair(at) else {
             unreachable!();
         };
-        match table_in(alloc, name, document) {
+        match table_in(alloc, version, name, document) {
             Ok(table) => tables.push(table)?,
             Err(error) => return Err(error),
         }
@@ -310,11 +326,11 @@ fn schema_in(alloc: Global, document: &Datum) -> Result<Schema, SchemaError>
     requires { IsRegular (doc_of document.now) }
     ensures { AnswersSchema (schema_in (doc_of document.now)) result }
 {
-    let members = match table_list(document) {
-        Ok(members) => members,
+    let (version, members) = match table_list(document) {
+        Ok(listed) => listed,
         Err(rule) => return Err(named(alloc, IndexerError::Broken(rule), None, None)),
     };
-    let tables = tables_in(alloc, members)?;
+    let tables = tables_in(alloc, version, members)?;
     Ok(Schema::of(tables))
 }
 

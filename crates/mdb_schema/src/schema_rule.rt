@@ -9,7 +9,7 @@ pub enum SchemaRule {
     Syntax,
     /// A part of the document has other members than it should, or members of another form.
     BadShape,
-    /// `memdb` is another number than 1.
+    /// `memdb` is another number than 1 and 2.
     BadVersion,
     /// There is no table.
     NoTables,

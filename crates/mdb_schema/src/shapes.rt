@@ -7,17 +7,21 @@ ghost use Rattle.mdb_datum.specs.Doc.{member};
 ghost use Rattle.mdb_datum.specs.Datum.{doc_of, items_of, members_of};
 ghost use Rattle.mdb_schema.specs.Members.{object_fields, text_bytes};
 ghost use Rattle.mdb_schema.specs.Shapes.{has_only, flag_or_false, number_in, list_in, scalar_in};
-ghost use Rattle.mdb_schema.specs.Shapes.{field_in, schema_shape, table_shape, index_shape};
-ghost use Rattle.mdb_schema.specs.Shapes.{folded_shape, width_shape, plain_shape, equals_shape};
-ghost use Rattle.mdb_schema.specs.Shapes.{compound_shape};
+ghost use Rattle.mdb_schema.specs.Shapes.{field_in, schema_shape, names_of_table, table_shape};
+ghost use Rattle.mdb_schema.specs.Shapes.{index_shape, folded_shape, width_shape, plain_shape};
+ghost use Rattle.mdb_schema.specs.Shapes.{equals_shape, compound_shape};
 
+use crate::version::Version;
 use mdb_datum::{Datum, Items, Members, Text};
 
 /// The members that a schema may have.
 const SCHEMA_NAMES: [&str; 2] = ["memdb", "tables"];
 
-/// The members that a table may have.
+/// The members that a table may have in version 1.
 const TABLE_NAMES: [&str; 1] = ["indexes"];
+
+/// The members that a table may have in version 2.
+const TRACKED_TABLE_NAMES: [&str; 2] = ["indexes", "tracked"];
 
 /// The members that an index may have.
 const INDEX_NAMES: [&str; 3] = ["indexer", "unique", "allow_missing"];
@@ -193,14 +197,27 @@ pub(crate) fn schema_shape(members: &Members) -> Option<(i128, &Members)>
     Some((version, tables))
 }
 
-/// `indexes` of a table.
-pub(crate) fn table_shape(members: &Members) -> Option<&Members>
-    ensures { option_map (λ m. members_of m.now) result ≡ table_shape (members_of members.now) }
+/// Whether a table has the members of a version alone.
+fn has_names_of_table(version: Version, members: &Members) -> bool
+    ensures { result ≡ has_only (names_of_table version) (members_of members.now) }
 {
-    if !has_only(members, &TABLE_NAMES) {
+    match version {
+        Version::One => has_only(members, &TABLE_NAMES),
+        Version::Two => has_only(members, &TRACKED_TABLE_NAMES),
+    }
+}
+
+/// `indexes` and `tracked` of a table.
+pub(crate) fn table_shape(version: Version, members: &Members) -> Option<(&Members, bool)>
+    ensures { option_map (λ p. (members_of p.0.now, p.1)) result
+        ≡ table_shape version (members_of members.now) }
+{
+    if !has_names_of_table(version, members) {
         return None;
     }
-    object_under(members, "indexes")
+    let indexes = object_under(members, "indexes")?;
+    let tracked = flag_under(members, "tracked")?;
+    Some((indexes, tracked))
 }
 
 /// `indexer`, `unique` and `allow_missing` of an index.

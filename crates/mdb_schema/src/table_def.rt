@@ -9,8 +9,8 @@ use std::alloc::{AllocError, Global};
 use std::marker::Model;
 use std::sync::Arc;
 
-/// A table, seen as a `TableSchema`: its name and its indexes, which stand in byte order of their
-/// names. It is lawful by its type, which `len` tells.
+/// A table, seen as a `TableSchema`: its name, whether it is tracked, and its indexes, which stand in
+/// byte order of their names. It is lawful by its type, which `len` tells.
 /// It is shared by the schema and the tables that are made of it, and never changes.
 #[derive(Drop)]
 pub struct TableDef {
@@ -21,6 +21,7 @@ pub struct TableDef {
 #[derive(Drop)]
 struct TableParts {
     name: Text,
+    tracked: bool,
     indexes: Vec<IndexDef>,
 }
 
@@ -41,17 +42,28 @@ impl Model for TableDef {
 }
 
 impl TableDef {
-    /// A table of this name with these indexes. It takes memory for what is shared.
+    /// A table of these parts. It takes memory for what is shared.
     pub(crate) fn of(
         alloc: Global,
         name: Text,
+        tracked: bool,
         indexes: Vec<IndexDef>,
     ) -> Result<TableDef, AllocError>
-        requires { IsLawfulTable (record { name = name; indexes = indexes.items }) }
-        ensures { IfOk result (λ t. t ≡ record { name = name; indexes = indexes.items }) }
+        requires { IsLawfulTable (record {
+          name = name;
+          tracked = tracked;
+          indexes = indexes.items;
+        }) }
+        ensures { IfOk result (λ t. t
+            ≡ record { name = name; tracked = tracked; indexes = indexes.items }) }
     {
+        let parts = TableParts {
+            name,
+            tracked,
+            indexes,
+        };
         Ok(TableDef {
-            parts: Arc::new(alloc, TableParts { name, indexes })?,
+            parts: Arc::new(alloc, parts)?,
         })
     }
 
@@ -70,6 +82,14 @@ impl TableDef {
         ensures { result.now ≡ self.now.name }
     {
         &self.parts.name
+    }
+
+    /// Whether the table is tracked, as one whose changes are told. In version 1 of the format none
+    /// is.
+    pub fn tracked(&self) -> bool
+        ensures { result ≡ self.now.tracked }
+    {
+        self.parts.tracked
     }
 
     /// How many indexes there are.

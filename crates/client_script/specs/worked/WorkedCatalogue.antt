@@ -28,6 +28,7 @@ abbrev pub catalogue : DbSchema
 catalogue =
     record {
       name = codes "nodes";
+      tracked = false;
       indexes =
           record { name = codes "id"; unique = true; allow_missing = false; indexer = str (codes "node") true }
           ∷ record { name = codes "meta"; unique = false; allow_missing = true; indexer = str_map (codes "meta") false }
@@ -36,6 +37,7 @@ catalogue =
     }
     ∷ record {
       name = codes "services";
+      tracked = false;
       indexes =
           record {
             name = codes "id";

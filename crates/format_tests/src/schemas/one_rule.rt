@@ -2,7 +2,7 @@
 use super::*;
 
 /// The file as a whole.
-const FILES: [Case; 35] = [
+const FILES: [Case; 36] = [
     (r#""#, "syntax"),
     (r#"{"#, "syntax"),
     (r#"{"memdb":1,"tables":{}}}"#, "syntax"),
@@ -37,16 +37,17 @@ const FILES: [Case; 35] = [
     (r#"{"memdb":1,"tables":{},"x":1}"#, "bad-shape"),
     (r#"{"Memdb":1,"tables":{}}"#, "bad-shape"),
     (r#"{"memdb":0,"tables":{}}"#, "bad-version"),
-    (r#"{"memdb":2,"tables":{}}"#, "bad-version"),
+    (r#"{"memdb":3,"tables":{}}"#, "bad-version"),
     (r#"{"memdb":-1,"tables":{}}"#, "bad-version"),
     (
         r#"{"memdb":18446744073709551615,"tables":{}}"#,
         "bad-version",
     ),
-    (r#"{"memdb":1,"memdb":2,"tables":{}}"#, "bad-version"),
+    (r#"{"memdb":1,"memdb":3,"tables":{}}"#, "bad-version"),
     (r#"{"memdb":1,"tables":{}}"#, "no-tables"),
     (r#" { "tables" : { } , "memdb" : 1 } "#, "no-tables"),
-    (r#"{"memdb":2,"memdb":1,"tables":{}}"#, "no-tables"),
+    (r#"{"memdb":3,"memdb":1,"tables":{}}"#, "no-tables"),
+    (r#"{"memdb":2,"tables":{}}"#, "no-tables"),
     (r#"{"memdb":1,"tables":1,"tables":{}}"#, "no-tables"),
     (r#"{"memdb":1,"tables":{"t":1},"tables":{}}"#, "no-tables"),
 ];
@@ -246,9 +247,9 @@ const OF_INDEXERS: [Case; 52] = [
 fn one_broken_rule_is_told(rt: HostRuntime) -> Result<(), AllocError> {
     worked_documents();
     check_all(&rt, rt.alloc(), WHOLE, &FILES)?;
-    check_all(&rt, rt.alloc(), TABLES, &OF_TABLES)?;
-    check_all(&rt, rt.alloc(), INDEXES, &OF_INDEXES)?;
-    check_all(&rt, rt.alloc(), INDEXER, &OF_INDEXERS)
+    check_in_each(&rt, rt.alloc(), &TABLES, &OF_TABLES)?;
+    check_in_each(&rt, rt.alloc(), &INDEXES, &OF_INDEXES)?;
+    check_in_each(&rt, rt.alloc(), &INDEXER, &OF_INDEXERS)
 }
 
 #[test]
@@ -266,5 +267,5 @@ const ESCAPED: [Case; 2] = [
 
 #[test]
 fn a_name_is_told_without_its_escapes(rt: HostRuntime) -> Result<(), AllocError> {
-    check_all(&rt, rt.alloc(), TABLES, &ESCAPED)
+    check_in_each(&rt, rt.alloc(), &TABLES, &ESCAPED)
 }

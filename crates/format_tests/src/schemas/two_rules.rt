@@ -4,17 +4,17 @@ use super::*;
 /// Of the file as a whole.
 const FILES: [Case; 9] = [
     // The syntax, then the version.
-    (r#"{"memdb":2,"tables":{}"#, "syntax"),
+    (r#"{"memdb":3,"tables":{}"#, "syntax"),
     // A number that isn't whole far within, then the shape.
     (
         r#"{"memdb":true,"tables":{"t":{"indexes":{"id":{"unique":1.5}}}}}"#,
         "syntax",
     ),
     // The shape, then the version.
-    (r#"{"memdb":2,"tables":[]}"#, "bad-shape"),
-    (r#"{"memdb":2,"tables":{},"x":1}"#, "bad-shape"),
+    (r#"{"memdb":3,"tables":[]}"#, "bad-shape"),
+    (r#"{"memdb":3,"tables":{},"x":1}"#, "bad-shape"),
     // The version, then no table.
-    (r#"{"memdb":2,"tables":{}}"#, "bad-version"),
+    (r#"{"memdb":3,"tables":{}}"#, "bad-version"),
     // The version, then a table's name.
     (r#"{"memdb":0,"tables":{"":1}}"#, "bad-version"),
     // The first table's name by bytes, and not by place.
@@ -171,7 +171,7 @@ const OF_INDEXERS: [Case; 14] = [
 #[test]
 fn the_first_broken_rule_is_told(rt: HostRuntime) -> Result<(), AllocError> {
     check_all(&rt, rt.alloc(), WHOLE, &FILES)?;
-    check_all(&rt, rt.alloc(), TABLES, &OF_TABLES)?;
-    check_all(&rt, rt.alloc(), INDEXES, &OF_INDEXES)?;
-    check_all(&rt, rt.alloc(), INDEXER, &OF_INDEXERS)
+    check_in_each(&rt, rt.alloc(), &TABLES, &OF_TABLES)?;
+    check_in_each(&rt, rt.alloc(), &INDEXES, &OF_INDEXES)?;
+    check_in_each(&rt, rt.alloc(), &INDEXER, &OF_INDEXERS)
 }

@@ -16,8 +16,10 @@ index_code = code_by (Bytes × (Bool × (Bool × Indexer)))
     (λ p. record { name = p.0; unique = p.1.0; allow_missing = p.1.1.0; indexer = p.1.1.1 }) (λ _. refl)
 
 abbrev pub table_code : Coded TableSchema
-table_code = code_by (Bytes × List IndexSchema) (coded× name_code (coded_list index_code))
-    (λ t. (t.name, t.indexes)) (λ p. record { name = p.0; indexes = p.1 }) (λ _. refl)
+table_code = code_by (Bytes × (Bool × List IndexSchema))
+    (coded× name_code (coded× coded_bool (coded_list index_code)))
+    (λ t. (t.name, (t.tracked, t.indexes)))
+    (λ p. record { name = p.0; tracked = p.1.0; indexes = p.1.1 }) (λ _. refl)
 
 abbrev pub schema_code : Coded DbSchema
 schema_code = coded_list table_code

@@ -4,4 +4,5 @@ use Rattle.mdb_schema.specs.Schema.{TableSchema}
 use Rattle.mdb_schema.specs.declared.table_def.TableDef.TheInside.{Inside}
 
 abbrev pub table_view : Inside → TableSchema
-table_view d = let parts = arc_value d.parts in record { name = parts.name; indexes = parts.indexes.items }
+table_view d = let parts = arc_value d.parts in
+    record { name = parts.name; tracked = parts.tracked; indexes = parts.indexes.items }

@@ -13,13 +13,19 @@ members fs = object (field_list fs)
 abbrev pub items : List Doc → Doc
 items ds = list (doc_list ds)
 
--- {"memdb":1,"tables":TABLES}
-abbrev pub file : List Field → Doc
-file tables = members ((codes "memdb", whole (pos 1)) ∷ (codes "tables", members tables) ∷ [])
+-- {"memdb":N,"tables":TABLES}
+abbrev pub numbered_file : ℕ → List Field → Doc
+numbered_file n tables = members ((codes "memdb", whole (pos n)) ∷ (codes "tables", members tables) ∷ [])
 
--- {"indexes":INDEXES}
+abbrev pub file : List Field → Doc
+file tables = numbered_file 1 tables
+
+-- {"indexes":INDEXES}, and the same with "tracked":TRACKED
 abbrev pub table : List Field → Doc
 table indexes = members ((codes "indexes", members indexes) ∷ [])
+
+abbrev pub tracked_table : Doc → List Field → Doc
+tracked_table tracked indexes = members ((codes "indexes", members indexes) ∷ (codes "tracked", tracked) ∷ [])
 
 -- {"field":FIELD,"kind":KIND}
 abbrev pub plain : Bytes → Bytes → Doc

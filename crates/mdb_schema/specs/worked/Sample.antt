@@ -67,14 +67,15 @@ tags_index = record {
 }
 
 abbrev pub keys_table : TableSchema
-keys_table = record { name = codes "keys"; indexes = id_of_uuid ∷ [] }
+keys_table = record { name = codes "keys"; tracked = false; indexes = id_of_uuid ∷ [] }
 
 abbrev pub notes_table : TableSchema
-notes_table = record { name = codes "notes"; indexes = id_of_text (codes "name") ∷ [] }
+notes_table = record { name = codes "notes"; tracked = false; indexes = id_of_text (codes "name") ∷ [] }
 
 abbrev pub rules_table : TableSchema
 rules_table = record {
   name = codes "rules";
+  tracked = false;
   indexes = id_of_text (codes "name") ∷ path_index ∷ [];
 }
 
@@ -82,6 +83,7 @@ rules_table = record {
 abbrev pub users_table : TableSchema
 users_table = record {
   name = codes "users";
+  tracked = false;
   indexes = age_index ∷ id_of_text (codes "name") ∷ mail_index ∷ tags_index ∷ [];
 }
 

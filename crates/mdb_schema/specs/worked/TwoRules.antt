@@ -8,10 +8,10 @@ use Rattle.mdb_schema.specs.worked.Documents.{members, file, table, plain, of_wi
 -- files with two rules broken, of which the first in order is answered
 pub record TwoRules : Type 0 where
   pub version_then_no_tables :
-      schema_in (members ((codes "memdb", whole (pos 2)) ∷ (codes "tables", members []) ∷ []))
+      schema_in (members ((codes "memdb", whole (pos 3)) ∷ (codes "tables", members []) ∷ []))
       ≡ refused rule.BadVersion
   pub shape_then_version :
-      schema_in (members ((codes "memdb", whole (pos 2)) ∷ (codes "tables", nil) ∷ []))
+      schema_in (members ((codes "memdb", whole (pos 3)) ∷ (codes "tables", nil) ∷ []))
       ≡ refused rule.BadShape
   pub too_many_then_name :
       schema_in (file (replicate 65 ([], table [])))

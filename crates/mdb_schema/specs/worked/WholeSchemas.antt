@@ -37,15 +37,17 @@ pub record WholeSchemas : Type 0 where
             (codes "tags", missing_index false (plain (codes "text_list") (codes "tags"))) ∷ []),
       ) ∷ []))
       ≡ Ok (
-      record { name = codes "keys"; indexes = record { name = codes "id"; unique = true; allow_missing = false; indexer = uuid (codes "key") } ∷ [] } ∷
-      record { name = codes "notes"; indexes = id_of (codes "name") ∷ [] } ∷
+      record { name = codes "keys"; tracked = false; indexes = record { name = codes "id"; unique = true; allow_missing = false; indexer = uuid (codes "key") } ∷ [] } ∷
+      record { name = codes "notes"; tracked = false; indexes = id_of (codes "name") ∷ [] } ∷
       record {
         name = codes "rules";
+        tracked = false;
         indexes = id_of (codes "name") ∷
             record { name = codes "path"; unique = true; allow_missing = false; indexer = compound (part (str (codes "dc") false) (part (str (codes "svc") false) no_parts)) true } ∷ [];
       } ∷
       record {
         name = codes "users";
+        tracked = false;
         indexes =
             record { name = codes "age"; unique = false; allow_missing = false; indexer = uint (codes "age") 2 } ∷
             id_of (codes "name") ∷
@@ -53,5 +55,5 @@ pub record WholeSchemas : Type 0 where
             record { name = codes "tags"; unique = false; allow_missing = true; indexer = str_list (codes "tags") false } ∷ [];
       } ∷ [])
   pub most_tables : schema_in (file (replicate 64 (codes "t", table (id ∷ []))))
-      ≡ Ok (replicate 64 (record { name = codes "t"; indexes = id_a ∷ [] }))
-  pub most_indexes : one_table (replicate 32 id) ≡ Ok (record { name = codes "t"; indexes = replicate 32 id_a } ∷ [])
+      ≡ Ok (replicate 64 (record { name = codes "t"; tracked = false; indexes = id_a ∷ [] }))
+  pub most_indexes : one_table (replicate 32 id) ≡ Ok (record { name = codes "t"; tracked = false; indexes = replicate 32 id_a } ∷ [])

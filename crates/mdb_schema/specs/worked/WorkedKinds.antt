@@ -32,7 +32,7 @@ abbrev shared : Indexer → IndexSchema
 shared i = record { name = codes "x"; unique = false; allow_missing = false; indexer = i }
 
 abbrev table_with : IndexSchema → TableSchema
-table_with i = record { name = codes "t"; indexes = id_of_text (codes "name") ∷ i ∷ [] }
+table_with i = record { name = codes "t"; tracked = false; indexes = id_of_text (codes "name") ∷ i ∷ [] }
 
 -- {"name":NAME,"x":X}
 abbrev row : Bytes → Doc → Fields

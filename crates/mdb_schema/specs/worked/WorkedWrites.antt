@@ -128,7 +128,7 @@ shared_of_two = record {
 }
 
 abbrev pairs_table : TableSchema
-pairs_table = record { name = codes "pairs"; indexes = id_of_two ∷ shared_of_two ∷ [] }
+pairs_table = record { name = codes "pairs"; tracked = false; indexes = id_of_two ∷ shared_of_two ∷ [] }
 
 -- its keys are `k` in `x`, and `l`, `m` in `id`
 abbrev one_and_two : Fields

@@ -19,6 +19,7 @@ use Rattle.memdb.specs.Made.{Item, Numbers, items_by}
 abbrev pub made_schema : DbSchema
 made_schema = record {
   name = codes "items";
+  tracked = false;
   indexes =
       record {
         name = codes "age";

@@ -1,5 +1,5 @@
 -- What a made row is, and the table that it is put into.
-use Rattle.std.specs.Prelude.{◌<◌, ◌≤◌, [], ◌∷◌, length}
+use Rattle.std.specs.Prelude.{◌<◌, ◌≤◌, [], ◌∷◌, false, length}
 use Rattle.mdb_schema.specs.Schema.{DbSchema, TableSchema}
 use Rattle.memdb.specs.Made.{Item}
 use Rattle.memdb.specs.inner.MadeInputs.{made_schema}
@@ -11,7 +11,7 @@ pub record IsItem (x : Item) : Type 0 where
   pub short_name : length x.name ≤ 1023
 
 abbrev pub first_table : DbSchema → TableSchema
-first_table [] = record { name = []; indexes = [] }
+first_table [] = record { name = []; tracked = false; indexes = [] }
 first_table (t ∷ ts) = t
 
 -- the one table of the schema

@@ -10,6 +10,9 @@ returns-clause-two c = record { version_then_no_tables = refl; shape_then_versio
 pub returns-clause-read : goal.returns-clause-read
 returns-clause-read c = record { four_tables = refl; most_tables = refl; most_indexes = refl }
 
+pub returns-clause-tracked : goal.returns-clause-tracked
+returns-clause-tracked c = record { two_are_read = refl; none_in_version_one = refl; no_version_three = refl; true_is_tracked = refl; false_is_not = refl; left_out_is_not = refl; number_is_refused = refl; false_in_version_one = refl }
+
 pub returns-clause-kinds : goal.returns-clause-kinds
 returns-clause-kinds c = record { plain_text = refl; folded = refl; not_folded = refl; text_list = refl; folded_list = refl; text_map = refl; folded_map = refl; uint_of_one = refl; uint_of_eight = refl; int_of_two = refl; int_of_four = refl; bool = refl; uuid_text = refl; field_set = refl; equals_null = refl; equals_number = refl; equals_empty = refl; compound_of_three = refl; compound_of_one = refl }
 

@@ -7,8 +7,8 @@ use Rattle.mdb_schema.proofs.read.schema_in.Goals as goal
 
 pub tables_in-requires : goal.tables_in-requires
 tables_in-requires c =
-    ((table_list_found (doc_of c.args.document.now) (members_of c.in-Ok.members.now) (sym c.in-Ok.ensures)).regular c.requires).1
+    ((table_list_found (doc_of c.args.document.now) (c.in-Ok.listed.0, members_of c.in-Ok.listed.1.now) (sym c.in-Ok.ensures)).regular c.requires).1
 
 pub of-requires : goal.of-requires
 of-requires c =
-    schema_lawful (doc_of c.args.document.now) (members_of c.in-Ok.members.now) c.in_ok-tables.tables.items c.requires (sym c.in-Ok.ensures) c.in_ok-tables.ensures
+    schema_lawful (doc_of c.args.document.now) (c.in-Ok.listed.0, members_of c.in-Ok.listed.1.now) c.in_ok-tables.tables.items c.requires (sym c.in-Ok.ensures) c.in_ok-tables.ensures

@@ -6,4 +6,4 @@ use Rattle.mdb_schema.proofs.read.table_in.Goals as goal
 
 pub table_of-requires : goal.table_of-requires
 table_of-requires c =
-    table_lawful (c.args.name.now, doc_of c.args.document.now) (members_of c.in-Ok.members.now) c.in_ok-indexes.indexes.items c.requires (sym c.in-Ok.ensures) c.in_ok-indexes.ensures
+    table_lawful c.args.version (c.args.name.now, doc_of c.args.document.now) (members_of c.in-Ok.listed.0.now, c.in-Ok.listed.1) c.in_ok-indexes.indexes.items c.requires (sym c.in-Ok.ensures) c.in_ok-indexes.ensures

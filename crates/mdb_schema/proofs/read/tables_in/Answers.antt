@@ -10,8 +10,8 @@ table_in-requires c =
 
 pub returns-in-Err : goal.returns-in-Err
 returns-in-Err c =
-    named_refusal_at table_in c.loop-at.tables.items (members_of c.args.members.now) c.loop-at.at (c.in-Some.name.now, doc_of c.in-Some.document.now) c.in-Err.error c.in-Some.ensures c.loop-at.invariant c.in-Err.ensures
+    named_refusal_at (table_in c.args.version) c.loop-at.tables.items (members_of c.args.members.now) c.loop-at.at (c.in-Some.name.now, doc_of c.in-Some.document.now) c.in-Err.error c.in-Some.ensures c.loop-at.invariant c.in-Err.ensures
 
 pub loop-at-preserved : goal.loop-at-preserved
 loop-at-preserved c =
-    each_pushed table_in c.loop-at.tables.items c.push.new.self.items (members_of c.args.members.now) c.loop-at.at (c.in-Some.name.now, doc_of c.in-Some.document.now) c.in-Ok.table c.in-Some.ensures c.in-Ok.ensures c.loop-at.invariant c.in_ok-push-in-Ok.ensures.items
+    each_pushed (table_in c.args.version) c.loop-at.tables.items c.push.new.self.items (members_of c.args.members.now) c.loop-at.at (c.in-Some.name.now, doc_of c.in-Some.document.now) c.in-Ok.table c.in-Some.ensures c.in-Ok.ensures c.loop-at.invariant c.in_ok-push-in-Ok.ensures.items

@@ -7,4 +7,4 @@ use Rattle.mdb_schema.proofs.read.tables_in.Given as goal
 
 abbrev pub invariant-loop-at : goal.invariant-loop-at
 invariant-loop-at l =
-    each table_in (members_of l.members) ≡ behind l.tables.items (each table_in (drop l.at (members_of l.members)))
+    each (table_in l.version) (members_of l.members) ≡ behind l.tables.items (each (table_in l.version) (drop l.at (members_of l.members)))

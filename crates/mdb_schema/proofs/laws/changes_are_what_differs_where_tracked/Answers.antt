@@ -1,0 +1,12 @@
+use Rattle.mdb_schema.specs.History.{after_writes}
+use Rattle.mdb_schema.proofs.ChangeLaws.{changes-lead, changes-none, changes-same}
+use Rattle.mdb_schema.proofs.laws.changes_are_what_differs_where_tracked.Goals as goal
+
+pub returns-clause-leads : goal.returns-clause-leads
+returns-clause-leads c = changes-lead
+
+pub returns-clause-empty : goal.returns-clause-empty
+returns-clause-empty c = λ schema old new lawful lawful'. (changes-none 0 schema old new lawful lawful', changes-same 0 schema old new lawful)
+
+pub returns-clause-undone : goal.returns-clause-undone
+returns-clause-undone c = λ schema s ws lawful same. changes-same 0 schema s (after_writes schema s ws) lawful same
