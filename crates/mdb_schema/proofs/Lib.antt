@@ -26,9 +26,11 @@ pub mod RowsWith
 pub mod RowsWithout
 pub mod NameSearch
 pub mod NetLaws
+pub mod NetMembers
 pub mod NetMerged
 pub mod ShapeLemmas
 pub mod Tables
+pub mod TrackedNone
 pub mod WriteTests
 pub mod WipeLaws
 pub mod Writes

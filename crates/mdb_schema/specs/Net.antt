@@ -1,11 +1,14 @@
 -- What writes make of the rows of a table: the row before and the row after, under each `id` key
 -- where these differ. A row that is replaced by one with the same members is no change. And what they
 -- make of a state: the same of each tracked table.
-use Rattle.std.specs.Prelude.{◌≡◌, ◌↔◌, ◌++◌, ℕ, zero, suc, List, [], ◌∷◌, map, filter, slice_get, Bool, true, false, not, if◌then◌else◌, Option, Some, None}
+use Rattle.std.specs.Prelude.{◌≡◌, ◌≢◌, ◌↔◌, ◌++◌, pos, ℕ, zero, suc, List, [], ◌∷◌, map, filter, slice_get, Bool, true, false, not, if◌then◌else◌, Option, Some, None, Ok, All, Contains, codes}
+use Rattle.std.specs.List.Sorted.{IsStrictlySortedBy}
+use Rattle.mdb_datum.specs.Doc.{FieldList, fields_in, member, object, whole}
 use Rattle.mdb_datum.specs.Row.{Fields}
 use Rattle.mdb_datum.specs.Same.{has_same_members}
-use Rattle.mdb_encode.specs.Bytes.{Bytes}
+use Rattle.mdb_encode.specs.Bytes.{Bytes, byte_order}
 use Rattle.mdb_schema.specs.History.{after_writes}
+use Rattle.mdb_schema.specs.Reading.{schema_in}
 use Rattle.mdb_schema.specs.Schema.{TableSchema, DbSchema}
 use Rattle.mdb_schema.specs.State.{State, IsLawfulState, AreLawfulRows, id_key, row_at, with_row, without_row}
 use Rattle.mdb_schema.specs.Write.{Write}
@@ -38,6 +41,35 @@ net t old new =
     (map (λ r. net_at t old new (id_key t r)) (rows_of_both t old new))
 
 -- ---- what holds of the net of lawful rows
+
+-- rows differ where they aren't the same
+abbrev pub DifferWhereNotSame : Type 0
+DifferWhereNotSame = (before after : Option Fields) → (differ before after ≡ true) ↔ (before ≢ after)
+
+-- this is what became of the row of some `id` key, and the row before and the row after differ
+abbrev pub IsDifference : TableSchema → List Fields → List Fields → Net → Type 0
+IsDifference t old new n = (id : Bytes) × (n ≡ net_at t old new id) × (differ n.before n.after ≡ true)
+
+-- the net has just what became of the row of each `id` key where that differs
+abbrev pub NetsAreJustWhatDiffers : Type 0
+NetsAreJustWhatDiffers =
+    (t : TableSchema) (old new : List Fields) (n : Net) → AreLawfulRows t old → AreLawfulRows t new
+    → Contains (net t old new) n ↔ IsDifference t old new n
+
+-- the `id` key of what became of a row: that of the row after, or of the row before where there is none
+abbrev pub key_of_either : TableSchema → Option Fields → Option Fields → Bytes
+key_of_either t before (Some after) = id_key t after
+key_of_either t (Some before) None = id_key t before
+key_of_either t None None = []
+
+abbrev pub net_key : TableSchema → Net → Bytes
+net_key t n = key_of_either t n.before n.after
+
+-- the keys of the net rise, so that none is told twice
+abbrev pub NetsRise : Type 0
+NetsRise =
+    (t : TableSchema) (old new : List Fields) → AreLawfulRows t old → AreLawfulRows t new
+    → IsStrictlySortedBy byte_order (map (net_key t) (net t old new))
 
 -- the rows with a change made
 abbrev pub with_net : TableSchema → Net → List Fields → List Fields
@@ -142,3 +174,18 @@ ChangesOfUndone =
     (schema : DbSchema) (s : State) (ws : List Write) → IsLawfulState schema s
     → IsSameWhereTracked schema s (after_writes schema s ws)
     → changes schema s (after_writes schema s ws) ≡ []
+
+-- no table is tracked
+abbrev pub TracksNone : DbSchema → Type 0
+TracksNone schema = All (λ (t : TableSchema). t.tracked ≡ false) schema
+
+-- then there is no change, whatever the states are
+abbrev pub NoneTracked : Type 0
+NoneTracked = (schema : DbSchema) (old new : State) → TracksNone schema → changes schema old new ≡ []
+
+-- a schema of version 1, read from an object whose member `memdb` is 1, tracks none
+abbrev pub VersionOneTracksNone : Type 0
+VersionOneTracksNone =
+    (members : FieldList) (schema : DbSchema)
+    → member (codes "memdb") (fields_in members) ≡ Some (whole (pos 1))
+    → schema_in (object members) ≡ Ok schema → TracksNone schema

@@ -3,7 +3,9 @@
 ghost use Rattle.mdb_schema.specs.Laws.{StepKeeps, HistoryKeeps, EachKeyIsAnEntry, EachEntryIsAKey};
 ghost use Rattle.mdb_schema.specs.Laws.{EntriesRise, WipeLeaves, WipeOfNothing};
 ghost use Rattle.mdb_schema.specs.Net.{NetLeadsToNew, NetOfUndone, NoNetWhereSame};
+ghost use Rattle.mdb_schema.specs.Net.{DifferWhereNotSame, NetsAreJustWhatDiffers, NetsRise};
 ghost use Rattle.mdb_schema.specs.Net.{ChangesLeadToNew, ChangesOfUndone, NoChangeWhereSame};
+ghost use Rattle.mdb_schema.specs.Net.{NoneTracked, VersionOneTracksNone};
 
 /// A write that is accepted keeps a lawful state lawful, and so the state after any commits is
 /// lawful.
@@ -27,9 +29,14 @@ pub fn wipes_take_out_what_they_list()
     ensures nothing { WipeOfNothing }
 {}
 
-/// The net of two lists of rows, made on the first, gives the second. There is none exactly where
-/// both are the same, and so writes that undo each other leave none.
+/// The net of two lists of rows is just what became of the row of each `id` key where the row before
+/// and the row after aren't the same, in the order of the keys, each once. Made on the first list, it
+/// gives the second. There is none exactly where both are the same, and so writes that undo each other
+/// leave none.
 pub fn nets_are_what_differs()
+    ensures differ { DifferWhereNotSame }
+    ensures just { NetsAreJustWhatDiffers }
+    ensures rise { NetsRise }
     ensures leads { NetLeadsToNew }
     ensures empty { NoNetWhereSame }
     ensures undone { NetOfUndone }
@@ -37,9 +44,17 @@ pub fn nets_are_what_differs()
 
 /// The changes from a state to another, made on the first, give the rows of the second in each tracked
 /// table, and leave the other tables as they are. There is none exactly where the tracked tables have
-/// the same rows, and so writes that undo each other there leave none.
+/// the same rows, and so writes that undo each other there leave none. Where no table is tracked there
+/// is none at all.
 pub fn changes_are_what_differs_where_tracked()
     ensures leads { ChangesLeadToNew }
     ensures empty { NoChangeWhereSame }
     ensures undone { ChangesOfUndone }
+    ensures none { NoneTracked }
+{}
+
+/// A schema that is read from a document of version 1 has no tracked table, so that no change is told of
+/// its states.
+pub fn version_one_tracks_none()
+    ensures { VersionOneTracksNone }
 {}
