@@ -13,7 +13,6 @@ use Rattle.mdb_schema.specs.Touched.{Touch, rows_written}
 use Rattle.mdb_schema.proofs.LawfulStates.{state_at_lawful}
 use Rattle.radix_node.specs.Cells.{CellTree, cells_of}
 use Rattle.radix_node.specs.Paths.{Has}
-use Rattle.radix_txn.specs.Notice.{IsOpened}
 use Rattle.table_index.specs.Table.{TableRows}
 use Rattle.table_index.specs.Watched.{FiresAt}
 use Rattle.table_index.specs.Written.{EachKept, IsKeyOf, KeptBut}

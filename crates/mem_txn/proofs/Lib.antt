@@ -3,6 +3,7 @@ pub mod AlongHistory
 pub mod BegunAnswers
 pub mod BegunTables
 pub mod CellsWatched
+pub mod ChangesTold
 pub mod ChecksAnswered
 pub mod EmptyTables
 pub mod EndedTables

@@ -2,10 +2,11 @@
 use Rattle.std.proofs.Common.{◌≡◌, ◌≤◌, ◌∙◌, ◌+◌, ℕ, Bool, List, [], ◌∷◌, length, map, Option, Some, None, Ok, Err, refl, sym, ap, subst, arith}
 use Rattle.std.specs.Prelude.{All, slice_set}
 use Rattle.std.proofs.lemmas.List.{length-map, length-set}
-use Rattle.std.proofs.lemmas.List.Elements.{All-cons, All-head, All-nil, All-tail}
+use Rattle.std.proofs.lemmas.List.Elements.{All-head, All-tail}
 use Rattle.mdb_datum.specs.Row.{Fields}
 use Rattle.mdb_encode.specs.Bytes.{Bytes}
 use Rattle.mdb_schema.specs.History.{after_writes, state_or, writes_in}
+use Rattle.mdb_schema.specs.Net.{Change, changes}
 use Rattle.mdb_schema.specs.Schema.{DbSchema}
 use Rattle.mdb_schema.specs.State.{State, Table, table_at}
 use Rattle.mdb_schema.specs.Tests.{◌>>=◌, needed}
@@ -20,11 +21,12 @@ use Rattle.mem_txn.specs.Changes.{Changes, present}
 use Rattle.mem_txn.specs.Database.{Caller, View, state_seen}
 use Rattle.mem_txn.specs.inner.ChangesView.{AreCounted, AreSince, IsBase}
 use Rattle.mem_txn.specs.inner.Commits.{IsNextOf}
-use Rattle.mem_txn.specs.inner.Ended.{AreMade, EndWith, IsMade, starts_of}
+use Rattle.mem_txn.specs.inner.Ended.{AreMade, AreTold, EndWith, IsMade, starts_of}
 use Rattle.mem_txn.specs.inner.Firing.{AreGone, cells_told}
 use Rattle.mem_txn.specs.inner.Steps.{AreTableSteps, tables_of, tables_with}
 use Rattle.mem_txn.specs.inner.VersionTables.{AreAllWithin, HasChanged, StandFor, schemas_of, standing, state_of, trees_of}
 use Rattle.mem_txn.specs.inner.Versions.{AreFew, Turned, Version}
+use Rattle.mem_txn.proofs.ChangesTold.{told_changes}
 use Rattle.mem_txn.proofs.StepAtPlace.{planted_starts}
 use Rattle.mem_txn.proofs.EmptyTables.{tables_with-parts}
 use Rattle.mem_txn.proofs.EndedTables.{made_held}
@@ -108,9 +110,16 @@ module _ (writes : List Write) (spoiled : Bool) (turn : Turned) (ids : Counter) 
         (subst (λ (ts : List TableRows). AreTableSteps turn.base.ids.next rows ts news) (sym base_is)
         (made_steps turn.base.ids.next rows tables (state_seen p) count (subst (All HoldsRows) base_is base.held) since.changed made))
 
-  pub makes_next : (number : ℕ) → number ≡ length p.seen → StandFor tables p.schema (present old) → AreSince turn writes tables → (gone : List (List (List Cell))) → EndWith tables news gone → (v : Version)
-      → v ≡ record { view = record { schema = p.schema; number = number + 1; state = state_of news }; trees = trees_of news; writes = writes; ids = ids } → AreAllWithin ids v.trees → IsNextOf old turn v gone
-  makes_next number counts stand since gone ends v is within =
+    -- the changes of tracked tables are those to the present state
+    changes_told : (cs : List Change) → AreTold 0 tables cs → cs ≡ changes p.schema (state_seen p) (present old)
+    changes_told cs told =
+        told_changes 0 tables (state_seen p) cs count (subst (All HoldsRows) base_is base.held) told
+        ∙ (λ k. changes (stand.schemas k) (state_seen p) (stand.rows k))
+
+  pub makes_next : (number : ℕ) → number ≡ length p.seen → StandFor tables p.schema (present old) → AreSince turn writes tables → (gone : List (List (List Cell))) → EndWith tables news gone
+      → (cs : List Change) → AreTold 0 tables cs → (v : Version)
+      → v ≡ record { view = record { schema = p.schema; number = number + 1; state = state_of news }; trees = trees_of news; writes = writes; ids = ids } → AreAllWithin ids v.trees → IsNextOf old turn v gone cs
+  makes_next number counts stand since gone ends cs told v is within =
       let mine : v.writes ≡ writes = ap (λ (x : Version). x.writes) is in
       let theirs : v.ids ≡ ids = ap (λ (x : Version). x.ids) is in
       let trees : v.trees ≡ trees_of news = ap (λ (x : Version). x.trees) is in
@@ -144,4 +153,5 @@ module _ (writes : List Write) (spoiled : Bool) (turn : Turned) (ids : Counter) 
         told =
             subst (λ (f : Forest). AreGone f v.trees (cells_told gone)) since.starts
             (subst (λ (f : Forest). AreGone (starts_of tables) f (cells_told gone)) (sym trees) ends.told);
+        tracked = changes_told stand since ends.made cs told;
       }

@@ -356,3 +356,9 @@ module _ (k : Known Version) (base v : Version) (stands : StandsFor k.seen base)
 
     pub turn_book : new.book ≡ book_in k'.seen
     turn_book = book_is k'.seen new.book turn_of_book
+
+-- so has the log of a turn of what its caller has seen
+pub turn_heard : (k : Known Version) (base : Version) (log : Log) → StandsFor k.seen base → front.HasFirings HasFired base.view.number k.seen log → cells.HasFirings (cells_seen (caller_of k)) (length (history_in k.seen)) log
+turn_heard k base log stands has =
+    let all = all_seen k base base stands in
+    subst (λ n. cells.HasFirings (cells_seen (caller_of k)) n log) (ap (λ (w : View). w.number) stands.view) (firings_seen k base.view.number log (omega (arith, all)) has)

@@ -3,12 +3,13 @@ use Rattle.std.specs.Prelude.{◌≡◌, ◌⊎◌, ◌+◌, ◌^◌, ◌<◌, �
 use Rattle.std.specs.Prelude.{Some, Result, Ok, Err, MatchResult}
 use Rattle.db_front.specs.AnyPass as any
 use Rattle.mdb_schema.specs.Guarded.{IsGuarded}
+use Rattle.mdb_schema.specs.Net as model
 use Rattle.mdb_schema.specs.Query.{Query}
 use Rattle.watch_word.specs.Logs.{Cell, IsLater, Log, has_fired}
 use Rattle.mem_txn.specs.CellHistory.{CellHistory, Forest, HasFirings, cell_at}
-use Rattle.mem_txn.specs.Changes.{Changes, after_commit, begun}
+use Rattle.mem_txn.specs.Changes.{Changes, after_commit, begun, present}
 use Rattle.mem_txn.specs.Checked.{HasHeard}
-use Rattle.mem_txn.specs.Database.{Caller, HasRead, HasSeen, View, cells_seen}
+use Rattle.mem_txn.specs.Database.{Caller, HasRead, HasSeen, View, cells_seen, state_seen}
 use Rattle.mem_txn.specs.declared.deferred.DeferredList.{DeferredList}
 use Rattle.mem_txn.specs.declared.outcome.BeginRefused.{BeginRefused}
 use Rattle.mem_txn.specs.declared.outcome.CommitRefused.{CommitRefused}
@@ -83,15 +84,19 @@ TellsChanges J log =
     (q : Query) (v : ℕ) (c : Cell) → v ≤ length J.commits → cell_at J q v ≡ Some c
     → (IsGuarded J.schema J.commits q v (length J.commits) → ⊥) → has_fired c log ≡ true
 
--- The commit is the next of the list, and hands the items out, last deferred first. The log, which
--- the caller then has seen, has all that the commits up to its number fire, whoever made them: so it
--- has the cell of each question whose answer has changed, whoever watches it.
+-- The commit is the next of the list, and hands the items out, last deferred first, and what has
+-- changed in tracked tables: from the state on which the transaction stands to that with its writes.
+-- The log, which the caller then has seen, has all that the commits up to its number fire, whoever
+-- made them: so it has the cell of each question whose answer has changed, whoever watches it.
 pub record IsCommitted {D : Type 0} (t : WriteTxn D) (c : Committed D) : Type 0 where
   pub trees : Forest
   pub pass : c.pass ≡ after_commit (changes_of t) trees c.receipt.log
   pub number : c.receipt.number ≡ length (changes_of t).caller.seen + 1
   pub few : c.receipt.number ≤ 2 ^ 63
   pub items : deferred_items c.receipt.items ≡ reverse (items_of t)
+  pub changes : c.receipt.changes
+      ≡ model.changes (changes_of t).caller.schema (state_seen (changes_of t).caller)
+      (present (changes_of t))
   pub later : let old = (changes_of t).caller in IsLater old.log c.receipt.log
   pub book : c.receipt.log.book ≡ c.pass.book
   pub heard : HasHeard c.pass

@@ -8,6 +8,7 @@ pub mod HeldView
 pub mod Looks
 pub mod Steps
 pub mod Stored
+pub mod StoredChange
 pub mod StoredHeld
 pub mod Values
 pub mod VersionTables

@@ -9,15 +9,18 @@ ghost use Rattle.mdb_schema.specs.Write.{put, remove, put_row, remove_row};
 ghost use Rattle.mem_txn.specs.Changes.{AnswersTxnAsk, AnswersTxnWipe, AnswersTxnWrite, begun};
 ghost use Rattle.mem_txn.specs.Changes.{gives_replaced, gives_row, present, view_at};
 ghost use Rattle.mem_txn.specs.Checked.{IdsTellCells};
-ghost use Rattle.mem_txn.specs.Database.{IsOf, state_seen};
+ghost use Rattle.mem_txn.specs.CellHistory.{HasFirings};
+ghost use Rattle.mem_txn.specs.Database.{IsOf, cells_seen, state_seen};
 ghost use Rattle.mem_txn.specs.inner.ChangesView.{AreCounted, AreSince, IsBase};
 ghost use Rattle.mem_txn.specs.inner.Commits.{IsNextOf};
-ghost use Rattle.mem_txn.specs.inner.Ended.{EndWith};
+ghost use Rattle.mem_txn.specs.inner.Ended.{AreTold, EndWith};
 ghost use Rattle.mem_txn.specs.inner.VersionTables.{AreAllWithin, IsSound, Joins, StandFor, is_memory};
 ghost use Rattle.mem_txn.specs.inner.VersionTables.{schemas_of, standing, state_of, trees_of};
 ghost use Rattle.mem_txn.specs.inner.Wipes.{wipe_by};
+ghost use Rattle.watch_word.specs.Logs.{IsLater};
 
 use crate::accepted::{Accepted, Kind};
+use crate::change_list::ChangeList;
 use crate::db::Db;
 use crate::pass::Pass;
 use crate::turn::Turn;
@@ -94,6 +97,16 @@ impl Changes {
         ensures { IdsTellCells self.now.caller }
     {
         self.pass.ids_tell_cells();
+    }
+
+    /// A front of the log with which it began.
+    pub(crate) fn front(&self) -> Front
+        ensures fired { let p = self.now.caller in
+            HasFirings (cells_seen p) (length p.seen) result }
+        ensures later { let p = self.now.caller in IsLater p.log result }
+        ensures book { let p = self.now.caller in result.book ≡ p.book }
+    {
+        self.pass.share_front()
     }
 
     /// Whether an earlier write found no memory.
@@ -228,11 +241,13 @@ impl Changes {
     }
 
     /// The turn, and the value after its commit, ready to be shown, with the notices of the cells
-    /// that are gone; or, for want of memory, the turn alone.
+    /// that are gone, and what has changed in tracked tables; or, for want of memory, the turn
+    /// alone.
     pub(crate) fn freeze(self, db: &Db) -> Result<(Turn, Next), Turn>
         requires sound { self.spoiled ≡ false }
         ensures { MatchResult result
-            (λ made. let next = made.1 in IsNextOf self made.0 next.ready next.gone.items)
+            (λ made. let next = made.1 in
+            IsNextOf self made.0 next.ready next.gone.items next.changes)
             (λ turn. turn.caller ≡ self.caller) }
     {
         let Changes {
@@ -267,15 +282,16 @@ impl Changes {
     }
 }
 
-/// What a commit is made of: the value after it, ready to be shown, and the notices of the cells
-/// that are gone then.
+/// What a commit is made of: the value after it, ready to be shown, the notices of the cells that
+/// are gone then, and what has changed in tracked tables.
 pub(crate) struct Next {
     pub(crate) ready: Ready<Version>,
     pub(crate) gone: Vec<Notices>,
+    pub(crate) changes: ChangeList,
 }
 
-/// The value after so many commits, of the tables that these writes end with, and the notices. All
-/// memory of a commit is taken here.
+/// The value after so many commits, of the tables that these writes end with, the notices, and what
+/// has changed. All memory of a commit is taken here.
 fn next_version(
     db: &Db,
     pass: &Turn,
@@ -300,12 +316,26 @@ fn next_version(
         (λ next. let r = next.ready in AreAllWithin tables.ids r.trees) }
     ensures ends { IfOk result
         (λ next. EndWith tables.tables (map standing tables.tables) next.gone.items) }
+    ensures changes { IfOk result (λ next. AreTold 0 tables.tables next.changes) }
     ensures base { IsBase pass.now }
 {
     pass.base_is_known();
-    let (Frozen { tables, gone }, ids) = tables.freeze()?;
+    // Brings the schema's laws into the proof, that it has few tables.
+    let _ = pass.schema().len();
+    let (
+        Frozen {
+            tables,
+            gone,
+            changes,
+        },
+        ids,
+    ) = tables.freeze()?;
     let ready = ready_of(db, pass, tables, writes, ids, number)?;
-    Ok(Next { ready, gone })
+    Ok(Next {
+        ready,
+        gone,
+        changes,
+    })
 }
 
 /// The value after so many commits, of these tables, ready to be shown.

@@ -2,6 +2,7 @@
 ghost use Rattle.mem_txn.specs.Database.{IsOf};
 ghost use Rattle.mem_txn.specs.inner.Commits.{AnswersChanges};
 
+use crate::change_list::ChangeList;
 use crate::changes::{Changes, Next};
 use crate::db::Db;
 use crate::outcome::CommitRefused;
@@ -11,12 +12,13 @@ use std::sync::Wait;
 use watch_word::Front;
 
 /// Shows the state with a transaction's writes, and gives its pass back, which has made the commit,
-/// with the log that has all that it fires. All memory is taken before the new state is shown.
+/// with the log that has all that it fires, and what it changed in tracked tables. All memory is
+/// taken before the new state is shown.
 pub(crate) fn commit<R: Wait>(
     rt: &R,
     changes: Changes,
     db: &Db,
-) -> Result<(Pass, Front), CommitRefused>
+) -> Result<(Pass, Front, ChangeList), CommitRefused>
     requires own { IsOf db.now changes.caller }
     ensures { AnswersChanges changes result }
 {
@@ -28,8 +30,13 @@ pub(crate) fn commit<R: Wait>(
     }
     match changes.freeze(db) {
         Ok((turn, next)) => {
-            let Next { ready, gone } = next;
-            Ok(turn.commit(rt, db, ready, &gone))
+            let Next {
+                ready,
+                gone,
+                changes,
+            } = next;
+            let (pass, log) = turn.commit(rt, db, ready, &gone);
+            Ok((pass, log, changes))
         }
         Err(turn) => Err(CommitRefused {
             pass: turn.leave(db),

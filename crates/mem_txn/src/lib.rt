@@ -28,6 +28,7 @@
 
 mod accepted;
 mod begin;
+mod change_list;
 mod changes;
 mod check;
 mod commit;
@@ -51,6 +52,7 @@ mod view;
 mod wipe;
 mod write_txn;
 
+pub use change_list::{Change, ChangeList};
 pub use db::Db;
 pub use deferred::DeferredList;
 pub use held::Held;

@@ -1,4 +1,5 @@
 //! What the calls hand back that take a pass or an item.
+use crate::change_list::ChangeList;
 use crate::deferred::DeferredList;
 use crate::pass::Pass;
 use crate::txn_error::{BeginError, CommitError};
@@ -32,12 +33,13 @@ pub struct DeferRefused<D> {
 }
 
 /// What a commit did: its number, the log of firings, which has all that the commits up to this one
-/// fire, and the deferred items, last deferred first.
+/// fire, the deferred items, last deferred first, and what it changed in tracked tables.
 #[derive(Drop)]
 pub struct Receipt<D> {
     pub number: u64,
     pub log: Front,
     pub items: DeferredList<D>,
+    pub changes: ChangeList,
 }
 
 /// A commit that was made.

@@ -111,6 +111,16 @@ impl Turn {
         self.token.log()
     }
 
+    /// A second front of the log, which has all that the commits fire.
+    pub(crate) fn share_front(&self) -> Front
+        ensures fired { let p = self.now.caller in
+            firings.HasFirings (cells_seen p) (length p.seen) result }
+        ensures later { let p = self.now.caller in IsLater p.log result }
+        ensures book { let p = self.now.caller in result.book ≡ p.book }
+    {
+        self.token.log().share()
+    }
+
     /// Tables that nobody has written to, with the ids that come next. It takes memory for the list
     /// of them. So what an aborted transaction drew is drawn again.
     pub(crate) fn tables(&self, alloc: Global) -> Result<TxnTables, AllocError>

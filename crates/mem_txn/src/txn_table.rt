@@ -1,5 +1,5 @@
 //! A table of a write transaction.
-ghost use Rattle.std.specs.Prelude.{◌≡◌, ◌∷◌, [], ℕ, false, IfOk, OnErr};
+ghost use Rattle.std.specs.Prelude.{◌≡◌, ◌∷◌, [], ℕ, false, IfOk, OnErr, unwrap_or};
 ghost use Rattle.std.specs.Arc.{arc_value};
 ghost use Rattle.mdb_schema.specs.Answer.{ask_rows};
 ghost use Rattle.mdb_schema.specs.Refusals.{AnswersAsk};
@@ -7,7 +7,9 @@ ghost use Rattle.mdb_schema.specs.Write.{put_row, remove_row};
 ghost use Rattle.mem_txn.specs.Changes.{gives_replaced, gives_row};
 ghost use Rattle.mem_txn.specs.inner.VersionTables.{AnswersRows, Draws, HasChanged, IsWithin};
 ghost use Rattle.mem_txn.specs.inner.VersionTables.{standing, unwritten};
-ghost use Rattle.mem_txn.specs.inner.Ended.{EndsWith};
+ghost use Rattle.mem_txn.specs.inner.ChangesView.{BeginsAs};
+ghost use Rattle.mem_txn.specs.inner.Ended.{AreNetsOf, EndsWith, net_tracked};
+ghost use Rattle.table_index.specs.Shared.{AllCellsTell};
 ghost use Rattle.mem_txn.specs.inner.Wipes.{AnswersGone, wiped_by};
 
 use crate::wipe::Wipe;
@@ -18,15 +20,25 @@ use std::alloc::{AllocError, Global};
 use std::marker::Model;
 use std::sync::Arc;
 use table_index::table_laws::{nothing_is_written, rows_are_held};
-use table_index::{Notices, Table, TableTxn, WipeError};
+use table_index::{NetList, Notices, Table, TableTxn, WipeError};
 use watch_word::Front;
 
 /// A table of a write transaction, which is opened at the first write to it; seen as a
 /// `TableChange`.
 #[derive(Drop)]
 pub(crate) struct TxnTable {
+    /// What the transaction began with.
     shared: Arc<Table, Global>,
     open: Option<TableTxn>,
+}
+
+/// What a table of a transaction ends with: the table, the notices of the cells that are gone, if
+/// it was open, and what became of its rows, if it is tracked too.
+#[derive(Drop)]
+pub(crate) struct Ended {
+    pub(crate) table: Arc<Table, Global>,
+    pub(crate) notices: Option<Notices>,
+    pub(crate) nets: Option<NetList>,
 }
 
 impl Model for TxnTable {
@@ -37,9 +49,11 @@ impl Model for TxnTable {
 
     ghost coded = { table_change_code };
 
-    ghost use Rattle.mem_txn.specs.inner.ChangesView.{txn_table_view};
+    ghost use Rattle.mem_txn.specs.inner.ChangesView.{txn_table_view, IsTxnTable};
 
     ghost view = { txn_table_view };
+
+    ghost invariant = { IsTxnTable };
 }
 
 impl TxnTable {
@@ -55,6 +69,7 @@ impl TxnTable {
     /// The open table, which is taken out. After `AllocError` all is as before.
     fn opened(&mut self) -> Result<TableTxn, AllocError>
         ensures open { IfOk result (λ t. t ≡ self.old) }
+        ensures begun { IfOk result (λ t. BeginsAs self.new t) }
         ensures unchanged { OnErr result (self.new ≡ self.old) }
     {
         match self.open.take() {
@@ -158,27 +173,60 @@ impl TxnTable {
         }
     }
 
-    /// The table that the writes end with, and the notices of the cells that are gone, if it was
-    /// open. It takes memory only then.
-    pub(crate) fn freeze(
-        self,
-        alloc: Global,
-    ) -> Result<(Arc<Table, Global>, Option<Notices>), AllocError>
+    /// The table that the writes end with, with the notices of the cells that are gone and what
+    /// became of the rows. It takes memory only where it was open.
+    pub(crate) fn freeze(self, alloc: Global) -> Result<Ended, AllocError>
         requires sound { self.spoiled ≡ false }
-        ensures table { IfOk result (λ r. arc_value r.0 ≡ standing self) }
-        ensures ends { IfOk result (λ r. EndsWith self (arc_value r.0) r.1) }
+        ensures table { IfOk result (λ e. arc_value e.table ≡ standing self) }
+        ensures ends { IfOk result (λ e. EndsWith self (arc_value e.table) e.notices) }
+        ensures nets { IfOk result (λ e. AreNetsOf self (unwrap_or e.nets [])) }
     {
+        // Brings the definition's laws into the proof.
+        let _ = self.shared.def().len();
         let TxnTable { shared, open } = self;
+        rows_are_held(&shared);
         match open {
-            Some(txn) => {
-                let (table, notices) = txn.freeze()?;
-                rows_are_held(&table);
-                Ok((Arc::new(alloc, table)?, Some(notices)))
-            }
-            None => {
-                rows_are_held(&shared);
-                Ok((shared, None))
-            }
+            Some(txn) => freeze_open(alloc, &shared, txn),
+            None => Ok(Ended {
+                table: shared,
+                notices: None,
+                nets: None,
+            }),
         }
+    }
+}
+
+/// What a table ends with that was opened.
+fn freeze_open(alloc: Global, shared: &Table, txn: TableTxn) -> Result<Ended, AllocError>
+    requires sound { txn.spoiled ≡ false }
+    requires begun { BeginsAs (unwritten shared.now) txn }
+    ensures table { IfOk result (λ e. arc_value e.table ≡ standing txn) }
+    ensures ends { IfOk result (λ e. EndsWith txn (arc_value e.table) e.notices) }
+    ensures nets { IfOk result (λ e.
+        unwrap_or e.nets [] ≡ net_tracked txn.schema shared.now.rows txn.rows) }
+{
+    rows_are_held(shared);
+    let (table, notices) = txn.freeze()?;
+    rows_are_held(&table);
+    let nets = net_if_tracked(shared, &table)?;
+    Ok(Ended {
+        table: Arc::new(alloc, table)?,
+        notices: Some(notices),
+        nets,
+    })
+}
+
+/// What became of the rows of a table, if it is tracked.
+fn net_if_tracked(old: &Table, new: &Table) -> Result<Option<NetList>, AllocError>
+    requires schema { new.now.schema ≡ old.now.schema }
+    requires cells { AllCellsTell old.now.trees new.now.trees }
+    ensures { IfOk result (λ nets.
+        unwrap_or nets [] ≡ net_tracked old.now.schema old.now.rows new.now.rows) }
+{
+    let tracked = old.def().tracked();
+    if tracked {
+        Ok(Some(old.net(new)?))
+    } else {
+        Ok(None)
     }
 }

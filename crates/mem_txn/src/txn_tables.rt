@@ -1,16 +1,18 @@
 //! The tables of a write transaction.
-ghost use Rattle.std.specs.Prelude.{◌≡◌, ◌<◌, ◌++◌, ◌∷◌, [], false, IfOk, OnOk, ℕ, All, List};
-ghost use Rattle.std.specs.Prelude.{Option, length, map, option_to_list, Some};
+ghost use Rattle.std.specs.Prelude.{◌≡◌, ◌≤◌, ◌<◌, ◌++◌, ◌∷◌, [], false, IfOk, OnOk, ℕ, All, List};
+ghost use Rattle.std.specs.Prelude.{Option, length, map, option_to_list, Some, unwrap_or};
 ghost use Rattle.std.specs.Arc.{arc_value};
+ghost use Rattle.mdb_schema.specs.Net.{Net, change_at};
 ghost use Rattle.mdb_schema.specs.Write.{put_row, remove_row};
 ghost use Rattle.mem_txn.specs.Changes.{gives_replaced, gives_row};
 ghost use Rattle.mem_txn.specs.inner.VersionTables.{AnswersAskAt, AnswersAt, AreAllWithin, HasChanged};
 ghost use Rattle.mem_txn.specs.inner.VersionTables.{IsSound, standing, trees_of, unwritten};
-ghost use Rattle.mem_txn.specs.inner.Ended.{EndWith, EndsWith};
+ghost use Rattle.mem_txn.specs.inner.Ended.{AreNetsOf, AreTold, EndWith, EndsWith};
 ghost use Rattle.watch_word.specs.Logs.{Cell};
 ghost use Rattle.mem_txn.specs.inner.Wipes.{AnswersGoneAt, wiped_by};
 
-use crate::txn_table::TxnTable;
+use crate::change_list::ChangeList;
+use crate::txn_table::{Ended, TxnTable};
 use crate::wipe::Wipe;
 use mdb_datum::Row;
 use mdb_schema::{Answer, AskError, Query, Rows, WriteError};
@@ -18,7 +20,7 @@ use radix_node::Ids;
 use std::alloc::{AllocError, Global};
 use std::marker::Model;
 use std::sync::Arc;
-use table_index::{Notices, Table, WipeError};
+use table_index::{NetList, Notices, Table, WipeError};
 use watch_word::Front;
 
 /// The tables of a write transaction, each at its place in the schema, and the ids of the cells
@@ -44,11 +46,13 @@ impl Model for TxnTables {
     ghost invariant = { AreTables };
 }
 
-/// What a transaction ends with: its tables, and the notices of those that were open.
+/// What a transaction ends with: its tables, the notices of those that were open, and what has
+/// changed in those that are tracked.
 #[derive(Drop)]
 pub(crate) struct Frozen {
     pub(crate) tables: Vec<Arc<Table, Global>>,
     pub(crate) gone: Vec<Notices>,
+    pub(crate) changes: ChangeList,
 }
 
 impl TxnTables {
@@ -136,14 +140,18 @@ impl TxnTables {
         standing(alloc, &mut self.tables)
     }
 
-    /// The tables that the writes end with, the ids that come next, and the notices of the cells
-    /// that are gone. It takes memory for the list of the tables, and for each that is open.
+    /// The tables that the writes end with, the ids that come next, the notices of the cells that
+    /// are gone, and what has changed. It takes memory for the list of the tables, for each that is
+    /// open, and for the changes.
     pub(crate) fn freeze(self) -> Result<(Frozen, Ids), AllocError>
         requires sound { All IsSound self.tables }
+        requires few { length self.tables ≤ 64 }
         ensures tables { IfOk result (λ made. let end = made.0 in
             map arc_value end.tables.items ≡ map standing self.tables) }
         ensures ends { IfOk result (λ made. let end = made.0 in
             EndWith self.tables (map arc_value end.tables.items) end.gone.items) }
+        ensures changes { IfOk result (λ made. let end = made.0 in
+            AreTold 0 self.tables end.changes) }
         ensures ids { IfOk result (λ made. made.1 ≡ self.ids) }
         ensures within { IfOk result (λ made. let end = made.0 in
             AreAllWithin self.ids (trees_of (map arc_value end.tables.items))) }
@@ -166,30 +174,38 @@ fn unwritten(alloc: Global, shared: &[Arc<Table, Global>]) -> Result<Vec<TxnTabl
     Ok(tables)
 }
 
-/// The tables that writes to these end with, and the notices of those that were open.
+/// The tables that writes to these end with, the notices of those that were open, and what has
+/// changed.
 fn frozen_tables(alloc: Global, tables: Vec<TxnTable>) -> Result<Frozen, AllocError>
     requires sound { All IsSound tables.items }
+    requires few { length tables.items ≤ 64 }
     ensures tables { IfOk result
         (λ end. map arc_value end.tables.items ≡ map standing tables.items) }
     ensures ends { IfOk result
         (λ end. EndWith tables.items (map arc_value end.tables.items) end.gone.items) }
+    ensures changes { IfOk result (λ end. AreTold 0 tables.items end.changes) }
 {
     let mut frozen = Frozen {
         tables: Vec::with_capacity(alloc, tables.len())?,
         gone: Vec::new(alloc),
+        changes: ChangeList::new(alloc),
     };
     freeze_all(&mut frozen, tables)?;
     Ok(frozen)
 }
 
-/// Adds the tables that writes to these end with, and their notices, where there are none yet.
+/// Adds the tables that writes to these end with, their notices, and what has changed, where there
+/// are none yet.
 fn freeze_all(frozen: &mut Frozen, tables: Vec<TxnTable>) -> Result<(), AllocError>
     requires sound { All IsSound tables.items }
-    requires none { (frozen.old.tables.items ≡ []) × (frozen.old.gone.items ≡ []) }
+    requires few { length tables.items ≤ 64 }
+    requires none { (frozen.old.tables.items ≡ []) × (frozen.old.gone.items ≡ [])
+        × (frozen.old.changes ≡ []) }
     ensures tables { OnOk result
         (map arc_value frozen.new.tables.items ≡ map standing tables.items) }
     ensures ends { OnOk result
         (EndWith tables.items (map arc_value frozen.new.tables.items) frozen.new.gone.items) }
+    ensures changes { OnOk result (AreTold 0 tables.items frozen.new.changes) }
 {
     for table in tables {
         freeze_onto(frozen, table)?;
@@ -197,19 +213,45 @@ fn freeze_all(frozen: &mut Frozen, tables: Vec<TxnTable>) -> Result<(), AllocErr
     Ok(())
 }
 
-/// Adds the table that writes to one end with, and its notices, if it was open.
+/// Adds the table that writes to one end with, its notices, if it was open, and what has changed in
+/// it.
 fn freeze_onto(frozen: &mut Frozen, table: TxnTable) -> Result<(), AllocError>
     requires sound { table.spoiled ≡ false }
+    requires few { length frozen.old.tables.items < 64 }
     ensures table { OnOk result (map arc_value frozen.new.tables.items
         ≡ map arc_value frozen.old.tables.items ++ standing table ∷ []) }
     ensures ends { OnOk result ((notices : Option (List (List Cell)))
         × EndsWith table (standing table) notices
         × (frozen.new.gone.items ≡ frozen.old.gone.items ++ option_to_list notices)) }
+    ensures changes { OnOk result ((nets : List Net) × AreNetsOf table nets
+        × (frozen.new.changes
+        ≡ frozen.old.changes ++ map (change_at (length frozen.old.tables.items)) nets)) }
 {
     let alloc = *frozen.tables.allocator();
-    let (table, notices) = table.freeze(alloc)?;
+    let place = frozen.tables.len() as u32;
+    let Ended {
+        table,
+        notices,
+        nets,
+    } = table.freeze(alloc)?;
     frozen.tables.push(table)?;
-    push_notices(&mut frozen.gone, notices)
+    push_notices(&mut frozen.gone, notices)?;
+    push_changes(&mut frozen.changes, place, nets)
+}
+
+/// Adds what has changed in the table at a place, if that is told.
+fn push_changes(
+    changes: &mut ChangeList,
+    place: u32,
+    nets: Option<NetList>,
+) -> Result<(), AllocError>
+    ensures { OnOk result
+        (changes.new ≡ changes.old ++ map (change_at place) (unwrap_or nets [])) }
+{
+    match nets {
+        Some(nets) => changes.add(place, nets),
+        None => Ok(()),
+    }
 }
 
 /// Adds the notices of a table, if it was open.

@@ -5,8 +5,10 @@ ghost use Rattle.mdb_schema.specs.Wipe.{wipe, wipe_by_prefix};
 ghost use Rattle.mdb_schema.specs.Write.{put, remove};
 ghost use Rattle.mem_txn.specs.Changes.{AnswersTxnAsk, AnswersTxnWipe, AnswersTxnWrite};
 ghost use Rattle.mem_txn.specs.Changes.{gives_replaced, gives_row, present, present_view};
-ghost use Rattle.mem_txn.specs.Database.{IsOf};
+ghost use Rattle.mem_txn.specs.CellHistory.{HasFirings};
+ghost use Rattle.mem_txn.specs.Database.{IsOf, cells_seen};
 ghost use Rattle.mem_txn.specs.Transactions.{AnswersCommit, AnswersSnapshot, changes_of, items_of};
+ghost use Rattle.watch_word.specs.Logs.{IsLater};
 
 use crate::changes::Changes;
 use crate::commit::commit;
@@ -20,6 +22,7 @@ use mdb_datum::Row;
 use mdb_schema::{Answer, Query};
 use std::alloc::AllocFailed;
 use std::sync::Wait;
+use watch_word::Front;
 
 /// A caller's write transaction. It owns its pass, and has to be spent by [`WriteTxn::commit`] or
 /// [`WriteTxn::abort`]: one that is let go doesn't compile.
@@ -34,6 +37,17 @@ impl<D: Drop> WriteTxn<D> {
         ensures { result ≡ length (changes_of self.now).caller.seen }
     {
         self.changes.number()
+    }
+
+    /// A front of the log of firings with which it began, which has all that the commits up to its
+    /// number fire. It takes no memory.
+    pub fn front(&self) -> Front
+        ensures fired { let p = (changes_of self.now).caller in
+            HasFirings (cells_seen p) (length p.seen) result }
+        ensures later { let p = (changes_of self.now).caller in IsLater p.log result }
+        ensures book { let p = (changes_of self.now).caller in result.book ≡ p.book }
+    {
+        self.changes.front()
     }
 
     /// What a question is answered of the state with the transaction's own writes, or the first
@@ -135,9 +149,11 @@ impl<D: Drop> WriteTxn<D> {
         changes.abort(db)
     }
 
-    /// Makes the writes a commit, fires the cells that are gone, and hands the deferred items out,
-    /// last deferred first. All memory is taken before the new state is shown. A commit that is
-    /// refused has aborted the transaction.
+    /// Makes the writes a commit, fires the cells that are gone, and hands out the deferred items,
+    /// last deferred first, and what has changed in tracked tables. All memory is taken before the
+    /// new state is shown. A tracked table that was written to is compared with the one before, in
+    /// time in the number of rows that differ. A commit that is refused has aborted the
+    /// transaction.
     pub fn commit<R: Wait>(self, rt: &R, db: &Db) -> Result<Committed<D>, CommitRefused>
         requires own { IsOf db.now (changes_of self).caller }
         ensures { AnswersCommit self result }
@@ -145,9 +161,14 @@ impl<D: Drop> WriteTxn<D> {
         let WriteTxn { changes, deferred } = self;
         let number = changes.number() + 1;
         match commit(rt, changes, db) {
-            Ok((pass, log)) => {
+            Ok((pass, log, changes)) => {
                 let items = DeferredList::of(deferred);
-                let receipt = Receipt { number, log, items };
+                let receipt = Receipt {
+                    number,
+                    log,
+                    items,
+                    changes,
+                };
                 Ok(Committed { pass, receipt })
             }
             Err(refused) => Err(refused),

@@ -161,6 +161,13 @@ pairs-plains (x ∷ trees) = ap (λ (es : List (List Pair)). pairs_of (plain_of 
 pub holds_entries : (t : TableSchema) (trees : List CellTree) → AreTrees t (plains trees) → HoldsEntries (record { schema = t; rows = rows_held t (plains trees); trees = trees })
 holds_entries t trees held = record { lawful = held.lawful; held = pairs-plains trees ∙ held.held }
 
+-- trees hold the entries of no other rows
+pub same_rows : (t : TableSchema) (trees : List CellTree) (rows rows' : List Fields) → IsLawfulTable t → HoldsEntries (record { schema = t; rows = rows; trees = trees })
+    → HoldsEntries (record { schema = t; rows = rows'; trees = trees }) → rows ≡ rows'
+same_rows t trees rows rows' table holds holds' =
+    sym (rows_held-rows t rows (plains trees) table holds.lawful (sym (pairs-plains trees) ∙ holds.held))
+    ∙ rows_held-rows t rows' (plains trees) table holds'.lawful (sym (pairs-plains trees) ∙ holds'.held)
+
 module _ (t : TableSchema) (table : IsLawfulTable t) (old new : List CellTree) (held_new : AreTrees t (plains new)) (notices : List (List Cell)) (frozen : AreFrozen notices old new)
     (was : TableRows) (schema : was.schema ≡ t) (trees : was.trees ≡ old) (holds : HoldsEntries was) where
   was_lawful : AreLawfulRows t was.rows

@@ -95,6 +95,13 @@ impl NetList {
         Ok(())
     }
 
+    /// Its items, in order. It takes no memory.
+    pub fn into_vec(self) -> Vec<Net>
+        ensures { result.items ≡ self }
+    {
+        self.list
+    }
+
     /// How many rows differ.
     pub fn len(&self) -> usize
         ensures { result ≡ length self.now }

@@ -33,6 +33,13 @@ impl Model for Table {
 }
 
 impl Table {
+    /// What the schema says of it.
+    pub fn def(&self) -> &TableDef
+        ensures { result.now ≡ self.now.schema }
+    {
+        &self.def
+    }
+
     /// A table without rows. It takes memory for an empty tree an index, and an id for the cell of
     /// its root; there are at most 32.
     pub fn empty(

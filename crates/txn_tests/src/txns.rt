@@ -10,6 +10,7 @@ mod drawn;
 mod four_callers;
 mod late;
 mod long_run;
+mod tracked;
 mod watches;
 mod without_memory;
 mod worked;
@@ -49,22 +50,32 @@ trait Work {
         ensures { (changes_of txn.new).caller ≡ (changes_of txn.old).caller };
 }
 
-/// The schema of two tables.
-fn schema_of(alloc: Global) -> Result<Schema, AllocError> {
-    match read_schema(alloc, SCHEMA.as_bytes()) {
+/// The schema that a text is.
+fn schema_of(alloc: Global, text: &str) -> Result<Schema, AllocError> {
+    match read_schema(alloc, text.as_bytes()) {
         Ok(schema) => Ok(schema),
         Err(_) => Err(AllocError),
     }
 }
 
-/// A database of two callers, the list of its passes without them, and they.
+/// A database of two tables and two callers, the list of its passes without them, and they.
 pub fn pair(alloc: Global) -> Result<(Db, Passes, Pass, Pass), AllocError>
     ensures one { IfOk result (λ made. IsCaller made.0 1 made.2) }
     ensures two { IfOk result (λ made. IsCaller made.0 2 made.3) }
     ensures both { IfOk result (λ made. made.0.callers ≡ 2) }
     ensures rest { IfOk result (λ made. made.1 ≡ record { passes = []; made = 2 }) }
 {
-    let (db, mut passes) = Db::create(alloc, schema_of(alloc)?, 2)?;
+    pair_of(alloc, SCHEMA)
+}
+
+/// The same of the schema that a text is.
+fn pair_of(alloc: Global, schema: &str) -> Result<(Db, Passes, Pass, Pass), AllocError>
+    ensures one { IfOk result (λ made. IsCaller made.0 1 made.2) }
+    ensures two { IfOk result (λ made. IsCaller made.0 2 made.3) }
+    ensures both { IfOk result (λ made. made.0.callers ≡ 2) }
+    ensures rest { IfOk result (λ made. made.1 ≡ record { passes = []; made = 2 }) }
+{
+    let (db, mut passes) = Db::create(alloc, schema_of(alloc, schema)?, 2)?;
     match (passes.take(), passes.take()) {
         (Some(one), Some(two)) => Ok((db, passes, one, two)),
         _ => unreachable!(),

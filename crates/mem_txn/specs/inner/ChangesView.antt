@@ -27,6 +27,15 @@ abbrev pub changes_view : changes.Inside → Changes
 changes_view t =
     record { caller = t.pass.caller; writes = t.writes.items; spoiled = t.spoiled }
 
+-- two changes of one table began with the same trees
+pub record BeginsAs (old new : TableChange) : Type 0 where
+  pub schema : new.schema ≡ old.schema
+  pub start : new.start ≡ old.start
+
+-- its change began with the table that is shared
+abbrev pub IsTxnTable : txn_table.Inside → Type 0
+IsTxnTable t = BeginsAs (unwritten (arc_value t.shared)) (txn_table_view t)
+
 -- the ids of a transaction with so many writes are of its database's book, and few were drawn
 pub record AreCounted (turn : Turned) (own : ℕ) (ids : Counter) : Type 0 where
   pub book : ids.book ≡ turn.base.ids.book

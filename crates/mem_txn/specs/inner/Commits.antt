@@ -1,7 +1,8 @@
 -- The start and the end of a transaction, but for the deferred items.
 use Rattle.std.specs.Prelude.{◌≡◌, ◌⊎◌, ◌+◌, ◌^◌, ◌<◌, All, true, false, List, [], length, Result, Ok, Err}
 use Rattle.mdb_schema.specs.History.{after_writes, writes_in}
-use Rattle.mem_txn.specs.Changes.{Changes, after_commit, begun}
+use Rattle.mdb_schema.specs.Net.{Change, changes}
+use Rattle.mem_txn.specs.Changes.{Changes, after_commit, begun, present}
 use Rattle.table_index.specs.Watched.{HoldsRows}
 use Rattle.watch_word.specs.Logs.{Cell, IsLater, Log}
 use Rattle.mem_txn.specs.CellHistory.{Forest, HasFirings}
@@ -42,26 +43,29 @@ pub record IsNext (p : Turned) (v : Version) : Type 0 where
   pub step : IsStep p.base v
   pub few : AreFew (writes_in p.caller.seen + length v.writes) v.ids
 
--- a turn, the value that its transaction's commit shows, and the notices of the cells that are gone
+-- a turn, the value that its transaction's commit shows, the notices of the cells that are gone, and
+-- what has changed in tracked tables
 pub record IsNextOf (t : Changes) (turn : Turned) (v : Version) (gone : List (List (List Cell)))
-    : Type 0 where
+    (changed : List Change) : Type 0 where
   pub caller : turn.caller ≡ t.caller
   pub writes : v.writes ≡ t.writes
   pub next : IsNext turn v
   pub told : AreGone turn.base.trees v.trees (cells_told gone)
+  pub tracked : changed ≡ changes t.caller.schema (state_seen t.caller) (present t)
 
--- the pass has made the commit, and the log, which it then has seen, has all that the commits up to
--- it fire
-pub record IsShown (t : Changes) (made : Caller × Log) : Type 0 where
+-- the pass has made the commit, the log, which it then has seen, has all that the commits up to it
+-- fire, and the changes of tracked tables are told
+pub record IsShown (t : Changes) (made : Caller × Log × List Change) : Type 0 where
   pub trees : Forest
   pub pass : made.0 ≡ after_commit t trees made.1
   pub later : IsLater t.caller.log made.1
   pub book : made.1.book ≡ made.0.book
   pub fired : HasFirings (cells_seen made.0) (length made.0.seen) made.1
   pub told : TellsChanges (cells_seen made.0) made.1
+  pub tracked : made.2 ≡ changes t.caller.schema (state_seen t.caller) (present t)
 
 -- the commit is made; or it is refused, and exactly a spoiled transaction is told so
-abbrev pub AnswersChanges : Changes → Result (Caller × Log) CommitRefused → Type 0
+abbrev pub AnswersChanges : Changes → Result (Caller × Log × List Change) CommitRefused → Type 0
 AnswersChanges t (Ok made) = (t.spoiled ≡ false) × IsShown t made
 AnswersChanges t (Err refused) = (refused.pass ≡ t.caller)
     × (((t.spoiled ≡ true) × (refused.cause ≡ Spoiled))

@@ -1,5 +1,8 @@
 -- What a write transaction ends with.
-use Rattle.std.specs.Prelude.{◌≡◌, List, [], ◌∷◌, Option, Some, None, map, ⊤}
+use Rattle.std.specs.Prelude.{◌≡◌, ◌++◌, ℕ, suc, List, [], ◌∷◌, Option, Some, None, if◌then◌else◌, map, ⊤}
+use Rattle.mdb_datum.specs.Row.{Fields}
+use Rattle.mdb_schema.specs.Net.{Change, Net, change_at, net}
+use Rattle.mdb_schema.specs.Schema.{TableSchema}
 use Rattle.table_index.specs.Frozen.{AreFrozen}
 use Rattle.table_index.specs.Table.{TableChange, TableRows}
 use Rattle.table_index.specs.Watched.{HoldsRows, QuestionsHoldSince}
@@ -8,6 +11,27 @@ use Rattle.watch_word.specs.Logs.{Cell}
 use Rattle.mem_txn.specs.CellHistory.{Forest}
 use Rattle.mem_txn.specs.inner.Firing.{AreGone, cells_told}
 use Rattle.mem_txn.specs.inner.VersionTables.{trees_of}
+
+-- ---- what has changed in tracked tables
+
+-- what became of the rows of a table, where it is tracked
+abbrev pub net_tracked : TableSchema → List Fields → List Fields → List Net
+net_tracked t old new = if t.tracked then net t old new else []
+
+-- that of a table which is being changed, from whatever rows the trees held that it began with
+abbrev pub AreNetsOf : TableChange → List Net → Type 0
+AreNetsOf t nets =
+    (rows : List Fields) → HoldsRows (record { schema = t.schema; rows = rows; trees = t.start })
+    → nets ≡ net_tracked t.schema rows t.rows
+
+-- the changes of the tables from a place on
+abbrev pub AreTold : ℕ → List TableChange → List Change → Type 0
+AreTold place [] cs = cs ≡ []
+AreTold place (t ∷ ts) cs =
+    (nets : List Net) × (rest : List Change) × AreNetsOf t nets × AreTold (suc place) ts rest
+    × (cs ≡ map (change_at place) nets ++ rest)
+
+-- ---- what is fired and kept
 
 -- the notices of a change of trees, where the table was opened; else nothing has changed
 abbrev pub AreNoticed : Option (List (List Cell)) → TableChange → Type 0

@@ -7,7 +7,7 @@ ghost use Rattle.mem_txn.specs.Database.{Caller, IsOf, reading_of};
 
 use super::callers::{Own, are_both};
 use super::watches::watched_of;
-use super::{Question, Told, is_made, query_of, schema_of, transact};
+use super::{Question, SCHEMA, Told, is_made, query_of, schema_of, transact};
 use mdb_schema::{Answer, Ask, Query};
 use mem_txn::pass_laws::{asked_watches_are_held, held_watches_outlast_commits};
 use mem_txn::{Db, Held, Look, Pass, Passes, ReadTxn};
@@ -368,7 +368,7 @@ fn opened(alloc: Global) -> Result<(Db, Passes, Pass, Pass, Pass, Pass), AllocEr
     ensures all { IfOk result (λ made. made.0.callers ≡ 4) }
     ensures rest { IfOk result (λ made. made.1 ≡ record { passes = []; made = 4 }) }
 {
-    let (db, mut passes) = Db::create(alloc, schema_of(alloc)?, 4)?;
+    let (db, mut passes) = Db::create(alloc, schema_of(alloc, SCHEMA)?, 4)?;
     match (passes.take(), passes.take(), passes.take(), passes.take()) {
         (Some(one), Some(two), Some(three), Some(four)) => Ok((db, passes, one, two, three, four)),
         _ => unreachable!(),

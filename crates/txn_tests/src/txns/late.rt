@@ -1,4 +1,5 @@
-//! A watch that a commit fires which the state that was read hasn't, and a front that was given before.
+//! A watch that a commit fires which the state that was read hasn't, a front that was given before,
+//! and the front of a transaction that begins behind the commit.
 ghost use Rattle.std.specs.Prelude.{◌≡◌};
 ghost use Rattle.mem_txn.specs.CallerOf.{IsCaller};
 ghost use Rattle.mem_txn.specs.Checked.{HasHeard, IsHeldBy};
@@ -6,9 +7,9 @@ ghost use Rattle.mem_txn.specs.Database.{IsOf, reading_of};
 
 use super::four_callers::watch_now;
 use super::worked::{Step, Steps};
-use super::{Question, Told, closed, is_made, pair, query_of, transact};
+use super::{Question, Told, Txn, closed, is_made, pair, query_of, transact};
 use mdb_schema::{Ask, Query};
-use mem_txn::{Db, Held, Look, Pass, ReadTxn};
+use mem_txn::{BeginRefused, Db, Held, Look, Pass, ReadTxn};
 use std::alloc::{AllocError, Global};
 use std::sync::Wait;
 use std::test::Fail;
@@ -103,5 +104,78 @@ fn is_found_late<R: Wait>(rt: &R, alloc: Global) -> Told {
 #[test]
 fn a_check_finds_a_later_commit_late(rt: HostRuntime) -> Result<(), Fail> {
     assert!(rt; is_found_late(&rt, rt.alloc())?);
+    Ok(())
+}
+
+/// Whether the front of a new transaction tells that a watch has fired.
+fn begins_told<R: Wait>(rt: &R, db: &Db, pass: Pass, held: &Held) -> (Pass, Told)
+    requires own { IsCaller db.now 1 pass }
+    requires held { IsHeldBy pass held.now }
+    ensures { IsCaller db.now 1 result.0 }
+{
+    match db.write(rt, pass) {
+        Ok(txn) => {
+            let txn: Txn = txn;
+            let fired = held.watch().moved(&txn.front()).fired;
+            (txn.abort(db), Ok(fired))
+        }
+        Err(BeginRefused { pass, cause: _ }) => (pass, Err(AllocError)),
+    }
+}
+
+/// Whether it does behind another caller's commit.
+fn begins_told_behind<R: Wait>(
+    rt: &R,
+    alloc: Global,
+    db: &Db,
+    one: Pass,
+    two: Pass,
+    held: &Held,
+) -> (Pass, Pass, Told)
+    requires one { IsCaller db.now 1 one }
+    requires two { IsCaller db.now 2 two }
+    requires held { IsHeldBy one held.now }
+    ensures one { IsCaller db.now 1 result.0 }
+    ensures two { IsCaller db.now 2 result.1 }
+{
+    let quiet = !has_moved(db, &one, held);
+    let (two, done) = transact(rt, alloc, db, two, &mut Steps(FOO));
+    let (one, told) = begins_told(rt, db, one, held);
+    (one, two, all_so(quiet, is_made(done), told))
+}
+
+/// The same of a watch that is asked before.
+fn begins_told_asked<R: Wait>(
+    rt: &R,
+    alloc: Global,
+    db: &Db,
+    one: Pass,
+    two: Pass,
+    query: &Query,
+) -> (Pass, Pass, Told)
+    requires one { IsCaller db.now 1 one }
+    requires two { IsCaller db.now 2 two }
+    ensures one { IsCaller db.now 1 result.0 }
+    ensures two { IsCaller db.now 2 result.1 }
+{
+    let mut one = one;
+    match watch_now(rt, db, &mut one, query) {
+        Ok((_read, held)) => begins_told_behind(rt, alloc, db, one, two, &held),
+        Err(_) => (one, two, Err(AllocError)),
+    }
+}
+
+/// The same in a new database.
+fn begins_told_anew<R: Wait>(rt: &R, alloc: Global) -> Told {
+    let query = query_of(alloc, &NOBODY)?;
+    let (db, passes, one, two) = pair(alloc)?;
+    let (one, two, told) = begins_told_asked(rt, alloc, &db, one, two, &query);
+    drop(closed(rt, db, passes, one, two));
+    told
+}
+
+#[test]
+fn a_transaction_begins_with_what_another_caller_has_fired(rt: HostRuntime) -> Result<(), Fail> {
+    assert!(rt; begins_told_anew(&rt, rt.alloc())?);
     Ok(())
 }

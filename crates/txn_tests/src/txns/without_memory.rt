@@ -6,7 +6,8 @@ ghost use Rattle.mem_txn.specs.Transactions.{changes_of};
 
 use super::drawn::{Drawn, Plain, table_of, text_of};
 use super::long_run::are_read;
-use super::{Told, Txn, closed, pair, row_of};
+use super::tracked::{TRACKED_USERS, are_different};
+use super::{Told, Txn, closed, pair_of, row_of};
 use mem_txn::{
     BeginError, BeginRefused, CommitError, CommitRefused, Committed, Db, Pass, SnapError,
 };
@@ -36,24 +37,29 @@ fn insert_some(alloc: Global, drawn: &mut Drawn, txn: &mut Txn) -> Told
     Ok(false)
 }
 
-/// Ends a transaction by its commit, and tells whether that is answered right. One that is spoiled
-/// is told so; a refused one leaves the rows before it.
+/// Ends a transaction by its commit, and tells whether that is answered right. One that is made
+/// tells what became of the users; one that is spoiled is told so; a refused one leaves the rows
+/// before it.
 fn end<R: Wait>(
     rt: &R,
+    alloc: Global,
     db: &Db,
     txn: Txn,
     spoiled: bool,
     before: Plain,
     plain: &mut Plain,
-) -> (Pass, bool)
+) -> (Pass, Told)
     requires own { IsCaller db.now 1 (changes_of txn).caller }
     ensures { IsCaller db.now 1 result.0 }
 {
     match txn.commit(rt, db) {
-        Ok(Committed { pass, receipt: _ }) => (pass, !spoiled),
+        Ok(Committed { pass, receipt }) => {
+            let told = are_different(alloc, &receipt.changes, &before, plain);
+            (pass, told.map(|right| right && !spoiled))
+        }
         Err(CommitRefused { pass, cause }) => {
             *plain = before;
-            (pass, spoiled == (cause == CommitError::Spoiled))
+            (pass, Ok(spoiled == (cause == CommitError::Spoiled)))
         }
     }
 }
@@ -68,6 +74,7 @@ fn is_spoiled(txn: &mut Txn) -> bool
 /// Ends it so, and tells whether a snapshot before is answered right too.
 fn end_shown<R: Wait>(
     rt: &R,
+    alloc: Global,
     db: &Db,
     txn: Txn,
     spoiled: bool,
@@ -79,8 +86,8 @@ fn end_shown<R: Wait>(
 {
     let mut txn = txn;
     let told = is_spoiled(&mut txn) == spoiled;
-    let (pass, right) = end(rt, db, txn, spoiled, before, plain);
-    (pass, Ok(right && told))
+    let (pass, right) = end(rt, alloc, db, txn, spoiled, before, plain);
+    (pass, right.map(|right| right && told))
 }
 
 /// Tries a transaction, and tells whether it is answered right. Then these are the rows.
@@ -91,7 +98,7 @@ fn try_begun<R: Wait>(rt: &R, alloc: Global, db: &Db, txn: Txn, drawn: &mut Draw
     let mut txn = txn;
     let before = drawn.plain;
     match insert_some(alloc, drawn, &mut txn) {
-        Ok(spoiled) => end_shown(rt, db, txn, spoiled, before, &mut drawn.plain),
+        Ok(spoiled) => end_shown(rt, alloc, db, txn, spoiled, before, &mut drawn.plain),
         Err(_) => (txn.abort(db), Err(AllocError)),
     }
 }
@@ -160,7 +167,7 @@ fn are_tried<R: Wait>(rt: &R, alloc: Global, db: &Db, pass: Pass, other: &mut Pa
 
 /// Whether they are in a new database.
 fn are_tried_anew<R: Wait>(rt: &R, alloc: Global) -> Told {
-    let (db, passes, one, mut two) = pair(alloc)?;
+    let (db, passes, one, mut two) = pair_of(alloc, TRACKED_USERS)?;
     let (one, told) = are_tried(rt, alloc, &db, one, &mut two);
     drop(closed(rt, db, passes, one, two));
     told

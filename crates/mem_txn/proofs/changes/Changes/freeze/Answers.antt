@@ -11,6 +11,6 @@ returns-in-Ok c =
     let sound : t.spoiled ≡ false = ap (λ (o : Changes). o.spoiled) c.self.view_is ∙ c.requires.sound in
     let next = c.in-Ok.next in
     let made = c.in-Ok.ensures in
-    subst (λ (o : Changes). IsNextOf o t.pass next.ready next.gone.items) c.self.view_is
-    (makes_next t.writes.items t.spoiled t.pass t.tables.ids (known.ids sound) made.base t.tables.tables t.number known.number (known.tables sound) (known.since sound) next.gone.items made.ends next.ready
+    subst (λ (o : Changes). IsNextOf o t.pass next.ready next.gone.items next.changes) c.self.view_is
+    (makes_next t.writes.items t.spoiled t.pass t.tables.ids (known.ids sound) made.base t.tables.tables t.number known.number (known.tables sound) (known.since sound) next.gone.items made.ends next.changes made.changes next.ready
     made.value made.within)

@@ -1,5 +1,4 @@
 use Rattle.std.proofs.Common.{◌≡◌, rules, subst, sym}
-use Rattle.std.specs.Prelude.{All}
 use Rattle.std.specs.Arc.{arc_value}
 use Rattle.mem_txn.specs.inner.VersionTables.{AreAllWithin}
 use Rattle.mem_txn.specs.inner.Versions.{Version}

@@ -1,12 +1,14 @@
 use Rattle.std.proofs.Common.{rules, ◌^◌, ◌∷◌, [], sym, subst}
+use Rattle.std.specs.Arc.{arc_value}
 use Rattle.mdb_schema.specs.Write.{put_row}
 use Rattle.table_index.specs.Drawn.{MayBeWritten}
 use Rattle.table_index.specs.Table.{TableChange}
+use Rattle.mem_txn.specs.inner.ChangesView.{BeginsAs}
 use Rattle.mem_txn.specs.Changes.{gives_replaced}
-use Rattle.mem_txn.specs.inner.VersionTables.{AnswersRows, Draws, IsWithin}
+use Rattle.mem_txn.specs.inner.VersionTables.{AnswersRows, Draws, IsWithin, unwritten}
 use Rattle.mem_txn.proofs.IdsCounted.{may_be_written, none_drawn, write_draws}
 use Rattle.mem_txn.proofs.RowsAdded.{put_answers}
-use Rattle.mem_txn.proofs.TableAnswers.{put_start}
+use Rattle.mem_txn.proofs.TableAnswers.{begins_on, put_begins, put_start}
 use Rattle.mem_txn.proofs.txn_table.TxnTable.put.Goals as goal
 
 pub returns-clause-answers : goal.returns-clause-answers
@@ -36,3 +38,12 @@ put-told-requires c = record {
       subst (MayBeWritten c.args.front.now c.args.ids.now) (sym c.in_ok-txn.ensures.open)
       (may_be_written c.args.front.now c.args.ids.now c.args.self.now c.requires.sound c.requires.book c.requires.within);
 }
+
+pub invariant_of-self : goal.invariant_of-self
+invariant_of-self c =
+    let old : TableChange = c.in_ok-txn.txn in
+    let new : TableChange = c.put-told.new.self in
+    let shared : TableChange = unwritten (arc_value c.self.inside.shared) in
+    let known : BeginsAs shared c.opened.new.self = subst (BeginsAs shared) c.self.view_is c.self.invariant in
+    begins_on shared old new (begins_on shared c.opened.new.self old known c.in_ok-txn.ensures.begun)
+    (put_begins c.args.ids.now.next old new (put_row old.schema c.args.row.now old.rows) c.put-told.result c.put-told.ensures.answers)

@@ -22,6 +22,7 @@ returns-in-Ok g c =
         number = number;
         few = omega (arith, few);
         items = c.of-items.ensures;
+        changes = shown.tracked;
         later = shown.later;
         book = shown.book;
         heard = heard_all c.in-Ok.pass (subst (λ (l : Log). HasFirings (cells_seen c.in-Ok.pass) (length c.in-Ok.pass.seen) l) (sym kept) shown.fired);
