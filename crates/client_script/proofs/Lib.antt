@@ -1,6 +1,8 @@
 pub mod AloneIsLegal
 pub mod BlankEnds
+pub mod CommitChanges
 pub mod DocParts
+pub mod EachTurn
 pub mod FewCommits
 pub mod FewWrites
 pub mod LimitDigits
@@ -11,5 +13,4 @@ pub mod OneClient
 pub mod OneHistory
 pub mod RowCounts
 pub mod ScriptAnswered
-pub mod SpentIds
 pub mod WatchLines

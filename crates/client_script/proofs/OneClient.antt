@@ -3,35 +3,31 @@
 use Rattle.std.proofs.Common.{arith, lit≤, ◌≡◌, refl, ap, subst, sym, ◌∙◌, ℕ, suc, ◌+◌, ◌<◌, ◌≤◌, ◌⊎◌, inl, inr, List, [], ◌∷◌, ◌++◌, length, map, Option, Some, None, Ok, Err, slice_get, take, drop, Contains, IsPermutation}
 use Rattle.std.specs.Bool.{⊤}
 use Rattle.std.specs.List.{enumerate_from}
-use Rattle.std.specs.Prelude.{false, not, nat_lt, codes, is_some, reverse}
+use Rattle.std.specs.Prelude.{reverse}
 use Rattle.std.proofs.lemmas.Bool.{lt-ltb, cases_lt}
 use Rattle.std.proofs.lemmas.List.{take-append-drop, length-append, length-take-le, append-nil, length-map}
-use Rattle.std.proofs.Math.Seq.{take-length, take-suc}
-use Rattle.std.proofs.lemmas.Option.{slice_get_within, get_or_from_slice_get}
+use Rattle.std.proofs.Math.Seq.{take-length}
+use Rattle.std.proofs.lemmas.Option.{slice_get_within}
 use Rattle.std.proofs.lemmas.List.FromFn.{length-enumerate_from}
 use Rattle.std.proofs.lemmas.List.Sorted.{length_permutation, Contains-permutation}
 use Rattle.mdb_datum.specs.Bytes.{Bytes}
 use Rattle.mdb_datum.specs.Row.{Fields}
 use Rattle.mdb_schema.proofs.Membership.{Contains-nil, Contains-first, Contains-later, Contains-cons_cases, Contains-from_map}
-use Rattle.mdb_schema.specs.Answer.{Asked, ask}
-use Rattle.mdb_schema.specs.History.{Commit, History}
-use Rattle.mdb_schema.specs.Query.{Query}
+use Rattle.mdb_schema.specs.History.{Commit, History, state_at}
 use Rattle.mdb_schema.specs.Schema.{DbSchema}
-use Rattle.mdb_schema.specs.State.{State}
-use Rattle.mdb_schema.specs.Tests.{◌>>=◌, needed, passed}
-use Rattle.mdb_schema.specs.Wipe.{wipe, wipe_by_prefix}
-use Rattle.mdb_schema.specs.Write.{Write, put, remove, step}
-use Rattle.client_script.specs.Alone.{alone, then_told, joined, commit_printed}
-use Rattle.client_script.specs.Client.{Sight, Writing, Transaction, closed, reading, writing, Snapshot, Client, at_start, state_seen, snapshot_named, none_open, some_open, read_open, write_open, no_write_open, sight_of, Judged}
+use Rattle.mdb_schema.specs.Tests.{◌>>=◌}
+use Rattle.client_script.specs.Alone.{Request, to_transact, to_write, to_defer, to_ask, to_name, to_size, as_command, AreRequests, turn, alone, then_told, joined, commit_printed}
+use Rattle.client_script.specs.Client.{Sight, Writing, Transaction, closed, reading, writing, Snapshot, Client, at_start, state_seen, none_open, no_write_open, sight_of, Judged}
 use Rattle.client_script.specs.Legal.{Legal, printed, number_printed, all_printed, callers}
-use Rattle.client_script.specs.Reply.{Reply, read_at, write_at, ended, committed, aborted, inserted, replaced, deleted, wiped, deferred, answered, kept_at, kept_within, quiet_at, fired_at, sized, woken_by, stopped_at, refused, output_text}
-use Rattle.client_script.specs.Session.{AreKnown, IsEntry, IsAnswered, of_rows, of_watches, Answers, Runs, Session, Sessions}
-use Rattle.client_script.specs.Spent.{IsTold, HaveIds, AllHaveIds}
-use Rattle.client_script.proofs.SpentIds.{told_so, told_with_ids}
-use Rattle.client_script.proofs.WatchLines.{IsAside, aside, prints_none, watch_word}
-use Rattle.client_script.specs.Turn.{Turn, turn, write_turn, wipe_turn, question_turn, outcome, stepped, asked, indexes_of, with_writes, insert_reply, commit_limit, is_of_watches, snapshot_reply}
+use Rattle.client_script.specs.Reply.{Changed, Reply, read_at, write_at, ended, committed, aborted, inserted, replaced, deleted, wiped, deferred, answered, kept_at, kept_within, quiet_at, fired_at, sized, woken_by, stopped_at, refused, output_text}
+use Rattle.client_script.specs.Session.{IsEntry, IsAnswered, Answers, Runs, Session, Sessions}
+use Rattle.client_script.specs.Spent.{HaveIds, AllHaveIds}
+use Rattle.client_script.proofs.CommitChanges.{entry_taken}
+use Rattle.client_script.proofs.EachTurn.{EachOutcome, turn_so, told_so, turn_told}
+use Rattle.client_script.proofs.WatchLines.{IsAside, aside, prints_none}
+use Rattle.client_script.specs.Turn.{Turn, outcome, insert_reply, snapshot_reply, commit_limit, commit_reply, changed_rows}
 use Rattle.client_script.specs.declared.command.Command.{Command}
-use Rattle.client_script.specs.declared.command.Command.TheVariants as command
+use Rattle.client_script.specs.declared.command.TransactionCommand.TheVariants as transaction_line
 use Rattle.client_script.specs.declared.line.Line.{Line}
 use Rattle.client_script.specs.inner.Within.{AllWithin, IsWithin, StandsWithin}
 use Rattle.client_script.proofs.LongerHistory.{next_within, turn_longer, start_within}
@@ -47,28 +43,19 @@ pub record IsOn (k : ℕ) (v : Client) : Type 0 where
   pub last : v.last ≡ k
   pub transaction : StandsOn k v.transaction
 
+-- a reply tells a new commit of this number
+pub record TellsCommit (m : ℕ) (r : Reply) : Type 0 where
+  pub changed : List Changed
+  pub texts : List Bytes
+  pub is : r ≡ committed m changed texts
+
 -- a line makes no commit, and the client is on the same number; or it makes the next one
 pub data Keeps (k : ℕ) (v : Client) (p : Reply × Client) : Type 0 where
   same : number_printed p.0 ≡ [] → commit_printed p.0 v.transaction ≡ [] → IsOn k p.1 → Keeps k v p
-  commits : (t : Writing) (texts : List Bytes) → v.transaction ≡ writing t → p.0 ≡ committed (suc k) texts → IsOn (suc k) p.1 → Keeps k v p
-
-keeps_then : {A : Type 0} (k : ℕ) (v : Client) (j : Judged A) (f : A → Turn) → IsOn k v → ((a : A) → j ≡ Ok a → Keeps k v (outcome v (f a))) → Keeps k v (outcome v (j >>= f))
-keeps_then k v (Ok a) f on each = each a refl
-keeps_then k v (Err rule) f on each = same refl refl on
+  commits : (t : Writing) → v.transaction ≡ writing t → TellsCommit (suc k) p.0 → IsOn (suc k) p.1 → Keeps k v p
 
 on_as : (k : ℕ) (v : Client) (t : Transaction) (ss : List Snapshot) → IsOn k v → StandsOn k t → IsOn k (record { last = v.last; transaction = t; snapshots = ss; watching = v.watching })
 on_as k v t ss on stands = record { last = on.last; transaction = stands }
-
-pub writing_is : (t : Transaction) (x : Writing) → write_open t ≡ Ok x → t ≡ writing x
-writing_is closed x e = cc
-writing_is (reading m) x e = cc
-writing_is (writing t) x e = cc
-
-writing_on : (k : ℕ) (t : Transaction) (x : Writing) → write_open t ≡ Ok x → StandsOn k t → x.number ≡ k
-writing_on k t x e on = subst (StandsOn k) (writing_is t x e) on
-
-keeps_writing : (k : ℕ) (v : Client) (f : Writing → Turn) → IsOn k v → ((x : Writing) → v.transaction ≡ writing x → x.number ≡ k → Keeps k v (outcome v (f x))) → Keeps k v (outcome v (write_open v.transaction >>= f))
-keeps_writing k v f on each = keeps_then k v (write_open v.transaction) f on (λ x e. each x (writing_is v.transaction x e) (writing_on k v.transaction x e on.transaction))
 
 pub insert_prints : (was : Option Fields) → number_printed (insert_reply was) ≡ []
 insert_prints None = refl
@@ -88,40 +75,37 @@ snapshot_commits closed s t' = refl
 snapshot_commits (reading m) s t' = refl
 snapshot_commits (writing t) s t' = refl
 
-keeps_write : (k : ℕ) (schema : DbSchema) (H : History) (v : Client) (w : Write) (table : Bytes) (reply : Option Fields → Reply) → ((was : Option Fields) → number_printed (reply was) ≡ []) → ((was : Option Fields) (t : Transaction) → commit_printed (reply was) t ≡ []) → IsOn k v → Keeps k v (outcome v (write_turn schema H v w table reply))
-keeps_write k schema H v w table reply prints makes on = keeps_writing k v _ on (λ x is stands. keeps_then k v (stepped (indexes_of schema table) (step schema (state_seen schema H (sight_of x)) w)) (λ was. Ok (reply was, with_writes (w ∷ []) x v)) on (λ was e. same (prints was) (makes was v.transaction) (on_as k v _ v.snapshots on stands)))
-
-keeps_wipe : (k : ℕ) (wiping : State → Asked (List Write)) (schema : DbSchema) (H : History) (v : Client) → IsOn k v → Keeps k v (outcome v (wipe_turn wiping schema H v))
-keeps_wipe k wiping schema H v on = keeps_writing k v _ on (λ x is stands. keeps_then k v (asked (wiping (state_seen schema H (sight_of x)))) (λ gone. Ok (wiped (length gone), with_writes gone x v)) on (λ gone e. same refl refl (on_as k v _ v.snapshots on stands)))
-
-keeps_question : (k : ℕ) (schema : DbSchema) (H : History) (v : Client) (sight : Judged Sight) (q : Query) → IsOn k v → Keeps k v (outcome v (question_turn schema H v sight q))
-keeps_question k schema H v sight q on = keeps_then k v sight _ on (λ s e. keeps_then k v (asked (ask schema (state_seen schema H s) q)) (λ a. Ok (answered a, v)) on (λ a e. same refl refl on))
-
 next_on : (k n : ℕ) → n ≡ k → n + 1 ≡ suc k
 next_on k n e = search (arith, e)
 
-pub keeps : (k : ℕ) (schema : DbSchema) (H : History) (v : Client) (c : Command) → IsOn k v → Keeps k v (outcome v (turn schema H k v c))
-keeps k schema H v command.Read on = keeps_then k v (none_open v.transaction) _ on (λ u e. same refl refl (record { last = refl; transaction = refl }))
-keeps k schema H v command.Write on = keeps_then k v (none_open v.transaction) _ on (λ u e. keeps_then k v (passed (codes "commits-spent") (nat_lt k commit_limit)) _ on (λ u' e'. same refl refl (record { last = refl; transaction = refl })))
-keeps k schema H v command.End on = keeps_then k v (read_open v.transaction) _ on (λ m e. same refl refl (on_as k v closed v.snapshots on tt))
-keeps k schema H v command.Commit on = keeps_writing k v _ on (λ x is stands. commits x (reverse x.texts) is (ap (λ (m : ℕ). committed m (reverse x.texts)) (next_on k x.number stands)) (record { last = next_on k x.number stands; transaction = tt }))
-keeps k schema H v command.Abort on = keeps_writing k v _ on (λ x is stands. same refl refl (on_as k v closed v.snapshots on tt))
-keeps k schema H v (command.Insert table row) on = keeps_write k schema H v (put table row) table insert_reply insert_prints insert_commits on
-keeps k schema H v (command.Delete table row) on = keeps_write k schema H v (remove table row) table (λ was. deleted) (λ was. refl) (λ was t. refl) on
-keeps k schema H v (command.DeleteAll q) on = keeps_wipe k (λ s. wipe schema s q) schema H v on
-keeps k schema H v (command.DeletePrefix q) on = keeps_wipe k (λ s. wipe_by_prefix schema s q) schema H v on
-keeps k schema H v (command.Defer text) on = keeps_writing k v _ on (λ x is stands. same refl refl (on_as k v _ v.snapshots on stands))
-keeps k schema H v (command.Question q) on = keeps_question k schema H v (some_open v.transaction) q on
-keeps k schema H v (command.Snapshot name) on = keeps_then k v (some_open v.transaction) _ on (λ s e. keeps_then k v (passed (codes "name-taken") (not (is_some (snapshot_named name v.snapshots)))) _ on (λ u e'. same (snapshot_prints v.transaction s) (snapshot_commits v.transaction s v.transaction) (on_as k v v.transaction _ on on.transaction)))
-keeps k schema H v (command.InSnapshot name q) on = keeps_question k schema H v (needed (codes "unknown-name") (snapshot_named name v.snapshots)) q on
-keeps k schema H v (command.Watch name q) on = same refl refl on
-keeps k schema H v (command.WatchIn name snapshot q) on = same refl refl on
-keeps k schema H v (command.Check name) on = same refl refl on
-keeps k schema H v (command.Add set name) on = same refl refl on
-keeps k schema H v (command.AddLimit set limit name other) on = same refl refl on
-keeps k schema H v (command.Size set) on = same refl refl on
-keeps k schema H v (command.Wait set) on = same refl refl on
-keeps k schema H v (command.WaitUntil set until) on = same refl refl on
+each_keeps : (k : ℕ) (schema : DbSchema) (H : History) (v : Client) → IsOn k v → EachOutcome schema H k v (Keeps k v)
+each_keeps k schema H v on = record {
+  refuses = λ rule. same refl refl on;
+  reads = same refl refl (record { last = refl; transaction = refl });
+  begins = λ few. same refl refl (record { last = refl; transaction = refl });
+  ends = same refl refl (on_as k v closed v.snapshots on tt);
+  commits = λ t is. commits t is (told t is) (record { last = next_on k t.number (stands t is); transaction = tt });
+  aborts = same refl refl (on_as k v closed v.snapshots on tt);
+  inserts = λ t is table row after e. same (insert_prints after.1) (insert_commits after.1 v.transaction) (on_as k v _ v.snapshots on (stands t is));
+  deletes = λ t is table row after e. same refl refl (on_as k v _ v.snapshots on (stands t is));
+  wipes = λ t is q gone e. same refl refl (on_as k v _ v.snapshots on (stands t is));
+  defers = λ t is text. same refl refl (on_as k v _ v.snapshots on (stands t is));
+  asks = λ a. same refl refl on;
+  keeps = λ name s is. same (snapshot_prints v.transaction s) (snapshot_commits v.transaction s v.transaction) (on_as k v v.transaction _ on on.transaction);
+  watches = λ name q number a. same refl refl (record { last = on.last; transaction = on.transaction });
+  sizes = λ n. same refl refl on;
+}
+  where
+    stands : (t : Writing) → v.transaction ≡ writing t → t.number ≡ k
+    stands t is = subst (StandsOn k) is on.transaction
+
+    told : (t : Writing) → v.transaction ≡ writing t → TellsCommit (suc k) (commit_reply schema H t)
+    told t is =
+        let changed = changed_rows schema (state_at schema H t.number) (state_seen schema H (sight_of t)) in
+        record { changed = changed; texts = reverse t.texts; is = ap (λ (m : ℕ). committed m changed (reverse t.texts)) (next_on k t.number (stands t is)) }
+
+pub keeps : (k : ℕ) (schema : DbSchema) (H : History) (v : Client) (q : Request) → IsOn k v → Keeps k v (outcome v (turn schema H k v q))
+keeps k schema H v q on = turn_so schema H k v (Keeps k v) (each_keeps k schema H v on) q
 
 -- ---- the numbers that are printed rise
 
@@ -153,59 +137,35 @@ pub record Rises (last : ℕ) (p : Reply × Client) : Type 0 where
   pub stands : StandsFrom p.1.last p.1.transaction
   pub above : AllAbove last (number_printed p.0)
 
-rises_then : {A : Type 0} (v : Client) (j : Judged A) (f : A → Turn) → StandsFrom v.last v.transaction → ((a : A) → j ≡ Ok a → Rises v.last (outcome v (f a))) → Rises v.last (outcome v (j >>= f))
-rises_then v (Ok a) f from each = each a refl
-rises_then v (Err rule) f from each = record { later = search (arith); stands = from; above = tt }
-
 rises_same : (v : Client) (r : Reply) (t : Transaction) (ss : List Snapshot) → StandsFrom v.last t → number_printed r ≡ [] → Rises v.last (r, record { last = v.last; transaction = t; snapshots = ss; watching = v.watching })
 rises_same v r t ss from none = record { later = search (arith); stands = from; above = subst (AllAbove v.last) (sym none) tt }
 
 rises_at : (v : Client) (r : Reply) (now : ℕ) (t : Transaction) → v.last ≤ now → StandsFrom now t → number_printed r ≡ [] → Rises v.last (r, record { last = now; transaction = t; snapshots = v.snapshots; watching = v.watching })
 rises_at v r now t le from none = record { later = le; stands = from; above = subst (AllAbove v.last) (sym none) tt }
 
-writing_from : (n : ℕ) (t : Transaction) (x : Writing) → write_open t ≡ Ok x → StandsFrom n t → n ≤ x.number
-writing_from n t x e from = subst (StandsFrom n) (writing_is t x e) from
-
-rises_writing : (v : Client) (f : Writing → Turn) → StandsFrom v.last v.transaction → ((x : Writing) → v.last ≤ x.number → Rises v.last (outcome v (f x))) → Rises v.last (outcome v (write_open v.transaction >>= f))
-rises_writing v f from each = rises_then v (write_open v.transaction) f from (λ x e. each x (writing_from v.last v.transaction x e from))
-
-rises_write : (schema : DbSchema) (H : History) (v : Client) (w : Write) (table : Bytes) (reply : Option Fields → Reply) → ((was : Option Fields) → number_printed (reply was) ≡ []) → StandsFrom v.last v.transaction → Rises v.last (outcome v (write_turn schema H v w table reply))
-rises_write schema H v w table reply prints from = rises_writing v _ from (λ x le. rises_then v (stepped (indexes_of schema table) (step schema (state_seen schema H (sight_of x)) w)) (λ was. Ok (reply was, with_writes (w ∷ []) x v)) from (λ was e. rises_same v (reply was) _ v.snapshots le (prints was)))
-
-rises_wipe : (wiping : State → Asked (List Write)) (schema : DbSchema) (H : History) (v : Client) → StandsFrom v.last v.transaction → Rises v.last (outcome v (wipe_turn wiping schema H v))
-rises_wipe wiping schema H v from = rises_writing v _ from (λ x le. rises_then v (asked (wiping (state_seen schema H (sight_of x)))) (λ gone. Ok (wiped (length gone), with_writes gone x v)) from (λ gone e. rises_same v (wiped (length gone)) _ v.snapshots le refl))
-
-rises_question : (schema : DbSchema) (H : History) (v : Client) (sight : Judged Sight) (q : Query) → StandsFrom v.last v.transaction → Rises v.last (outcome v (question_turn schema H v sight q))
-rises_question schema H v sight q from = rises_then v sight _ from (λ s e. rises_then v (asked (ask schema (state_seen schema H s) q)) (λ a. Ok (answered a, v)) from (λ a e. rises_same v (answered a) v.transaction v.snapshots from refl))
-
 pub self_le : (n : ℕ) → n ≤ n
 self_le n = search (arith)
 
-pub rises : (schema : DbSchema) (H : History) (now : ℕ) (v : Client) (c : Command) → v.last ≤ now → StandsFrom v.last v.transaction → Rises v.last (outcome v (turn schema H now v c))
-rises schema H now v command.Read le from = rises_then v (none_open v.transaction) _ from (λ u e. rises_at v _ now _ le tt refl)
-rises schema H now v command.Write le from = rises_then v (none_open v.transaction) _ from (λ u e. rises_then v (passed (codes "commits-spent") (nat_lt now commit_limit)) _ from (λ u' e'. rises_at v _ now _ le (self_le now) refl))
-rises schema H now v command.End le from = rises_then v (read_open v.transaction) _ from (λ m e. rises_same v _ closed v.snapshots tt refl)
-rises schema H now v command.Commit le from = rises_writing v _ from (λ x le'. record { later = search (arith, le'); stands = tt; above = (search (arith, le'), tt) })
-rises schema H now v command.Abort le from = rises_writing v _ from (λ x le'. rises_same v _ closed v.snapshots tt refl)
-rises schema H now v (command.Insert table row) le from = rises_write schema H v (put table row) table insert_reply insert_prints from
-rises schema H now v (command.Delete table row) le from = rises_write schema H v (remove table row) table (λ was. deleted) (λ was. refl) from
-rises schema H now v (command.DeleteAll q) le from = rises_wipe (λ s. wipe schema s q) schema H v from
-rises schema H now v (command.DeletePrefix q) le from = rises_wipe (λ s. wipe_by_prefix schema s q) schema H v from
-rises schema H now v (command.Defer text) le from = rises_writing v _ from (λ x le'. rises_same v _ _ v.snapshots le' refl)
-rises schema H now v (command.Question q) le from = rises_question schema H v (some_open v.transaction) q from
-rises schema H now v (command.Snapshot name) le from = rises_then v (some_open v.transaction) _ from (λ s e. rises_then v (passed (codes "name-taken") (not (is_some (snapshot_named name v.snapshots)))) _ from (λ u e'. rises_same v (snapshot_reply v.transaction s) v.transaction _ from (snapshot_prints v.transaction s)))
-rises schema H now v (command.InSnapshot name q) le from = rises_question schema H v (needed (codes "unknown-name") (snapshot_named name v.snapshots)) q from
-rises schema H now v (command.Watch name q) le from = rises_same v _ v.transaction v.snapshots from refl
-rises schema H now v (command.WatchIn name snapshot q) le from = rises_same v _ v.transaction v.snapshots from refl
-rises schema H now v (command.Check name) le from = rises_same v _ v.transaction v.snapshots from refl
-rises schema H now v (command.Add set name) le from = rises_same v _ v.transaction v.snapshots from refl
-rises schema H now v (command.AddLimit set limit name other) le from = rises_same v _ v.transaction v.snapshots from refl
-rises schema H now v (command.Size set) le from = rises_same v _ v.transaction v.snapshots from refl
-rises schema H now v (command.Wait set) le from = rises_same v _ v.transaction v.snapshots from refl
-rises schema H now v (command.WaitUntil set until) le from = rises_same v _ v.transaction v.snapshots from refl
-
-pub told_rises : (schema : DbSchema) (H : History) (now : ℕ) (v : Client) (c : Command) (r : Reply) (next : Client) → v.last ≤ now → StandsFrom v.last v.transaction → IsTold schema H now v c r next → Rises v.last (r, next)
-told_rises schema H now v c r next le from told = told_so (Rises v.last) schema H now v c r next told (rises schema H now v c le from) (λ rule. record { later = search (arith); stands = from; above = tt })
+each_rises : (schema : DbSchema) (H : History) (now : ℕ) (v : Client) → v.last ≤ now → StandsFrom v.last v.transaction → EachOutcome schema H now v (Rises v.last)
+each_rises schema H now v le from = record {
+  refuses = λ rule. rises_same v (refused rule) v.transaction v.snapshots from refl;
+  reads = rises_at v _ now _ le tt refl;
+  begins = λ few. rises_at v _ now _ le (self_le now) refl;
+  ends = rises_same v _ closed v.snapshots tt refl;
+  commits = λ t is. let le' = stands t is in record { later = search (arith, le'); stands = tt; above = (search (arith, le'), tt) };
+  aborts = rises_same v _ closed v.snapshots tt refl;
+  inserts = λ t is table row after e. rises_same v (insert_reply after.1) _ v.snapshots (stands t is) (insert_prints after.1);
+  deletes = λ t is table row after e. rises_same v deleted _ v.snapshots (stands t is) refl;
+  wipes = λ t is q gone e. rises_same v (wiped (length gone)) _ v.snapshots (stands t is) refl;
+  defers = λ t is text. rises_same v _ _ v.snapshots (stands t is) refl;
+  asks = λ a. rises_same v (answered a) v.transaction v.snapshots from refl;
+  keeps = λ name s is. rises_same v (snapshot_reply v.transaction s) v.transaction _ from (snapshot_prints v.transaction s);
+  watches = λ name q number a. record { later = self_le v.last; stands = from; above = tt };
+  sizes = λ n. rises_same v (sized n) v.transaction v.snapshots from refl;
+}
+  where
+    stands : (t : Writing) → v.transaction ≡ writing t → v.last ≤ t.number
+    stands t is = subst (StandsFrom v.last) is from
 
 free_stands : (t : Transaction) (n : ℕ) → no_write_open t ≡ Ok tt → StandsFrom n t
 free_stands closed n free = tt
@@ -223,8 +183,8 @@ aside_rises now v r next le from a = of a.last
     of (inr (is, free)) = record { later = omega (arith, is, le); stands = subst (StandsFrom next.last) (sym a.transaction) (free_stands v.transaction next.last free); above = none }
 
 pub answered_rises : (schema : DbSchema) (H : History) (client now : ℕ) (v : Client) (c : Command) (r : Reply) (next : Client) → v.last ≤ now → StandsFrom v.last v.transaction → IsAnswered schema H client now v c r next → Rises v.last (r, next)
-answered_rises schema H client now v c r next le from (of_rows known says) = told_rises schema H now v c r next le from says
-answered_rises schema H client now v c r next le from (of_watches says) = aside_rises now v r next le from (aside now v schema H client c r next says)
+answered_rises schema H client now v c r next le from told =
+    told_so schema H now v (Rises v.last) (each_rises schema H now v le from) client c r next told (λ w says. aside_rises now v r next le from (aside now v schema H client w r next says))
 
 pub all_rise : (schema : DbSchema) (H : History) (client : ℕ) (v : Client) (ls : List Line) (rs : List Reply) (end : Client) → Runs schema H client v ls rs end → StandsFrom v.last v.transaction → AllAbove v.last (printed rs)
 all_rise schema H client v [] [] end runs from = tt
@@ -244,50 +204,41 @@ unfolding Tells
 tells_then now v (Ok a) f g each = each a
 tells_then now v (Err rule) f g each = inl refl
 
-tells : (schema : DbSchema) (H : History) (k now : ℕ) (v : Client) (c : Command) → k < commit_limit → now < commit_limit → Tells now (outcome v (turn schema H now v c)) (outcome v (turn schema H k v c))
+tells : (schema : DbSchema) (H : History) (k now : ℕ) (v : Client) (q : Request) → k < commit_limit → now < commit_limit → Tells now (outcome v (turn schema H now v q)) (outcome v (turn schema H k v q))
 unfolding Tells
-tells schema H k now v command.Read few few' = tells_then now v (none_open v.transaction) _ _ (λ u. inr (refl, refl))
-tells schema H k now v command.Write few few' = rw (lt-ltb k commit_limit few, lt-ltb now commit_limit few') (tells_then now v (none_open v.transaction) _ _ (λ u. inr (refl, refl)))
-tells schema H k now v command.End few few' = inl refl
-tells schema H k now v command.Commit few few' = inl refl
-tells schema H k now v command.Abort few few' = inl refl
-tells schema H k now v (command.Insert table row) few few' = inl refl
-tells schema H k now v (command.Delete table row) few few' = inl refl
-tells schema H k now v (command.DeleteAll q) few few' = inl refl
-tells schema H k now v (command.DeletePrefix q) few few' = inl refl
-tells schema H k now v (command.Defer text) few few' = inl refl
-tells schema H k now v (command.Question q) few few' = inl refl
-tells schema H k now v (command.Snapshot name) few few' = inl refl
-tells schema H k now v (command.InSnapshot name q) few few' = inl refl
-tells schema H k now v (command.Watch name q) few few' = inl refl
-tells schema H k now v (command.WatchIn name snapshot q) few few' = inl refl
-tells schema H k now v (command.Check name) few few' = inl refl
-tells schema H k now v (command.Add set name) few few' = inl refl
-tells schema H k now v (command.AddLimit set limit name other) few few' = inl refl
-tells schema H k now v (command.Size set) few few' = inl refl
-tells schema H k now v (command.Wait set) few few' = inl refl
-tells schema H k now v (command.WaitUntil set until) few few' = inl refl
+tells schema H k now v (to_transact transaction_line.Read) few few' = tells_then now v (none_open v.transaction) _ _ (λ u. inr (refl, refl))
+tells schema H k now v (to_transact transaction_line.Write) few few' = rw (lt-ltb k commit_limit few, lt-ltb now commit_limit few') (tells_then now v (none_open v.transaction) _ _ (λ u. inr (refl, refl)))
+tells schema H k now v (to_transact transaction_line.End) few few' = inl refl
+tells schema H k now v (to_transact transaction_line.Commit) few few' = inl refl
+tells schema H k now v (to_transact transaction_line.Abort) few few' = inl refl
+tells schema H k now v (to_write w) few few' = inl refl
+tells schema H k now v (to_defer text) few few' = inl refl
+tells schema H k now v (to_ask a) few few' = inl refl
+tells schema H k now v (to_name n) few few' = inl refl
+tells schema H k now v (to_size set) few few' = inl refl
 
 -- ---- one client
 
--- each line was told its turn
-abbrev pub AreTurns : (schema : DbSchema) (H : History) (client : ℕ) (v : Client) (ls : List Line) (rs : List Reply) (end : Client) → Runs schema H client v ls rs end → Type 0
-AreTurns schema H client v [] [] end runs = ⊤
-AreTurns schema H client v [] (r ∷ rs) end runs = ⊤
-AreTurns schema H client v (l ∷ ls) [] end runs = ⊤
-AreTurns schema H client v (l ∷ ls) (r ∷ rs) end (next, a, runs) = (outcome v (turn schema H a.now v l.command) ≡ (r, next)) × AreTurns schema H client next ls rs end runs
+-- each line was told the turn of its request
+abbrev pub AreTurns : (schema : DbSchema) (H : History) (client : ℕ) (v : Client) (ls : List Line) (qs : List Request) (rs : List Reply) (end : Client) → Runs schema H client v ls rs end → Type 0
+AreTurns schema H client v [] qs rs end runs = ⊤
+AreTurns schema H client v (l ∷ ls) [] rs end runs = ⊤
+AreTurns schema H client v (l ∷ ls) (q ∷ qs) [] end runs = ⊤
+AreTurns schema H client v (l ∷ ls) (q ∷ qs) (r ∷ rs) end (next, a, runs) = (outcome v (turn schema H a.now v q) ≡ (r, next)) × AreTurns schema H client next ls qs rs end runs
 
--- a line that isn't of watches is told so
-pub rows_told : (schema : DbSchema) (H : History) (client now : ℕ) (v : Client) (c : Command) (r : Reply) (next : Client) → is_of_watches c ≡ false → IsAnswered schema H client now v c r next → IsTold schema H now v c r next
-rows_told schema H client now v c r next known (of_rows known' says) = says
-rows_told schema H client now v c r next known (of_watches says) = let word = watch_word schema H client now v c r next says in cc
+-- a line with the command of a request is answered as that request
+pub requested : (schema : DbSchema) (H : History) (client now : ℕ) (v : Client) (c : Command) (q : Request) (r : Reply) (next : Client) → c ≡ as_command q → IsAnswered schema H client now v c r next → IsAnswered schema H client now v (as_command q) r next
+requested schema H client now v c q r next is told = subst (λ (x : Command). IsAnswered schema H client now v x r next) is told
 
--- where no line is of watches, and none is told that there are too few ids
-with_ids : (schema : DbSchema) (H : History) (client : ℕ) (v : Client) (ls : List Line) (rs : List Reply) (end : Client) (runs : Runs schema H client v ls rs end) → AreKnown ls → HaveIds rs → AreTurns schema H client v ls rs end runs
-with_ids schema H client v [] [] end runs known ids = tt
-with_ids schema H client v [] (r ∷ rs) end runs known ids = tt
-with_ids schema H client v (l ∷ ls) [] end runs known ids = tt
-with_ids schema H client v (l ∷ ls) (r ∷ rs) end (next, a, runs) known ids = (told_with_ids schema H a.now v l.command r next ids.0 (rows_told schema H client a.now v l.command r next known.0 a.says), with_ids schema H client next ls rs end runs known.1 ids.1)
+-- where none is told that there are too few ids
+with_ids : (schema : DbSchema) (H : History) (client : ℕ) (v : Client) (ls : List Line) (qs : List Request) (rs : List Reply) (end : Client) (runs : Runs schema H client v ls rs end) → AreRequests ls qs → HaveIds rs → AreTurns schema H client v ls qs rs end runs
+with_ids schema H client v [] qs rs end runs known ids = tt
+with_ids schema H client v (l ∷ ls) [] rs end runs known ids = tt
+with_ids schema H client v (l ∷ ls) (q ∷ qs) [] end runs known ids = tt
+with_ids schema H client v (l ∷ ls) (q ∷ qs) (r ∷ rs) end (next, a, runs) known ids = (
+  turn_told schema H client a.now v q r next ids.0 (requested schema H client a.now v l.command q r next known.0 a.says),
+  with_ids schema H client next ls qs rs end runs known.1 ids.1,
+)
 
 from_on : (k : ℕ) (v : Client) → IsOn k v → StandsFrom v.last v.transaction
 from_on k v on = subst (λ (n : ℕ). StandsFrom n v.transaction) (sym on.last) (from v.transaction on.transaction)
@@ -302,22 +253,22 @@ abbrev pub Prints : (k last : ℕ) → List ℕ → Type 0
 Prints k last ms = (m : ℕ) → k < m → m ≤ last → Contains ms m
 
 -- the line's turn looks at no commit after the first k
-turn_here : (schema : DbSchema) (H : History) (k : ℕ) (v : Client) (c : Command) → k ≤ length H → IsWithin k v → turn schema (take k H) (length (take k H)) v c ≡ turn schema H k v c
-turn_here schema H k v c there within =
+turn_here : (schema : DbSchema) (H : History) (k : ℕ) (v : Client) (q : Request) → k ≤ length H → IsWithin k v → turn schema (take k H) (length (take k H)) v q ≡ turn schema H k v q
+turn_here schema H k v q there within =
     let size : length (take k H) ≡ k = length-take-le k H there in
-    ap (λ (n : ℕ). turn schema (take k H) n v c) size
-    ∙ sym (turn_longer schema (take k H) (drop k H) k v c (subst (λ (n : ℕ). IsWithin n v) (sym size) within))
-    ∙ ap (λ (G : History). turn schema G k v c) (take-append-drop k H)
+    ap (λ (n : ℕ). turn schema (take k H) n v q) size
+    ∙ sym (turn_longer schema (take k H) (drop k H) k v q (subst (λ (n : ℕ). IsWithin n v) (sym size) within))
+    ∙ ap (λ (G : History). turn schema G k v q) (take-append-drop k H)
 
 -- so it is the line's turn at number k that was told
-pub told_here : (schema : DbSchema) (H : History) (k : ℕ) (v next : Client) (l : Line) (ls : List Line) (r : Reply) (rs : List Reply) (end : Client) → (a : Answers schema H 1 v l.command r next) → outcome v (turn schema H a.now v l.command) ≡ (r, next) → Runs schema H 1 next ls rs end → IsOn k v → length H < commit_limit → Prints k (length H) (number_printed r ++ printed rs) → outcome v (turn schema H k v l.command) ≡ (r, next)
+pub told_here : (schema : DbSchema) (H : History) (k : ℕ) (v next : Client) (l : Line) (ls : List Line) (q : Request) (r : Reply) (rs : List Reply) (end : Client) → (a : Answers schema H 1 v l.command r next) → outcome v (turn schema H a.now v q) ≡ (r, next) → Runs schema H 1 next ls rs end → IsOn k v → length H < commit_limit → Prints k (length H) (number_printed r ++ printed rs) → outcome v (turn schema H k v q) ≡ (r, next)
 unfolding Tells
-told_here schema H k v next l ls r rs end a says runs on few prints = elim (cases_lt k a.now) [
-  | inl lt ↦ elim (tells schema H k a.now v l.command (let there = a.there in omega arith) (let there = a.there in omega arith)) [
+told_here schema H k v next l ls q r rs end a says runs on few prints = elim (cases_lt k a.now) [
+  | inl lt ↦ elim (tells schema H k a.now v q (let there = a.there in omega arith) (let there = a.there in omega arith)) [
     | inl e ↦ sym e ∙ says
     | inr told ↦ absurd (too_late lt (ap (λ (p : Reply × Client). p.1.last) (sym says) ∙ told.0) (ap (λ (p : Reply × Client). number_printed p.0) (sym says) ∙ told.1))
   ]
-  | inr le ↦ ap (λ (n : ℕ). outcome v (turn schema H n v l.command)) (here le) ∙ says
+  | inr le ↦ ap (λ (n : ℕ). outcome v (turn schema H n v q)) (here le) ∙ says
 ]
   where
     here : a.now ≤ k → k ≡ a.now
@@ -359,34 +310,35 @@ no_commit : (others : List Reply × History) (H : History) (r : Reply) (t : Tran
 no_commit others H r t none = ap (λ (cs : History). H ++ cs) none ∙ append-nil H
 
 -- a commit that is told is the next of the history
-pub next_commit : (H : History) (k : ℕ) (t : Writing) (r : Reply) (texts : List Bytes) → r ≡ committed (suc k) texts → t.number ≡ k → IsEntry H 1 (writing t) r → take k H ++ commit_printed r (writing t) ≡ take (suc k) H
-next_commit H k t r texts is stands entry =
-    let there = subst (λ (x : Reply). IsEntry H 1 (writing t) x) is entry in
-    let at : slice_get H k ≡ Some (record { caller = 1; writes = t.writes }) = subst (λ (n : ℕ). slice_get H n ≡ Some (record { caller = 1; writes = t.writes })) stands there in
-    ap (λ (x : Reply). take k H ++ commit_printed x (writing t)) is
-    ∙ sym (take-suc H k (record { caller = 1; writes = t.writes }) (slice_get_within H k _ at) ∙ ap (λ (c : Commit). take k H ++ c ∷ []) (get_or_from_slice_get H k _ _ at))
+entry_at : (H : History) (k : ℕ) (t : Writing) (r : Reply) → TellsCommit (suc k) r → t.number ≡ k → IsEntry H 1 (writing t) r → slice_get H k ≡ Some (record { caller = 1; writes = t.writes })
+entry_at H k t r told stands entry = subst (λ (n : ℕ). slice_get H n ≡ Some (record { caller = 1; writes = t.writes })) stands (subst (λ (x : Reply). IsEntry H 1 (writing t) x) told.is entry)
 
-pub within_history : (H : History) (k : ℕ) (t : Writing) (r : Reply) (texts : List Bytes) → r ≡ committed (suc k) texts → t.number ≡ k → IsEntry H 1 (writing t) r → suc k ≤ length H
-within_history H k t r texts is stands entry = slice_get_within H k _ (subst (λ (n : ℕ). slice_get H n ≡ Some (record { caller = 1; writes = t.writes })) stands (subst (λ (x : Reply). IsEntry H 1 (writing t) x) is entry))
+pub next_commit : (H : History) (k : ℕ) (t : Writing) (r : Reply) → TellsCommit (suc k) r → t.number ≡ k → IsEntry H 1 (writing t) r → take k H ++ commit_printed r (writing t) ≡ take (suc k) H
+next_commit H k t r told stands entry =
+    ap (λ (x : Reply). take k H ++ commit_printed x (writing t)) told.is
+    ∙ entry_taken H k (record { caller = 1; writes = t.writes }) (entry_at H k t r told stands entry)
+
+pub within_history : (H : History) (k : ℕ) (t : Writing) (r : Reply) → TellsCommit (suc k) r → t.number ≡ k → IsEntry H 1 (writing t) r → suc k ≤ length H
+within_history H k t r told stands entry = slice_get_within H k _ (entry_at H k t r told stands entry)
 
 module _ (schema : DbSchema) (H : History) (few : length H < commit_limit) where
   -- the replies are those to a client that is alone, and its commits are the history
-  Alone : ℕ → Client → List Line → List Reply → Type 0
-  Alone k v ls rs = alone schema ls (take k H) v ≡ (rs, H)
+  Alone : ℕ → Client → List Request → List Reply → Type 0
+  Alone k v qs rs = alone schema qs (take k H) v ≡ (rs, H)
 
-  first_told : (k : ℕ) (v next : Client) (l : Line) (ls : List Line) (r : Reply) (rs : List Reply) (G : History) → k ≤ length H → IsWithin k v → outcome v (turn schema H k v l.command) ≡ (r, next) → take k H ++ commit_printed r v.transaction ≡ G → alone schema ls G next ≡ (rs, H) → Alone k v (l ∷ ls) (r ∷ rs)
+  first_told : (k : ℕ) (v next : Client) (q : Request) (qs : List Request) (r : Reply) (rs : List Reply) (G : History) → k ≤ length H → IsWithin k v → outcome v (turn schema H k v q) ≡ (r, next) → take k H ++ commit_printed r v.transaction ≡ G → alone schema qs G next ≡ (rs, H) → Alone k v (q ∷ qs) (r ∷ rs)
   unfolding Alone
-  first_told k v next l ls r rs G there within told grown others =
-      ap (λ (t : Turn). then_told (alone schema ls) (take k H) v.transaction (outcome v t)) (turn_here schema H k v l.command there within)
-      ∙ ap (λ (p : Reply × Client). then_told (alone schema ls) (take k H) v.transaction p) told
-      ∙ ap (λ (F : History). joined r (alone schema ls F next)) grown
+  first_told k v next q qs r rs G there within told grown others =
+      ap (λ (t : Turn). then_told (alone schema qs) (take k H) v.transaction (outcome v t)) (turn_here schema H k v q there within)
+      ∙ ap (λ (p : Reply × Client). then_told (alone schema qs) (take k H) v.transaction p) told
+      ∙ ap (λ (F : History). joined r (alone schema qs F next)) grown
       ∙ ap (joined r) others
 
   pub later : (k : ℕ) (r : Reply) (rs : List Reply) → number_printed r ≡ [] → Prints k (length H) (number_printed r ++ printed rs) → Prints k (length H) (printed rs)
   later k r rs none prints m lt le = subst (λ (ms : List ℕ). Contains (ms ++ printed rs) m) none (prints m lt le)
 
-  pub later_commit : (k : ℕ) (r : Reply) (rs : List Reply) (texts : List Bytes) → r ≡ committed (suc k) texts → Prints k (length H) (number_printed r ++ printed rs) → Prints (suc k) (length H) (printed rs)
-  later_commit k r rs texts is prints m lt le = elim (Contains-cons_cases (suc k) (printed rs) m (subst (λ (x : Reply). Contains (number_printed x ++ printed rs) m) is (prints m (omega arith) le))) [
+  pub later_commit : (k : ℕ) (r : Reply) (rs : List Reply) → TellsCommit (suc k) r → Prints k (length H) (number_printed r ++ printed rs) → Prints (suc k) (length H) (printed rs)
+  later_commit k r rs told prints m lt le = elim (Contains-cons_cases (suc k) (printed rs) m (subst (λ (x : Reply). Contains (number_printed x ++ printed rs) m) told.is (prints m (omega arith) le))) [
     | inl e ↦ absurd (not_itself e)
     | inr within ↦ within
   ]
@@ -394,31 +346,33 @@ module _ (schema : DbSchema) (H : History) (few : length H < commit_limit) where
       not_itself : suc k ≡ m → ⊥
       not_itself e = omega arith
 
-  -- the rest of the script, at whatever number
-  Others : Client → List Line → List Reply → Type 0
-  Others next ls rs = (k : ℕ) → IsOn k next → IsWithin k next → k ≤ length H → Prints k (length H) (printed rs) → Alone k next ls rs
+  -- the other requests, at whatever number
+  Others : Client → List Request → List Reply → Type 0
+  Others next qs rs = (k : ℕ) → IsOn k next → IsWithin k next → k ≤ length H → Prints k (length H) (printed rs) → Alone k next qs rs
 
-  one_line : (k : ℕ) (v next : Client) (l : Line) (ls : List Line) (r : Reply) (rs : List Reply) → IsOn k v → IsWithin k v → k ≤ length H → Prints k (length H) (number_printed r ++ printed rs) → IsEntry H 1 v.transaction r → outcome v (turn schema H k v l.command) ≡ (r, next) → IsWithin k next → Others next ls rs → Keeps k v (r, next) → Alone k v (l ∷ ls) (r ∷ rs)
+  one_line : (k : ℕ) (v next : Client) (q : Request) (qs : List Request) (r : Reply) (rs : List Reply) → IsOn k v → IsWithin k v → k ≤ length H → Prints k (length H) (number_printed r ++ printed rs) → IsEntry H 1 v.transaction r → outcome v (turn schema H k v q) ≡ (r, next) → IsWithin k next → Others next qs rs → Keeps k v (r, next) → Alone k v (q ∷ qs) (r ∷ rs)
   unfolding Others Alone
-  one_line k v next l ls r rs on within there prints made told within' others (same none makes on') = first_told k v next l ls r rs (take k H) there within told (no_commit (rs, H) (take k H) r v.transaction makes) (others k on' within' there (later k r rs none prints))
-  one_line k v next l ls r rs on within there prints made told within' others (commits t texts is told_commit on') =
+  one_line k v next q qs r rs on within there prints made told within' others (same none makes on') = first_told k v next q qs r rs (take k H) there within told (no_commit (rs, H) (take k H) r v.transaction makes) (others k on' within' there (later k r rs none prints))
+  one_line k v next q qs r rs on within there prints made told within' others (commits t is told_commit on') =
       let entry : IsEntry H 1 (writing t) r = subst (λ (x : Transaction). IsEntry H 1 x r) is made in
       let stands : t.number ≡ k = subst (StandsOn k) is on.transaction in
-      first_told k v next l ls r rs (take (suc k) H) there within told (ap (λ (x : Transaction). take k H ++ commit_printed r x) is ∙ next_commit H k t r texts told_commit stands entry) (others (suc k) on' (within_up k next within') (within_history H k t r texts told_commit stands entry) (later_commit k r rs texts told_commit prints))
+      first_told k v next q qs r rs (take (suc k) H) there within told (ap (λ (x : Transaction). take k H ++ commit_printed r x) is ∙ next_commit H k t r told_commit stands entry) (others (suc k) on' (within_up k next within') (within_history H k t r told_commit stands entry) (later_commit k r rs told_commit prints))
 
-  only_alone : (ls : List Line) (rs : List Reply) (v end : Client) (k : ℕ) → (runs : Runs schema H 1 v ls rs end) → AreTurns schema H 1 v ls rs end runs → IsOn k v → IsWithin k v → k ≤ length H → Prints k (length H) (printed rs) → Alone k v ls rs
+  only_alone : (ls : List Line) (qs : List Request) (rs : List Reply) (v end : Client) (k : ℕ) → (runs : Runs schema H 1 v ls rs end) → AreRequests ls qs → AreTurns schema H 1 v ls qs rs end runs → IsOn k v → IsWithin k v → k ≤ length H → Prints k (length H) (printed rs) → Alone k v qs rs
   unfolding Alone Others
-  only_alone [] [] v end k runs turns on within there prints = ap (λ (G : History). ([], G)) (all_told H k there prints)
-  only_alone [] (r ∷ rs) v end k runs turns on within there prints = absurd runs
-  only_alone (l ∷ ls) [] v end k runs turns on within there prints = absurd runs
-  only_alone (l ∷ ls) (r ∷ rs) v end k (next, a, runs) turns on within there prints =
-      let told : outcome v (turn schema H k v l.command) ≡ (r, next) = told_here schema H k v next l ls r rs end a turns.0 runs on few prints in
-      one_line k v next l ls r rs on within there prints a.entry told (subst (λ (p : Reply × Client). IsWithin k p.1) told (next_within k schema H k v l.command (self_le k) within)) (λ k' on' within' there' prints'. only_alone ls rs next end k' runs turns.1 on' within' there' prints') (subst (λ (p : Reply × Client). Keeps k v p) told (keeps k schema H v l.command on))
+  only_alone [] [] [] v end k runs known turns on within there prints = ap (λ (G : History). ([], G)) (all_told H k there prints)
+  only_alone [] (q ∷ qs) rs v end k runs known turns on within there prints = absurd known
+  only_alone [] [] (r ∷ rs) v end k runs known turns on within there prints = absurd runs
+  only_alone (l ∷ ls) [] rs v end k runs known turns on within there prints = absurd known
+  only_alone (l ∷ ls) (q ∷ qs) [] v end k runs known turns on within there prints = absurd runs
+  only_alone (l ∷ ls) (q ∷ qs) (r ∷ rs) v end k (next, a, runs) known turns on within there prints =
+      let told : outcome v (turn schema H k v q) ≡ (r, next) = told_here schema H k v next l ls q r rs end a turns.0 runs on few prints in
+      one_line k v next q qs r rs on within there prints a.entry told (subst (λ (p : Reply × Client). IsWithin k p.1) told (next_within k schema H k v q (self_le k) within)) (λ k' on' within' there' prints'. only_alone ls qs rs next end k' runs known.1 turns.1 on' within' there' prints') (subst (λ (p : Reply × Client). Keeps k v p) told (keeps k schema H v q on))
 
 -- ---- the whole output
 
 number_few : (r : Reply) → length (number_printed r) ≤ 1
-number_few (committed m texts) = lit≤ tt
+number_few (committed m changed texts) = lit≤ tt
 number_few (read_at n) = lit≤ tt
 number_few (write_at n) = lit≤ tt
 number_few ended = lit≤ tt
@@ -476,19 +430,19 @@ module _ (schema : DbSchema) (H : History) (script : List Line) (rs : List Reply
       ∙ ap length (append-nil (map (λ n. (n, 1)) (printed rs)))
       ∙ length-map (printed rs) (λ n. (n, 1))
 
-  pub one_session : length script < commit_limit → (s : Session schema H 1 script rs) → AreTurns schema H 1 at_start script rs s.0 s.1 → alone schema script [] at_start ≡ (rs, H)
+  pub one_session : (qs : List Request) → AreRequests script qs → length script < commit_limit → (s : Session schema H 1 script rs) → AreTurns schema H 1 at_start script qs rs s.0 s.1 → alone schema qs [] at_start ≡ (rs, H)
   unfolding Alone
-  one_session few (end, runs) turns =
+  one_session qs known few (end, runs) turns =
       let size = as_many in
       let lines = printed_few schema H 1 at_start script rs end runs in
-      only_alone schema H (omega arith) script rs at_start end 0 runs turns (record { last = refl; transaction = tt }) (start_within 0) (search (arith)) told_each
+      only_alone schema H (omega arith) script qs rs at_start end 0 runs known turns (record { last = refl; transaction = tt }) (start_within 0) (search (arith)) told_each
 
--- for one client without watches the legal outputs in which no line is told that there are too few
--- ids are one text, and their histories one history
-pub one_output : (schema : DbSchema) (name : Bytes) (script : List Line) (out : Bytes) → AreKnown script → length script < commit_limit → (l : Legal schema (name ∷ []) (script ∷ []) out) → AllHaveIds l.replies → out ≡ output_text 1 (name ∷ []) (script ∷ []) ((alone schema script [] at_start).0 ∷ [])
-one_output schema name script out known few legal ids = of legal.replies ids legal.written legal.numbers legal.sessions
+-- for one client without lines of watches the legal outputs in which no line is told that there are
+-- too few ids are one text, and their histories one history
+pub one_output : (schema : DbSchema) (name : Bytes) (script : List Line) (requests : List Request) (out : Bytes) → AreRequests script requests → length script < commit_limit → (l : Legal schema (name ∷ []) (script ∷ []) out) → AllHaveIds l.replies → out ≡ output_text 1 (name ∷ []) (script ∷ []) ((alone schema requests [] at_start).0 ∷ [])
+one_output schema name script requests out known few legal ids = of legal.replies ids legal.written legal.numbers legal.sessions
   where
-    of : (rss : List (List Reply)) → AllHaveIds rss → out ≡ output_text 1 (name ∷ []) (script ∷ []) rss → IsPermutation (enumerate_from 1 (callers legal.history)) (all_printed 1 rss) → Sessions schema legal.history 1 (script ∷ []) rss → out ≡ output_text 1 (name ∷ []) (script ∷ []) ((alone schema script [] at_start).0 ∷ [])
+    of : (rss : List (List Reply)) → AllHaveIds rss → out ≡ output_text 1 (name ∷ []) (script ∷ []) rss → IsPermutation (enumerate_from 1 (callers legal.history)) (all_printed 1 rss) → Sessions schema legal.history 1 (script ∷ []) rss → out ≡ output_text 1 (name ∷ []) (script ∷ []) ((alone schema requests [] at_start).0 ∷ [])
     of [] have written numbers sessions = absurd sessions
-    of (rs ∷ []) have written numbers sessions = written ∙ ap (λ (p : List Reply × History). output_text 1 (name ∷ []) (script ∷ []) (p.0 ∷ [])) (sym (one_session schema legal.history script rs numbers few sessions.0 (with_ids schema legal.history 1 at_start script rs sessions.0.0 sessions.0.1 known have.0)))
+    of (rs ∷ []) have written numbers sessions = written ∙ ap (λ (p : List Reply × History). output_text 1 (name ∷ []) (script ∷ []) (p.0 ∷ [])) (sym (one_session schema legal.history script rs numbers requests known few sessions.0 (with_ids schema legal.history 1 at_start script requests rs sessions.0.0 sessions.0.1 known have.0)))
     of (rs ∷ rs' ∷ rss) have written numbers sessions = absurd sessions.1

@@ -1,7 +1,7 @@
 -- The scripts and the replies to them fix the history.
-use Rattle.std.proofs.Common.{arith, ◌≡◌, refl, ap, subst, sym, ◌∙◌, ℕ, zero, suc, ◌+◌, ◌<◌, ◌≤◌, ◌⊎◌, inl, inr, List, [], ◌∷◌, ◌++◌, length, map, Some, None, Option, Ok, Err, slice_get, take, drop, get_or, Contains, IsPermutation}
+use Rattle.std.proofs.Common.{arith, ◌≡◌, refl, ap, subst, sym, ◌∙◌, ℕ, zero, suc, ◌+◌, ◌-◌, ◌<◌, ◌≤◌, ◌⊎◌, inl, inr, List, [], ◌∷◌, ◌++◌, length, map, Some, None, Option, Ok, Err, slice_get, take, drop, get_or, Contains, IsPermutation}
 use Rattle.std.specs.List.{enumerate_from}
-use Rattle.std.specs.Prelude.{Bool, true, false, not, nat_lt, codes, is_some, reverse}
+use Rattle.std.specs.Prelude.{Bool, true, false, nat_lt, codes}
 use Rattle.std.proofs.lemmas.List.{take-append-drop, length-take-le, length-map}
 use Rattle.std.proofs.lemmas.List.FromFn.{length-enumerate_from}
 use Rattle.std.proofs.lemmas.List.Sorted.{length_permutation, Contains-permutation}
@@ -9,28 +9,27 @@ use Rattle.std.proofs.lemmas.Option.{slice_get-get_or}
 use Rattle.std.proofs.Math.Seq.{take-length, take-suc}
 use Rattle.mdb_datum.specs.Bytes.{Bytes}
 use Rattle.mdb_schema.proofs.Membership.{Contains-nil, Contains-first, Contains-later, Contains-cons_cases, Contains-from_map}
-use Rattle.mdb_datum.specs.Row.{Fields}
-use Rattle.mdb_schema.specs.Answer.{Asked, ask}
-use Rattle.mdb_schema.specs.Query.{Query}
 use Rattle.mdb_schema.specs.State.{State}
-use Rattle.mdb_schema.specs.Wipe.{wipe, wipe_by_prefix}
-use Rattle.mdb_schema.specs.Write.{Write, put, remove, step}
-use Rattle.mdb_schema.specs.History.{Commit, History}
+use Rattle.mdb_schema.specs.History.{Commit, History, state_at}
 use Rattle.mdb_schema.specs.Schema.{DbSchema}
-use Rattle.mdb_schema.specs.Tests.{◌>>=◌, needed, passed}
+use Rattle.mdb_schema.specs.Tests.{◌>>=◌, passed}
 use Rattle.client_script.specs.inner.Within.{IsWithin}
-use Rattle.client_script.proofs.LongerHistory.{aside_within, next_within, turn_longer, start_within}
-use Rattle.client_script.proofs.OneClient.{insert_prints, snapshot_prints, writing_is, StandsFrom, all_rise, above_each, answered_rises, Rises, numbered, self_le}
-use Rattle.client_script.specs.Client.{Sight, Writing, Transaction, reading, writing, Client, at_start, state_seen, snapshot_named, none_open, some_open, read_open, write_open, sight_of, Judged}
+use Rattle.client_script.proofs.LongerHistory.{aside_within, each_within, turn_longer, start_within}
+use Rattle.client_script.proofs.CommitChanges.{seen_after}
+use Rattle.client_script.proofs.OneClient.{TellsCommit, insert_prints, snapshot_prints, StandsFrom, all_rise, above_each, answered_rises, Rises, numbered, self_le}
+use Rattle.client_script.specs.Client.{Writing, Transaction, reading, writing, Client, at_start, state_seen, none_open, sight_of, Judged}
 use Rattle.client_script.specs.Legal.{Legal, printed, number_printed, all_printed, callers}
-use Rattle.client_script.specs.Reply.{Reply, read_at, write_at, ended, committed, aborted, inserted, replaced, deleted, wiped, deferred, answered, kept_at, kept_within, quiet_at, fired_at, sized, woken_by, stopped_at, refused}
-use Rattle.client_script.specs.Session.{IsEntry, IsAnswered, of_rows, of_watches, Answers, Runs, Sessions}
-use Rattle.client_script.specs.Spent.{IsTold, by_turn, without_ids}
-use Rattle.client_script.proofs.SpentIds.{told_so, refused_stays}
-use Rattle.client_script.proofs.WatchLines.{aside, prints_none, watch_next, watch_word}
-use Rattle.client_script.specs.Turn.{Turn, turn, write_turn, wipe_turn, question_turn, outcome, stepped, asked, indexes_of, with_writes, insert_reply, commit_limit, with_transaction, after_commit}
+use Rattle.client_script.specs.Reply.{Changed, Reply, read_at, write_at, ended, committed, aborted, inserted, replaced, deleted, wiped, deferred, answered, kept_at, kept_within, quiet_at, fired_at, sized, woken_by, stopped_at, refused}
+use Rattle.client_script.specs.Alone.{Request, to_transact, to_write, to_defer, to_ask, to_name, to_size, turn}
+use Rattle.client_script.specs.Session.{IsCommit, IsEntry, IsAnswered, Answers, Runs, Sessions}
+use Rattle.client_script.specs.Spent.{IsWriteTold, by_turn, without_ids}
+use Rattle.client_script.proofs.EachTurn.{EachOutcome, told_so, refused_stays}
+use Rattle.client_script.proofs.WatchLines.{aside, prints_none, watch_next}
+use Rattle.client_script.specs.Turn.{Turn, outcome, commit_limit, with_transaction, after_commit, changed_rows, commit_reply}
 use Rattle.client_script.specs.declared.command.Command.{Command}
 use Rattle.client_script.specs.declared.command.Command.TheVariants as command
+use Rattle.client_script.specs.declared.command.TransactionCommand.TheVariants as transaction_line
+use Rattle.client_script.specs.declared.command.WriteCommand.{WriteCommand}
 use Rattle.client_script.specs.declared.line.Line.{Line}
 
 -- ---- a reply tells what the client then knows
@@ -55,68 +54,52 @@ agree_write v now now' true false = λ e. cc
 agree_write v now now' false true = λ e. cc
 agree_write v now now' false false = λ e. refl
 
-agree : (schema : DbSchema) (H : History) (now now' : ℕ) (v : Client) (c : Command) → Agree (outcome v (turn schema H now v c)) (outcome v (turn schema H now' v c))
+agree : (schema : DbSchema) (H : History) (now now' : ℕ) (v : Client) (q : Request) → Agree (outcome v (turn schema H now v q)) (outcome v (turn schema H now' v q))
 unfolding Agree read_number
-agree schema H now now' v command.Read = agree_then v (none_open v.transaction) _ _ (λ u e. ap (λ (n : ℕ). with_transaction n (reading n) v) (ap read_number e))
-agree schema H now now' v command.Write = agree_then v (none_open v.transaction) _ _ (λ u. agree_write v now now' (nat_lt now commit_limit) (nat_lt now' commit_limit))
-agree schema H now now' v command.End = λ e. refl
-agree schema H now now' v command.Commit = λ e. refl
-agree schema H now now' v command.Abort = λ e. refl
-agree schema H now now' v (command.Insert table row) = λ e. refl
-agree schema H now now' v (command.Delete table row) = λ e. refl
-agree schema H now now' v (command.DeleteAll q) = λ e. refl
-agree schema H now now' v (command.DeletePrefix q) = λ e. refl
-agree schema H now now' v (command.Defer text) = λ e. refl
-agree schema H now now' v (command.Question q) = λ e. refl
-agree schema H now now' v (command.Snapshot name) = λ e. refl
-agree schema H now now' v (command.InSnapshot name q) = λ e. refl
-agree schema H now now' v (command.Watch name q) = λ e. refl
-agree schema H now now' v (command.WatchIn name snapshot q) = λ e. refl
-agree schema H now now' v (command.Check name) = λ e. refl
-agree schema H now now' v (command.Add set name) = λ e. refl
-agree schema H now now' v (command.AddLimit set limit name other) = λ e. refl
-agree schema H now now' v (command.Size set) = λ e. refl
-agree schema H now now' v (command.Wait set) = λ e. refl
-agree schema H now now' v (command.WaitUntil set until) = λ e. refl
+agree schema H now now' v (to_transact transaction_line.Read) = agree_then v (none_open v.transaction) _ _ (λ u e. ap (λ (n : ℕ). with_transaction n (reading n) v) (ap read_number e))
+agree schema H now now' v (to_transact transaction_line.Write) = agree_then v (none_open v.transaction) _ _ (λ u. agree_write v now now' (nat_lt now commit_limit) (nat_lt now' commit_limit))
+agree schema H now now' v (to_transact transaction_line.End) = λ e. refl
+agree schema H now now' v (to_transact transaction_line.Commit) = λ e. refl
+agree schema H now now' v (to_transact transaction_line.Abort) = λ e. refl
+agree schema H now now' v (to_write w) = λ e. refl
+agree schema H now now' v (to_defer text) = λ e. refl
+agree schema H now now' v (to_ask a) = λ e. refl
+agree schema H now now' v (to_name n) = λ e. refl
+agree schema H now now' v (to_size set) = λ e. refl
 
 -- ---- where it is told no number past k, it stands within the first k commits
 
 Within : ℕ → Client → Reply × Client → Type 0
 Within k v p = p.1.last ≤ k → IsWithin k p.1
 
-within_then : {A : Type 0} (k : ℕ) (v : Client) (j : Judged A) (f : A → Turn) → IsWithin k v → ((a : A) → Within k v (outcome v (f a))) → Within k v (outcome v (j >>= f))
+each_within_told : (k : ℕ) (schema : DbSchema) (H : History) (now : ℕ) (v : Client) → IsWithin k v → EachOutcome schema H now v (Within k v)
 unfolding Within
-within_then k v (Ok a) f within each = each a
-within_then k v (Err rule) f within each = λ le. within
-
-next_within_told : (k : ℕ) (schema : DbSchema) (H : History) (now : ℕ) (v : Client) (c : Command) → IsWithin k v → Within k v (outcome v (turn schema H now v c))
-unfolding Within
-next_within_told k schema H now v command.Read within = within_then k v (none_open v.transaction) _ within (λ u le. record { transaction = le; snapshots = within.snapshots })
-next_within_told k schema H now v command.Write within = within_then k v (none_open v.transaction) _ within (λ u. within_then k v (passed (codes "commits-spent") (nat_lt now commit_limit)) _ within (λ u' le. record { transaction = le; snapshots = within.snapshots }))
-next_within_told k schema H now v command.End within = λ le. next_within k schema H k v command.End (self_le k) within
-next_within_told k schema H now v command.Commit within = λ le. next_within k schema H k v command.Commit (self_le k) within
-next_within_told k schema H now v command.Abort within = λ le. next_within k schema H k v command.Abort (self_le k) within
-next_within_told k schema H now v (command.Insert table row) within = λ le. next_within k schema H k v (command.Insert table row) (self_le k) within
-next_within_told k schema H now v (command.Delete table row) within = λ le. next_within k schema H k v (command.Delete table row) (self_le k) within
-next_within_told k schema H now v (command.DeleteAll q) within = λ le. next_within k schema H k v (command.DeleteAll q) (self_le k) within
-next_within_told k schema H now v (command.DeletePrefix q) within = λ le. next_within k schema H k v (command.DeletePrefix q) (self_le k) within
-next_within_told k schema H now v (command.Defer text) within = λ le. next_within k schema H k v (command.Defer text) (self_le k) within
-next_within_told k schema H now v (command.Question q) within = λ le. next_within k schema H k v (command.Question q) (self_le k) within
-next_within_told k schema H now v (command.Snapshot name) within = λ le. next_within k schema H k v (command.Snapshot name) (self_le k) within
-next_within_told k schema H now v (command.InSnapshot name q) within = λ le. next_within k schema H k v (command.InSnapshot name q) (self_le k) within
-next_within_told k schema H now v (command.Watch name q) within = λ le. next_within k schema H k v (command.Watch name q) (self_le k) within
-next_within_told k schema H now v (command.WatchIn name snapshot q) within = λ le. next_within k schema H k v (command.WatchIn name snapshot q) (self_le k) within
-next_within_told k schema H now v (command.Check name) within = λ le. next_within k schema H k v (command.Check name) (self_le k) within
-next_within_told k schema H now v (command.Add set name) within = λ le. next_within k schema H k v (command.Add set name) (self_le k) within
-next_within_told k schema H now v (command.AddLimit set limit name other) within = λ le. next_within k schema H k v (command.AddLimit set limit name other) (self_le k) within
-next_within_told k schema H now v (command.Size set) within = λ le. next_within k schema H k v (command.Size set) (self_le k) within
-next_within_told k schema H now v (command.Wait set) within = λ le. next_within k schema H k v (command.Wait set) (self_le k) within
-next_within_told k schema H now v (command.WaitUntil set until) within = λ le. next_within k schema H k v (command.WaitUntil set until) (self_le k) within
+each_within_told k schema H now v within =
+    let each = each_within k schema H k v (self_le k) within in
+    record {
+      refuses = λ rule le. within;
+      reads = λ le. record { transaction = le; snapshots = within.snapshots };
+      begins = λ few le. record { transaction = le; snapshots = within.snapshots };
+      ends = λ le. each.ends;
+      commits = λ t is le. each.commits t is;
+      aborts = λ le. each.aborts;
+      inserts = λ t is table row after e le. each.inserts t is table row after e;
+      deletes = λ t is table row after e le. each.deletes t is table row after e;
+      wipes = λ t is q gone e le. each.wipes t is q gone e;
+      defers = λ t is text le. each.defers t is text;
+      asks = λ a le. within;
+      keeps = λ name s is le. each.keeps name s is;
+      watches = λ name q number a le. each.watches name q number a;
+      sizes = λ n le. within;
+    }
 
 -- ---- an entry is told with its writes
 
-number_told : (r : Reply) (m : ℕ) → Contains (number_printed r) m → (texts : List _) × (r ≡ committed m texts)
-number_told (committed n texts) m within = elim (Contains-cons_cases n [] m within) [ inl e ↦ (texts, ap (λ (x : ℕ). committed x texts) e) | inr later ↦ absurd (Contains-nil m later) ]
+only_one : (n m : ℕ) → Contains (n ∷ []) m → n ≡ m
+only_one n m within = elim (Contains-cons_cases n [] m within) [ inl e ↦ e | inr later ↦ absurd (Contains-nil m later) ]
+
+number_told : (r : Reply) (m : ℕ) → Contains (number_printed r) m → TellsCommit m r
+number_told (committed n changed texts) m within = record { changed = changed; texts = texts; is = ap (λ (x : ℕ). committed x changed texts) (only_one n m within) }
 number_told (read_at n) m within = absurd (Contains-nil m within)
 number_told (write_at n) m within = absurd (Contains-nil m within)
 number_told ended m within = absurd (Contains-nil m within)
@@ -146,116 +129,115 @@ either (x ∷ ms) ns m within = elim (Contains-cons_cases x (ms ++ ns) m within)
 ]
 
 -- its next number is told by just this reply
-entry_is : (H : History) (client k : ℕ) (t : Transaction) (r : Reply) (texts : List Bytes) → r ≡ committed (suc k) texts → (x : Writing) → t ≡ writing x → x.number ≡ k → IsEntry H client t r → slice_get H k ≡ Some (record { caller = client; writes = x.writes })
-entry_is H client k t r texts told x is stands made = subst (λ (n : ℕ). slice_get H n ≡ Some (record { caller = client; writes = x.writes })) stands (subst (λ (q : Reply). IsEntry H client (writing x) q) told (subst (λ (u : Transaction). IsEntry H client u r) is made))
+entry_is : (H : History) (client k : ℕ) (t : Transaction) (r : Reply) → TellsCommit (suc k) r → (x : Writing) → t ≡ writing x → x.number ≡ k → IsEntry H client t r → slice_get H k ≡ Some (record { caller = client; writes = x.writes })
+entry_is H client k t r told x is stands made = subst (λ (n : ℕ). slice_get H n ≡ Some (record { caller = client; writes = x.writes })) stands (subst (λ (q : Reply). IsEntry H client (writing x) q) told.is (subst (λ (u : Transaction). IsEntry H client u r) is made))
 
--- a line that tells the number of a commit ends the transaction that stands on the one before
-Commits : Client → Reply × Client → Type 0
-Commits v p = (m : ℕ) → Contains (number_printed p.0) m → (t : Writing) × (v.transaction ≡ writing t) × (t.number + 1 ≡ m)
+-- what a reply tells of a commit's changes
+told_changes : Reply → List Changed
+told_changes (committed m changed texts) = changed
+told_changes r = []
 
-commits_none : (v : Client) (p : Reply × Client) → number_printed p.0 ≡ [] → Commits v p
+-- a line that tells the number of a commit ends the transaction that stands on the one before, and
+-- tells what that changed
+Commits : DbSchema → History → Client → Reply × Client → Type 0
+Commits schema H v p = (m : ℕ) → Contains (number_printed p.0) m → (t : Writing) × (v.transaction ≡ writing t) × (p.0 ≡ commit_reply schema H t)
+
+commits_none : (schema : DbSchema) (H : History) (v : Client) (p : Reply × Client) → number_printed p.0 ≡ [] → Commits schema H v p
 unfolding Commits
-commits_none v p none m within = absurd (Contains-nil m (subst (λ (ms : List ℕ). Contains ms m) none within))
+commits_none schema H v p none m within = absurd (Contains-nil m (subst (λ (ms : List ℕ). Contains ms m) none within))
 
-commits_then : {A : Type 0} (v : Client) (j : Judged A) (f : A → Turn) → ((a : A) → j ≡ Ok a → Commits v (outcome v (f a))) → Commits v (outcome v (j >>= f))
-commits_then v (Ok a) f each = each a refl
-commits_then v (Err rule) f each = commits_none v (refused rule, v) refl
-
-commits_write : (schema : DbSchema) (H : History) (v : Client) (w : Write) (table : Bytes) (reply : Option Fields → Reply) → ((was : Option Fields) → number_printed (reply was) ≡ []) → Commits v (outcome v (write_turn schema H v w table reply))
-commits_write schema H v w table reply prints = commits_then v (write_open v.transaction) _ (λ x e. commits_then v (stepped (indexes_of schema table) (step schema (state_seen schema H (sight_of x)) w)) (λ was. Ok (reply was, with_writes (w ∷ []) x v)) (λ was e'. commits_none v (reply was, with_writes (w ∷ []) x v) (prints was)))
-
-commits_wipe : (wiping : State → Asked (List Write)) (schema : DbSchema) (H : History) (v : Client) → Commits v (outcome v (wipe_turn wiping schema H v))
-commits_wipe wiping schema H v = commits_then v (write_open v.transaction) _ (λ x e. commits_then v (asked (wiping (state_seen schema H (sight_of x)))) (λ gone. Ok (wiped (length gone), with_writes gone x v)) (λ gone e'. commits_none v (wiped (length gone), with_writes gone x v) refl))
-
-commits_question : (schema : DbSchema) (H : History) (v : Client) (sight : Judged Sight) (q : Query) → Commits v (outcome v (question_turn schema H v sight q))
-commits_question schema H v sight q = commits_then v sight _ (λ s e. commits_then v (asked (ask schema (state_seen schema H s) q)) (λ a. Ok (answered a, v)) (λ a e'. commits_none v (answered a, v) refl))
-
-commits_one : (v : Client) (x : Writing) (texts : List Bytes) (next : Client) → v.transaction ≡ writing x → Commits v (committed (x.number + 1) texts, next)
+commits_one : (schema : DbSchema) (H : History) (v : Client) (x : Writing) (next : Client) → v.transaction ≡ writing x → Commits schema H v (commit_reply schema H x, next)
 unfolding Commits
-commits_one v x texts next is m within = (x, is, of (Contains-cons_cases (x.number + 1) [] m within))
-  where
-    of : {n m : ℕ} → (n ≡ m) ⊎ Contains [] m → n ≡ m
-    of (inl e) = e
-    of {n} {m} (inr later) = absurd (Contains-nil m later)
+commits_one schema H v x next is m within = (x, is, refl)
 
-commits_of : (schema : DbSchema) (H : History) (now : ℕ) (v : Client) (c : Command) → Commits v (outcome v (turn schema H now v c))
-commits_of schema H now v command.Read = commits_then v (none_open v.transaction) _ (λ u e. commits_none v _ refl)
-commits_of schema H now v command.Write = commits_then v (none_open v.transaction) _ (λ u e. commits_then v (passed (codes "commits-spent") (nat_lt now commit_limit)) _ (λ u' e'. commits_none v _ refl))
-commits_of schema H now v command.End = commits_then v (read_open v.transaction) _ (λ m e. commits_none v _ refl)
-commits_of schema H now v command.Commit = commits_then v (write_open v.transaction) _ (λ x e. commits_one v x (reverse x.texts) (after_commit x v) (writing_is v.transaction x e))
-commits_of schema H now v command.Abort = commits_then v (write_open v.transaction) _ (λ x e. commits_none v _ refl)
-commits_of schema H now v (command.Insert table row) = commits_write schema H v (put table row) table insert_reply insert_prints
-commits_of schema H now v (command.Delete table row) = commits_write schema H v (remove table row) table (λ was. deleted) (λ was. refl)
-commits_of schema H now v (command.DeleteAll q) = commits_wipe (λ s. wipe schema s q) schema H v
-commits_of schema H now v (command.DeletePrefix q) = commits_wipe (λ s. wipe_by_prefix schema s q) schema H v
-commits_of schema H now v (command.Defer text) = commits_then v (write_open v.transaction) _ (λ x e. commits_none v _ refl)
-commits_of schema H now v (command.Question q) = commits_question schema H v (some_open v.transaction) q
-commits_of schema H now v (command.Snapshot name) = commits_then v (some_open v.transaction) _ (λ s e. commits_then v (passed (codes "name-taken") (not (is_some (snapshot_named name v.snapshots)))) _ (λ u e'. commits_none v _ (snapshot_prints v.transaction s)))
-commits_of schema H now v (command.InSnapshot name q) = commits_question schema H v (needed (codes "unknown-name") (snapshot_named name v.snapshots)) q
-commits_of schema H now v (command.Watch name q) = commits_none v (refused [], v) refl
-commits_of schema H now v (command.WatchIn name snapshot q) = commits_none v (refused [], v) refl
-commits_of schema H now v (command.Check name) = commits_none v (refused [], v) refl
-commits_of schema H now v (command.Add set name) = commits_none v (refused [], v) refl
-commits_of schema H now v (command.AddLimit set limit name other) = commits_none v (refused [], v) refl
-commits_of schema H now v (command.Size set) = commits_none v (refused [], v) refl
-commits_of schema H now v (command.Wait set) = commits_none v (refused [], v) refl
-commits_of schema H now v (command.WaitUntil set until) = commits_none v (refused [], v) refl
+each_commits : (schema : DbSchema) (H : History) (now : ℕ) (v : Client) → EachOutcome schema H now v (Commits schema H v)
+each_commits schema H now v = record {
+  refuses = λ rule. commits_none schema H v (refused rule, v) refl;
+  reads = commits_none schema H v _ refl;
+  begins = λ few. commits_none schema H v _ refl;
+  ends = commits_none schema H v _ refl;
+  commits = λ t is. commits_one schema H v t (after_commit t v) is;
+  aborts = commits_none schema H v _ refl;
+  inserts = λ t is table row after e. commits_none schema H v _ (insert_prints after.1);
+  deletes = λ t is table row after e. commits_none schema H v _ refl;
+  wipes = λ t is q gone e. commits_none schema H v _ refl;
+  defers = λ t is text. commits_none schema H v _ refl;
+  asks = λ a. commits_none schema H v _ refl;
+  keeps = λ name s is. commits_none schema H v _ (snapshot_prints v.transaction s);
+  watches = λ name q number a. commits_none schema H v _ refl;
+  sizes = λ n. commits_none schema H v _ refl;
+}
 
 -- so a line that was answered with the number of a commit ended that transaction
-pub commit_told : (schema : DbSchema) (H : History) (client : ℕ) (v next : Client) (c : Command) (r : Reply) (m : ℕ) → Answers schema H client v c r next → Contains (number_printed r) m → (t : Writing) × (v.transaction ≡ writing t) × (t.number + 1 ≡ m)
+pub commit_replied : (schema : DbSchema) (H : History) (client : ℕ) (v next : Client) (c : Command) (r : Reply) (m : ℕ) → Answers schema H client v c r next → Contains (number_printed r) m → (t : Writing) × (v.transaction ≡ writing t) × (r ≡ commit_reply schema H t)
 unfolding Commits
-commit_told schema H client v next c r m a told = of a.says
-  where
-    of : IsAnswered schema H client a.now v c r next → (t : Writing) × (v.transaction ≡ writing t) × (t.number + 1 ≡ m)
-    of (of_rows known says) = told_so (Commits v) schema H a.now v c r next says (commits_of schema H a.now v c) (λ rule. commits_none v (refused rule, v) refl) m told
-    of (of_watches says) = commits_none v (r, next) (prints_none r (aside a.now v schema H client c r next says).reply) m told
+commit_replied schema H client v next c r m a told =
+    told_so schema H a.now v (Commits schema H v) (each_commits schema H a.now v) client c r next a.says (λ w says. commits_none schema H v (r, next) (prints_none r (aside a.now v schema H client w r next says).reply)) m told
+
+pub commit_told : (schema : DbSchema) (H : History) (client : ℕ) (v next : Client) (c : Command) (r : Reply) (m : ℕ) → Answers schema H client v c r next → Contains (number_printed r) m → (t : Writing) × (v.transaction ≡ writing t) × (t.number + 1 ≡ m)
+commit_told schema H client v next c r m a told =
+    let one = commit_replied schema H client v next c r m a told in
+    (one.0, one.1, only_one (one.0.number + 1) m (subst (λ (x : Reply). Contains (number_printed x) m) one.2 told))
+
+-- and told what it changed, from the state before it to the state after it
+pub changes_told : (schema : DbSchema) (H : History) (client : ℕ) (v next : Client) (c : Command) (m : ℕ) (changed : List Changed) (texts : List Bytes) → Answers schema H client v c (committed m changed texts) next → changed ≡ changed_rows schema (state_at schema H (m - 1)) (state_at schema H m)
+unfolding told_changes
+changes_told schema H client v next c m changed texts a =
+    let one = commit_replied schema H client v next c (committed m changed texts) m a (Contains-first m []) in
+    let number : one.0.number + 1 ≡ m = only_one (one.0.number + 1) m (subst (λ (x : Reply). Contains (number_printed x) m) one.2 (Contains-first m [])) in
+    let made : IsCommit H client (writing one.0) = subst (IsCommit H client) one.1 a.entry in
+    let after : state_seen schema H (sight_of one.0) ≡ state_at schema H m = seen_after schema H client one.0 made ∙ ap (state_at schema H) number in
+    let before : one.0.number ≡ m - 1 = omega (arith, number) in
+    ap told_changes one.2
+    ∙ ap (λ (s : State). changed_rows schema s (state_seen schema H (sight_of one.0))) (ap (state_at schema H) before)
+    ∙ ap (changed_rows schema (state_at schema H (m - 1))) after
 
 module _ (schema : DbSchema) (H H' : History) (client : ℕ) where
-  first_k : (k : ℕ) → k ≤ length H → k ≤ length H' → take k H ≡ take k H' → (now : ℕ) (v : Client) (c : Command) → IsWithin k v → turn schema H now v c ≡ turn schema H' now v c
-  first_k k there there' same now v c within =
-      ap (λ (G : History). turn schema G now v c) (sym (take-append-drop k H))
-      ∙ turn_longer schema (take k H) (drop k H) now v c (subst (λ (n : ℕ). IsWithin n v) (sym (length-take-le k H there)) within)
-      ∙ ap (λ (G : History). turn schema G now v c) same
-      ∙ sym (turn_longer schema (take k H') (drop k H') now v c (subst (λ (n : ℕ). IsWithin n v) (sym (length-take-le k H' there')) within))
-      ∙ ap (λ (G : History). turn schema G now v c) (take-append-drop k H')
+  first_k : (k : ℕ) → k ≤ length H → k ≤ length H' → take k H ≡ take k H' → (now : ℕ) (v : Client) (q : Request) → IsWithin k v → turn schema H now v q ≡ turn schema H' now v q
+  first_k k there there' same now v q within =
+      ap (λ (G : History). turn schema G now v q) (sym (take-append-drop k H))
+      ∙ turn_longer schema (take k H) (drop k H) now v q (subst (λ (n : ℕ). IsWithin n v) (sym (length-take-le k H there)) within)
+      ∙ ap (λ (G : History). turn schema G now v q) same
+      ∙ sym (turn_longer schema (take k H') (drop k H') now v q (subst (λ (n : ℕ). IsWithin n v) (sym (length-take-le k H' there')) within))
+      ∙ ap (λ (G : History). turn schema G now v q) (take-append-drop k H')
 
-  next_same : (k : ℕ) → k ≤ length H → k ≤ length H' → take k H ≡ take k H' → (v : Client) (c : Command) (r : Reply) (next next' : Client) → IsWithin k v → Answers schema H client v c r next → Answers schema H' client v c r next' → next ≡ next'
+  next_same : (k : ℕ) → k ≤ length H → k ≤ length H' → take k H ≡ take k H' → (now now' : ℕ) (v : Client) (c : Command) (r : Reply) (next next' : Client) → IsWithin k v → IsAnswered schema H client now v c r next → IsAnswered schema H' client now' v c r next' → next ≡ next'
   unfolding Agree
-  next_same k there there' same v c r next next' within a a' = answers a.says a'.says
+  next_same k there there' same now now' v c r next next' within = answers c
     where
-      turns : outcome v (turn schema H a.now v c) ≡ (r, next) → outcome v (turn schema H' a'.now v c) ≡ (r, next') → next ≡ next'
-      turns is is' =
-          let here : outcome v (turn schema H' a.now v c) ≡ (r, next) = ap (outcome v) (sym (first_k k there there' same a.now v c within)) ∙ is in
-          let replies : (outcome v (turn schema H' a.now v c)).0 ≡ (outcome v (turn schema H' a'.now v c)).0 = ap (λ (p : Reply × Client). p.0) here ∙ sym (ap (λ (p : Reply × Client). p.0) is') in
-          sym (ap (λ (p : Reply × Client). p.1) here) ∙ agree schema H' a.now a'.now v c replies ∙ ap (λ (p : Reply × Client). p.1) is'
+      turns : (q : Request) → outcome v (turn schema H now v q) ≡ (r, next) → outcome v (turn schema H' now' v q) ≡ (r, next') → next ≡ next'
+      turns q is is' =
+          let here : outcome v (turn schema H' now v q) ≡ (r, next) = ap (outcome v) (sym (first_k k there there' same now v q within)) ∙ is in
+          let replies : (outcome v (turn schema H' now v q)).0 ≡ (outcome v (turn schema H' now' v q)).0 = ap (λ (p : Reply × Client). p.0) here ∙ sym (ap (λ (p : Reply × Client). p.0) is') in
+          sym (ap (λ (p : Reply × Client). p.1) here) ∙ agree schema H' now now' v q replies ∙ ap (λ (p : Reply × Client). p.1) is'
 
-      both : IsTold schema H a.now v c r next → IsTold schema H' a'.now v c r next' → next ≡ next'
-      both (by_turn is) (by_turn is') = turns is is'
-      both (by_turn is) (without_ids s) = refused_stays schema H a.now v next c r (codes "ids-spent") is s.reply ∙ sym s.same
-      both (without_ids s) (by_turn is') = s.same ∙ sym (refused_stays schema H' a'.now v next' c r (codes "ids-spent") is' s.reply)
-      both (without_ids s) (without_ids s') = s.same ∙ sym s'.same
+      both : (w : WriteCommand) → IsWriteTold schema H v w r next → IsWriteTold schema H' v w r next' → next ≡ next'
+      both w (by_turn is) (by_turn is') = turns (to_write w) is is'
+      both w (by_turn is) (without_ids s) = refused_stays schema H now v next (to_write w) r (codes "ids-spent") is s.reply ∙ sym s.same
+      both w (without_ids s) (by_turn is') = s.same ∙ sym (refused_stays schema H' now' v next' (to_write w) r (codes "ids-spent") is' s.reply)
+      both w (without_ids s) (without_ids s') = s.same ∙ sym s'.same
 
-      answers : IsAnswered schema H client a.now v c r next → IsAnswered schema H' client a'.now v c r next' → next ≡ next'
-      answers (of_rows known says) (of_rows known' says') = both says says'
-      answers (of_rows known says) (of_watches says') = let word = watch_word schema H' client a'.now v c r next' says' in cc
-      answers (of_watches says) (of_rows known' says') = let word = watch_word schema H client a.now v c r next says in cc
-      answers (of_watches says) (of_watches says') = watch_next schema H H' client a.now a'.now v r next next' c says says'
+      answers : (c : Command) → IsAnswered schema H client now v c r next → IsAnswered schema H' client now' v c r next' → next ≡ next'
+      answers (command.Transaction t) is is' = turns (to_transact t) is is'
+      answers (command.Write w) is is' = both w is is'
+      answers (command.Defer text) is is' = turns (to_defer text) is is'
+      answers (command.Ask a) is is' = turns (to_ask a) is is'
+      answers (command.Name n) is is' = turns (to_name n) is is'
+      answers (command.Size set) is is' = turns (to_size set) is is'
+      answers (command.Watches w) is is' = watch_next schema H H' client now now' v r next next' w is is'
 
   one_entry : (k : ℕ) (v : Client) (c : Command) (r : Reply) (next next' : Client) → Answers schema H client v c r next → Answers schema H' client v c r next' → Contains (number_printed r) (suc k) → slice_get H k ≡ slice_get H' k
   one_entry k v c r next next' a a' here =
       let told = number_told r (suc k) here in
       let open_one = commit_told schema H client v next c r (suc k) a here in
       let stands : open_one.0.number ≡ k = (let e = open_one.2 in omega arith) in
-      entry_is H client k v.transaction r told.0 told.1 open_one.0 open_one.1 stands a.entry
-      ∙ sym (entry_is H' client k v.transaction r told.0 told.1 open_one.0 open_one.1 stands a'.entry)
+      entry_is H client k v.transaction r told open_one.0 open_one.1 stands a.entry
+      ∙ sym (entry_is H' client k v.transaction r told open_one.0 open_one.1 stands a'.entry)
 
   within_next : (k : ℕ) (v : Client) (c : Command) (r : Reply) (next : Client) → IsWithin k v → Answers schema H client v c r next → next.last ≤ k → IsWithin k next
   unfolding Within
-  within_next k v c r next within a le = of a.says
-    where
-      of : IsAnswered schema H client a.now v c r next → IsWithin k next
-      of (of_rows known says) = told_so (Within k v) schema H a.now v c r next says (next_within_told k schema H a.now v c within) (λ rule le'. within) le
-      of (of_watches says) = aside_within k a.now v r next (aside a.now v schema H client c r next says) within
+  within_next k v c r next within a le =
+      told_so schema H a.now v (Within k v) (each_within_told k schema H a.now v within) client c r next a.says (λ w says le'. aside_within k a.now v r next (aside a.now v schema H client w r next says) within) le
 
   same_entry : (k : ℕ) → k ≤ length H → k ≤ length H' → take k H ≡ take k H' → (ls : List Line) (rs : List Reply) (v end end' : Client) → IsWithin k v → StandsFrom v.last v.transaction → Runs schema H client v ls rs end → Runs schema H' client v ls rs end' → Contains (printed rs) (suc k) → slice_get H k ≡ slice_get H' k
   same_entry k there there' same [] [] v end end' within from runs runs' told = absurd (Contains-nil (suc k) told)
@@ -267,7 +249,7 @@ module _ (schema : DbSchema) (H H' : History) (client : ℕ) where
         let up : Rises v.last (r, next) = answered_rises schema H client a.now v l.command r next a.not_older from a.says in
         let above = above_each next.last (printed rs) (suc k) (all_rise schema H client next ls rs end runs up.stands) later in
         let within' : IsWithin k next = within_next k v l.command r next within a (omega arith) in
-        let is : next ≡ next' = next_same k there there' same v l.command r next next' within a a' in
+        let is : next ≡ next' = next_same k there there' same a.now a'.now v l.command r next next' within a.says a'.says in
         same_entry k there there' same ls rs next end end' within' up.stands runs (subst (λ (x : Client). Runs schema H' client x ls rs end') (sym is) runs') later
   ]
 

@@ -1,6 +1,6 @@
 -- What the lines of watches leave as it is, and that their replies tell what the client then knows.
 use Rattle.std.proofs.Common.{arith, ◌≡◌, refl, ap, subst, sym, ◌∙◌, ℕ, zero, suc, ◌+◌, ◌-◌, ◌<◌, ◌≤◌, ◌⊎◌, inl, inr, List, [], ◌∷◌, ◌++◌, length, take, Ok, Err, slice_get}
-use Rattle.std.specs.Prelude.{true, codes, is_some, not}
+use Rattle.std.specs.Prelude.{codes, is_some, not}
 use Rattle.mdb_datum.specs.Bytes.{Bytes}
 use Rattle.mdb_schema.specs.Answer.{Lookup, ask}
 use Rattle.mdb_schema.specs.Guarded.{IsGuarded}
@@ -8,42 +8,17 @@ use Rattle.mdb_schema.specs.History.{History, IsMadeBy, state_at}
 use Rattle.mdb_schema.specs.Query.{Query}
 use Rattle.mdb_schema.specs.Schema.{DbSchema}
 use Rattle.mdb_schema.specs.State.{State}
-use Rattle.mdb_schema.specs.Tests.{◌>>=◌, needed, passed}
+use Rattle.mdb_schema.specs.Tests.{◌>>=◌, passed}
 use Rattle.mdb_schema.specs.Touched.{Touch}
 use Rattle.mdb_schema.specs.Watchable.{HasFound, is_watchable}
 use Rattle.mdb_schema.specs.declared.answer.Answer.{Answer}
-use Rattle.client_script.specs.Client.{Client, Judged, Sight, Transaction, closed, no_write_open, reading, writing, Watch, WatchSet, snapshot_named, some_open, state_seen, watch_named}
+use Rattle.client_script.specs.Client.{Client, Judged, Sight, Transaction, closed, no_write_open, reading, writing, Watch, WatchSet, state_seen, watch_named}
 use Rattle.client_script.specs.Legal.{number_printed}
 use Rattle.client_script.specs.Reply.{Reply, answered, fired_at, quiet_at, refused, sized, stopped_at, woken_by}
-use Rattle.client_script.specs.Turn.{Turn, is_of_watches, outcome}
-use Rattle.client_script.specs.Watching.{AreQuiet, HasFired, IsAdded, IsChecked, IsJudged, IsQuiet, IsStopped, IsWatchTold, IsWoken, asked_watched, check_judged, limit_judged, set_called, set_for, size_turn, told_number, until_judged, wait_judged, watch_called, watch_turn, with_watch}
-use Rattle.client_script.specs.declared.command.Command.{Command}
-use Rattle.client_script.specs.declared.command.Command.TheVariants as command
-
--- ---- such a line is one of the six words
-
-pub watch_word : (schema : DbSchema) (H : History) (client now : ℕ) (v : Client) (c : Command) (r : Reply) (next : Client) → IsWatchTold schema H client now v c r next → is_of_watches c ≡ true
-watch_word schema H client now v command.Read r next told = absurd told
-watch_word schema H client now v command.Write r next told = absurd told
-watch_word schema H client now v command.End r next told = absurd told
-watch_word schema H client now v command.Commit r next told = absurd told
-watch_word schema H client now v command.Abort r next told = absurd told
-watch_word schema H client now v (command.Insert table row) r next told = absurd told
-watch_word schema H client now v (command.Delete table row) r next told = absurd told
-watch_word schema H client now v (command.DeleteAll q) r next told = absurd told
-watch_word schema H client now v (command.DeletePrefix q) r next told = absurd told
-watch_word schema H client now v (command.Defer text) r next told = absurd told
-watch_word schema H client now v (command.Question q) r next told = absurd told
-watch_word schema H client now v (command.Snapshot name) r next told = absurd told
-watch_word schema H client now v (command.InSnapshot name q) r next told = absurd told
-watch_word schema H client now v (command.Watch name q) r next told = refl
-watch_word schema H client now v (command.WatchIn name snapshot q) r next told = refl
-watch_word schema H client now v (command.Check name) r next told = refl
-watch_word schema H client now v (command.Add set name) r next told = refl
-watch_word schema H client now v (command.AddLimit set limit name other) r next told = refl
-watch_word schema H client now v (command.Size set) r next told = refl
-watch_word schema H client now v (command.Wait set) r next told = refl
-watch_word schema H client now v (command.WaitUntil set until) r next told = refl
+use Rattle.client_script.specs.Turn.{Turn, asked_watched, outcome, set_called, size_turn, watch_turn, with_watch}
+use Rattle.client_script.specs.Watching.{AreQuiet, HasFired, IsAdded, IsChecked, IsJudged, IsQuiet, IsStopped, IsWatchTold, IsWoken, check_judged, limit_judged, set_for, told_number, until_judged, wait_judged, watch_called}
+use Rattle.client_script.specs.declared.command.WatchesCommand.{WatchesCommand}
+use Rattle.client_script.specs.declared.command.WatchesCommand.TheVariants as watches_line
 
 -- ---- it leaves the transaction and the snapshots, and prints no commit
 
@@ -99,18 +74,23 @@ module _ (now : ℕ) (v : Client) where
   aside_then (Ok a) f each = each a
   aside_then (Err rule) f each = refused_aside rule
 
-  watch_aside : (schema : DbSchema) (H : History) (sight : Judged Sight) (name : Bytes) (q : Query) → Aside (outcome v (watch_turn schema H v sight name q))
+  watch_outcome : (schema : DbSchema) (H : History) (sight : Judged Sight) (name : Bytes) (q : Query) → Aside (outcome v (watch_turn schema H v sight name q))
   unfolding Aside
-  watch_aside schema H sight name q =
+  watch_outcome schema H sight name q =
       aside_then sight _ (λ s. aside_then (passed (codes "name-taken") (not (is_some (watch_named name v.watching.watches)))) _ (λ free. aside_then (passed (codes "uncommitted") (not s.uncommitted)) _ (λ committed. aside_then (asked_watched (is_watchable q.ask) (ask schema (state_seen schema H s) q)) (λ a. Ok (answered a, with_watch name q s.number v)) (λ a. record { transaction = refl; snapshots = refl; last = inl refl; reply = to_question a }))))
 
-  size_aside : (set : Bytes) → Aside (outcome v (size_turn v set))
+  size_outcome : (set : Bytes) → Aside (outcome v (size_turn v set))
   unfolding Aside
-  size_aside set = aside_then (set_called set v) (λ s. Ok (sized (length s.members), v)) (λ s. record { transaction = refl; snapshots = refl; last = inl refl; reply = to_set (length s.members) })
+  size_outcome set = aside_then (set_called set v) (λ s. Ok (sized (length s.members), v)) (λ s. record { transaction = refl; snapshots = refl; last = inl refl; reply = to_set (length s.members) })
 
-  by_outcome : (p : Reply × Client) (r : Reply) (next : Client) → p ≡ (r, next) → Aside p → IsAside now v r next
+  -- `watch` and `size` do the same
+  pub watch_aside : (schema : DbSchema) (H : History) (sight : Judged Sight) (name : Bytes) (q : Query) (r : Reply) (next : Client) → outcome v (watch_turn schema H v sight name q) ≡ (r, next) → IsAside now v r next
   unfolding Aside
-  by_outcome p r next is aside = subst Aside is aside
+  watch_aside schema H sight name q r next is = subst Aside is (watch_outcome schema H sight name q)
+
+  pub size_aside : (set : Bytes) (r : Reply) (next : Client) → outcome v (size_turn v set) ≡ (r, next) → IsAside now v r next
+  unfolding Aside
+  size_aside set r next is = subst Aside is (size_outcome set)
 
   by_judged : {A : Type 0} (j : Judged A) (r : Reply) (next : Client) (said : A → Type 0) → IsJudged v j r next said → ((a : A) → j ≡ Ok a → said a → IsAside now v r next) → IsAside now v r next
   by_judged (Ok a) r next said told each = each a refl told
@@ -135,28 +115,12 @@ module _ (now : ℕ) (v : Client) where
   added_aside set w r next (inl m) = subst (λ (x : Client). IsAside now v r x) (sym m.kept) (record { transaction = refl; snapshots = refl; last = inl refl; reply = subst IsWatchReply (sym m.reply) (to_set (length (set_for set v).members + 1)) })
   added_aside set w r next (inr d) = subst (λ (x : Client). IsAside now v r x) (sym d.kept) (record { transaction = refl; snapshots = refl; last = inl refl; reply = subst IsWatchReply (sym d.reply) (to_set (length (set_for set v).members)) })
 
-  pub aside : (schema : DbSchema) (H : History) (client : ℕ) (c : Command) (r : Reply) (next : Client) → IsWatchTold schema H client now v c r next → IsAside now v r next
-  aside schema H client command.Read r next told = absurd told
-  aside schema H client command.Write r next told = absurd told
-  aside schema H client command.End r next told = absurd told
-  aside schema H client command.Commit r next told = absurd told
-  aside schema H client command.Abort r next told = absurd told
-  aside schema H client (command.Insert table row) r next told = absurd told
-  aside schema H client (command.Delete table row) r next told = absurd told
-  aside schema H client (command.DeleteAll q) r next told = absurd told
-  aside schema H client (command.DeletePrefix q) r next told = absurd told
-  aside schema H client (command.Defer text) r next told = absurd told
-  aside schema H client (command.Question q) r next told = absurd told
-  aside schema H client (command.Snapshot name) r next told = absurd told
-  aside schema H client (command.InSnapshot name q) r next told = absurd told
-  aside schema H client (command.Watch name q) r next told = by_outcome _ r next told (watch_aside schema H (some_open v.transaction) name q)
-  aside schema H client (command.WatchIn name snapshot q) r next told = by_outcome _ r next told (watch_aside schema H (needed (codes "unknown-name") (snapshot_named snapshot v.snapshots)) name q)
-  aside schema H client (command.Check name) r next told = by_judged (check_judged v name) r next _ told (λ w is said. number_aside r next (free_then v.transaction (λ free. watch_called name v) w is) (checked_reply schema H client w r said.0) said.1)
-  aside schema H client (command.Add set name) r next told = by_judged (watch_called name v) r next _ told (λ w is said. added_aside set w r next said)
-  aside schema H client (command.AddLimit set limit name other) r next told = by_judged (limit_judged v set limit name other) r next _ told (λ w is said. added_aside set w r next said)
-  aside schema H client (command.Size set) r next told = by_outcome _ r next told (size_aside set)
-  aside schema H client (command.Wait set) r next told = by_judged (wait_judged v set) r next _ told (λ s is said. number_aside r next (free_then v.transaction (λ free. set_called set v) s is) (woken_reply schema H client s r said.0) said.1)
-  aside schema H client (command.WaitUntil set until) r next told = by_judged (until_judged v set until) r next _ told (λ p is said. number_aside r next (until_free v set until p is) (waited_reply schema H client p.0 p.1 r said.0) said.1)
+  pub aside : (schema : DbSchema) (H : History) (client : ℕ) (c : WatchesCommand) (r : Reply) (next : Client) → IsWatchTold schema H client now v c r next → IsAside now v r next
+  aside schema H client (watches_line.Check name) r next told = by_judged (check_judged v name) r next _ told (λ w is said. number_aside r next (free_then v.transaction (λ free. watch_called name v) w is) (checked_reply schema H client w r said.0) said.1)
+  aside schema H client (watches_line.Add set name) r next told = by_judged (watch_called name v) r next _ told (λ w is said. added_aside set w r next said)
+  aside schema H client (watches_line.AddLimit set limit name other) r next told = by_judged (limit_judged v set limit name other) r next _ told (λ w is said. added_aside set w r next said)
+  aside schema H client (watches_line.Wait set) r next told = by_judged (wait_judged v set) r next _ told (λ s is said. number_aside r next (free_then v.transaction (λ free. set_called set v) s is) (woken_reply schema H client s r said.0) said.1)
+  aside schema H client (watches_line.WaitUntil set until) r next told = by_judged (until_judged v set until) r next _ told (λ p is said. number_aside r next (until_free v set until p is) (waited_reply schema H client p.0 p.1 r said.0) said.1)
 
 -- ---- the reply tells what the client then knows, whatever the history
 
@@ -169,31 +133,7 @@ watch_number (stopped_at n) = n
 watch_number (sized k) = k
 watch_number r = 0
 
-Same : (p q : Reply × Client) → Type 0
-Same p q = p.0 ≡ q.0 → p.1 ≡ q.1
-
-same_then : {A : Type 0} (v : Client) (j : Judged A) (f g : A → Turn) → ((a : A) → Same (outcome v (f a)) (outcome v (g a))) → Same (outcome v (j >>= f)) (outcome v (j >>= g))
-unfolding Same
-same_then v (Ok a) f g each = each a
-same_then v (Err rule) f g each = λ e. refl
-
-same_answer : (v next : Client) (j j' : Judged Answer) → Same (outcome v (j >>= (λ a. Ok (answered a, next)))) (outcome v (j' >>= (λ a. Ok (answered a, next))))
-unfolding Same
-same_answer v next (Ok a) (Ok b) = λ e. refl
-same_answer v next (Ok a) (Err rule) = λ e. cc
-same_answer v next (Err rule) (Ok b) = λ e. cc
-same_answer v next (Err rule) (Err rule') = λ e. refl
-
 module _ (schema : DbSchema) (H H' : History) (client now now' : ℕ) (v : Client) (r : Reply) (next next' : Client) where
-  by_outcomes : (p q : Reply × Client) → p ≡ (r, next) → q ≡ (r, next') → Same p q → next ≡ next'
-  unfolding Same
-  by_outcomes p q is is' same = sym (ap (λ (x : Reply × Client). x.1) is) ∙ same (ap (λ (x : Reply × Client). x.0) is ∙ sym (ap (λ (x : Reply × Client). x.0) is')) ∙ ap (λ (x : Reply × Client). x.1) is'
-
-  watch_same : (sight : Judged Sight) (name : Bytes) (q : Query) → Same (outcome v (watch_turn schema H v sight name q)) (outcome v (watch_turn schema H' v sight name q))
-  unfolding Same
-  watch_same sight name q =
-      same_then v sight _ _ (λ s. same_then v (passed (codes "name-taken") (not (is_some (watch_named name v.watching.watches)))) _ _ (λ free. same_then v (passed (codes "uncommitted") (not s.uncommitted)) _ _ (λ committed. same_answer v (with_watch name q s.number v) (asked_watched (is_watchable q.ask) (ask schema (state_seen schema H s) q)) (asked_watched (is_watchable q.ask) (ask schema (state_seen schema H' s) q)))))
-
   by_both : {A : Type 0} (j : Judged A) (said said' : A → Type 0) → IsJudged v j r next said → IsJudged v j r next' said' → ((a : A) → said a → said' a → next ≡ next') → next ≡ next'
   by_both (Ok a) said said' told told' each = each a told told'
   by_both (Err rule) said said' told told' each = told.1 ∙ sym told'.1
@@ -225,28 +165,12 @@ module _ (schema : DbSchema) (H H' : History) (client now now' : ℕ) (v : Clien
   added_same set w (inr d) (inl m') = absurd (one_more (length (set_for set v).members) (ap watch_number m'.reply) (ap watch_number d.reply))
   added_same set w (inr d) (inr d') = d.kept ∙ sym d'.kept
 
-  pub watch_next : (c : Command) → IsWatchTold schema H client now v c r next → IsWatchTold schema H' client now' v c r next' → next ≡ next'
-  watch_next command.Read told told' = absurd told
-  watch_next command.Write told told' = absurd told
-  watch_next command.End told told' = absurd told
-  watch_next command.Commit told told' = absurd told
-  watch_next command.Abort told told' = absurd told
-  watch_next (command.Insert table row) told told' = absurd told
-  watch_next (command.Delete table row) told told' = absurd told
-  watch_next (command.DeleteAll q) told told' = absurd told
-  watch_next (command.DeletePrefix q) told told' = absurd told
-  watch_next (command.Defer text) told told' = absurd told
-  watch_next (command.Question q) told told' = absurd told
-  watch_next (command.Snapshot name) told told' = absurd told
-  watch_next (command.InSnapshot name q) told told' = absurd told
-  watch_next (command.Watch name q) told told' = by_outcomes _ _ told told' (watch_same (some_open v.transaction) name q)
-  watch_next (command.WatchIn name snapshot q) told told' = by_outcomes _ _ told told' (watch_same (needed (codes "unknown-name") (snapshot_named snapshot v.snapshots)) name q)
-  watch_next (command.Check name) told told' = by_both (check_judged v name) _ _ told told' (λ w s s'. by_number (checked_number H now w s.0) (checked_number H' now' w s'.0) s.1 s'.1)
-  watch_next (command.Add set name) told told' = by_both (watch_called name v) _ _ told told' (λ w s s'. added_same set w s s')
-  watch_next (command.AddLimit set limit name other) told told' = by_both (limit_judged v set limit name other) _ _ told told' (λ w s s'. added_same set w s s')
-  watch_next (command.Size set) told told' = ap (λ (x : Reply × Client). x.1) (sym told ∙ told')
-  watch_next (command.Wait set) told told' = by_both (wait_judged v set) _ _ told told' (λ s t t'. by_number (woken_number H now s t.0) (woken_number H' now' s t'.0) t.1 t'.1)
-  watch_next (command.WaitUntil set until) told told' = by_both (until_judged v set until) _ _ told told' (λ p t t'. by_number (waited_number H now p.0 p.1 t.0) (waited_number H' now' p.0 p.1 t'.0) t.1 t'.1)
+  pub watch_next : (c : WatchesCommand) → IsWatchTold schema H client now v c r next → IsWatchTold schema H' client now' v c r next' → next ≡ next'
+  watch_next (watches_line.Check name) told told' = by_both (check_judged v name) _ _ told told' (λ w s s'. by_number (checked_number H now w s.0) (checked_number H' now' w s'.0) s.1 s'.1)
+  watch_next (watches_line.Add set name) told told' = by_both (watch_called name v) _ _ told told' (λ w s s'. added_same set w s s')
+  watch_next (watches_line.AddLimit set limit name other) told told' = by_both (limit_judged v set limit name other) _ _ told told' (λ w s s'. added_same set w s s')
+  watch_next (watches_line.Wait set) told told' = by_both (wait_judged v set) _ _ told told' (λ s t t'. by_number (woken_number H now s t.0) (woken_number H' now' s t'.0) t.1 t'.1)
+  watch_next (watches_line.WaitUntil set until) told told' = by_both (until_judged v set until) _ _ told told' (λ p t t'. by_number (waited_number H now p.0 p.1 t.0) (waited_number H' now' p.0 p.1 t'.0) t.1 t'.1)
 
 -- ---- a longer history
 
@@ -330,29 +254,12 @@ module _ (schema : DbSchema) (H more : History) (client : ℕ) (states : (n : �
     by_said (Ok a) r next said said' each is = each a is
     by_said (Err rule) r next said said' each is = is
 
-    -- a watch is asked of a state that is there
-    pub watch_line_longer : (c : Command) (r : Reply) (next : Client) → ((sight : Judged Sight) (name : Bytes) (q : Query) → (sight ≡ some_open v.transaction) ⊎ ((snapshot : Bytes) × (sight ≡ needed (codes "unknown-name") (snapshot_named snapshot v.snapshots))) → watch_turn schema (H ++ more) v sight name q ≡ watch_turn schema H v sight name q) → IsWatchTold schema H client now v c r next → IsWatchTold schema (H ++ more) client now v c r next
-    watch_line_longer command.Read r next same is = absurd is
-    watch_line_longer command.Write r next same is = absurd is
-    watch_line_longer command.End r next same is = absurd is
-    watch_line_longer command.Commit r next same is = absurd is
-    watch_line_longer command.Abort r next same is = absurd is
-    watch_line_longer (command.Insert table row) r next same is = absurd is
-    watch_line_longer (command.Delete table row) r next same is = absurd is
-    watch_line_longer (command.DeleteAll q) r next same is = absurd is
-    watch_line_longer (command.DeletePrefix q) r next same is = absurd is
-    watch_line_longer (command.Defer text) r next same is = absurd is
-    watch_line_longer (command.Question q) r next same is = absurd is
-    watch_line_longer (command.Snapshot name) r next same is = absurd is
-    watch_line_longer (command.InSnapshot name q) r next same is = absurd is
-    watch_line_longer (command.Watch name q) r next same is = ap (outcome v) (same (some_open v.transaction) name q (inl refl)) ∙ is
-    watch_line_longer (command.WatchIn name snapshot q) r next same is = ap (outcome v) (same (needed (codes "unknown-name") (snapshot_named snapshot v.snapshots)) name q (inr (snapshot, refl))) ∙ is
-    watch_line_longer (command.Check name) r next same is = by_said (check_judged v name) r next _ _ (λ w s. (checked_longer now w r there s.0, s.1)) is
-    watch_line_longer (command.Add set name) r next same is = is
-    watch_line_longer (command.AddLimit set limit name other) r next same is = is
-    watch_line_longer (command.Size set) r next same is = is
-    watch_line_longer (command.Wait set) r next same is = by_said (wait_judged v set) r next _ _ (λ s t. (woken_longer s r t.0, t.1)) is
-    watch_line_longer (command.WaitUntil set until) r next same is = by_said (until_judged v set until) r next _ _ (λ p t. (either p.0 p.1 r t.0, t.1)) is
+    pub watch_line_longer : (c : WatchesCommand) (r : Reply) (next : Client) → IsWatchTold schema H client now v c r next → IsWatchTold schema (H ++ more) client now v c r next
+    watch_line_longer (watches_line.Check name) r next is = by_said (check_judged v name) r next _ _ (λ w s. (checked_longer now w r there s.0, s.1)) is
+    watch_line_longer (watches_line.Add set name) r next is = is
+    watch_line_longer (watches_line.AddLimit set limit name other) r next is = is
+    watch_line_longer (watches_line.Wait set) r next is = by_said (wait_judged v set) r next _ _ (λ s t. (woken_longer s r t.0, t.1)) is
+    watch_line_longer (watches_line.WaitUntil set until) r next is = by_said (until_judged v set until) r next _ _ (λ p t. (either p.0 p.1 r t.0, t.1)) is
       where
         either : (s : WatchSet) (w : Watch) (r : Reply) → IsWoken schema H client now v s r ⊎ IsStopped schema H client now v s w r → IsWoken schema (H ++ more) client now v s r ⊎ IsStopped schema (H ++ more) client now v s w r
         either s w r (inl woken) = inl (woken_longer s r woken)

@@ -15,23 +15,30 @@ use Rattle.client_script.specs.Parts.{next_word, something, nothing, name_in, ro
 use Rattle.client_script.specs.Refusal.{Ruled, unknown_word, bad_shape}
 use Rattle.client_script.specs.declared.command.Command.{Command}
 use Rattle.client_script.specs.declared.command.Command.TheVariants as command
+use Rattle.client_script.specs.declared.command.AskCommand.TheVariants as ask_line
+use Rattle.client_script.specs.declared.command.NameCommand.TheVariants as name_line
+use Rattle.client_script.specs.declared.command.TransactionCommand.{TransactionCommand}
+use Rattle.client_script.specs.declared.command.TransactionCommand.TheVariants as transaction_line
+use Rattle.client_script.specs.declared.command.WatchesCommand.TheVariants as watches_line
+use Rattle.client_script.specs.declared.command.WriteCommand.{WriteCommand}
+use Rattle.client_script.specs.declared.command.WriteCommand.TheVariants as write_line
 use Rattle.client_script.specs.declared.command_word.CommandWord.{CommandWord}
 use Rattle.client_script.specs.declared.command_word.CommandWord.TheVariants as word
 
 -- `read`, `write`, `end`, `commit`, `abort`: a word alone
-abbrev pub alone : Command → Bytes → Ruled Command
+abbrev pub alone : TransactionCommand → Bytes → Ruled Command
 alone c rest = do
   end ← nothing rest
-  Ok c
+  Ok (command.Transaction c)
 
 -- `insert TABLE DOC`, `delete TABLE DOC`
-abbrev pub of_row : (Bytes → Fields → Command) → Bytes → Ruled Command
+abbrev pub of_row : (Bytes → Fields → WriteCommand) → Bytes → Ruled Command
 of_row make rest = do
   table ← next_word rest
   doc ← something table.rest
   name ← name_in table.text
   row ← row_in doc
-  Ok (make name row)
+  Ok (command.Write (make name row))
 
 -- `delete-all TABLE INDEX ARGS`, `delete-prefix TABLE INDEX ARGS`, and a question behind its word
 abbrev pub of_query : (Query → Command) → Ask → Bytes → Ruled Command
@@ -61,7 +68,7 @@ of_snapshot rest = do
   q ← question_in w.rest
   name ← name_in w.text
   query ← query_in q
-  Ok (command.InSnapshot name query)
+  Ok (command.Ask (ask_line.InSnapshot name query))
 
 -- `watch NAME QUESTION`, behind the name and the next word
 abbrev pub watch_of : Word → Word → Ruled Command
@@ -69,7 +76,7 @@ watch_of w asked = do
   q ← question_by asked
   name ← name_in w.text
   query ← query_in q
-  Ok (command.Watch name query)
+  Ok (command.Name (name_line.Watch name query))
 
 -- `watch NAME in NAME QUESTION`, behind `in`
 abbrev pub watch_in : Word → Bytes → Ruled Command
@@ -79,7 +86,7 @@ watch_in w rest = do
   name ← name_in w.text
   snapshot ← name_in s.text
   query ← query_in q
-  Ok (command.WatchIn name snapshot query)
+  Ok (command.Name (name_line.WatchIn name snapshot query))
 
 -- `in` behind the name of a watch always begins the form with a snapshot
 abbrev pub of_watch : Bytes → Ruled Command
@@ -96,7 +103,7 @@ of_add rest = do
   end ← nothing w.rest
   set ← name_in s.text
   name ← name_in w.text
-  Ok (command.Add set name)
+  Ok (command.Watches (watches_line.Add set name))
 
 -- `add-limit SET LIMIT NAME NAME`
 abbrev pub of_add_limit : Bytes → Ruled Command
@@ -110,7 +117,7 @@ of_add_limit rest = do
   set ← name_in s.text
   name ← name_in w.text
   other ← name_in o.text
-  Ok (command.AddLimit set limit name other)
+  Ok (command.Watches (watches_line.AddLimit set limit name other))
 
 -- `wait SET until NAME`, behind the set
 abbrev pub wait_until : Word → Bytes → Ruled Command
@@ -121,13 +128,13 @@ wait_until s rest = do
   end ← nothing w.rest
   set ← name_in s.text
   name ← name_in w.text
-  Ok (command.WaitUntil set name)
+  Ok (command.Watches (watches_line.WaitUntil set name))
 
 -- `wait SET`, behind the set, where nothing follows
 abbrev pub wait_alone : Word → Ruled Command
 wait_alone s = do
   set ← name_in s.text
-  Ok (command.Wait set)
+  Ok (command.Watches (watches_line.Wait set))
 
 abbrev pub wait_for : Word → Bytes → Ruled Command
 wait_for s [] = wait_alone s
@@ -140,21 +147,22 @@ of_wait rest = do
 
 -- behind the first word; a wipe keeps its question as that of `get`, which lists the rows
 abbrev pub command_of : CommandWord → Bytes → Ruled Command
-command_of word.Read rest = alone command.Read rest
-command_of word.Write rest = alone command.Write rest
-command_of word.End rest = alone command.End rest
-command_of word.Commit rest = alone command.Commit rest
-command_of word.Abort rest = alone command.Abort rest
-command_of word.Insert rest = of_row command.Insert rest
-command_of word.Delete rest = of_row command.Delete rest
-command_of word.DeleteAll rest = of_query command.DeleteAll Get rest
-command_of word.DeletePrefix rest = of_query command.DeletePrefix Get rest
+command_of word.Read rest = alone transaction_line.Read rest
+command_of word.Write rest = alone transaction_line.Write rest
+command_of word.End rest = alone transaction_line.End rest
+command_of word.Commit rest = alone transaction_line.Commit rest
+command_of word.Abort rest = alone transaction_line.Abort rest
+command_of word.Insert rest = of_row write_line.Insert rest
+command_of word.Delete rest = of_row write_line.Delete rest
+command_of word.DeleteAll rest = of_query (λ q. command.Write (write_line.DeleteAll q)) Get rest
+command_of word.DeletePrefix rest =
+    of_query (λ q. command.Write (write_line.DeletePrefix q)) Get rest
 command_of word.Defer rest = of_text rest
-command_of (word.Question a) rest = of_query command.Question a rest
-command_of word.Snapshot rest = of_name command.Snapshot rest
+command_of (word.Question a) rest = of_query (λ q. command.Ask (ask_line.Question q)) a rest
+command_of word.Snapshot rest = of_name (λ name. command.Name (name_line.Snapshot name)) rest
 command_of word.In rest = of_snapshot rest
 command_of word.Watch rest = of_watch rest
-command_of word.Check rest = of_name command.Check rest
+command_of word.Check rest = of_name (λ name. command.Watches (watches_line.Check name)) rest
 command_of word.Add rest = of_add rest
 command_of word.AddLimit rest = of_add_limit rest
 command_of word.Size rest = of_name command.Size rest

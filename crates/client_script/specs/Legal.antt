@@ -11,7 +11,7 @@ use Rattle.client_script.specs.declared.line.Line.{Line}
 
 -- the number that a reply prints for a new commit
 abbrev pub number_printed : Reply → List ℕ
-number_printed (committed m texts) = m ∷ []
+number_printed (committed m changed texts) = m ∷ []
 number_printed r = []
 
 abbrev pub printed : List Reply → List ℕ

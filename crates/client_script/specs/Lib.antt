@@ -3,6 +3,7 @@ pub mod Client
 pub mod CommandWord
 pub mod Grammar
 pub mod inner
+pub mod Laws
 pub mod Legal
 pub mod Lines
 pub mod Parts

@@ -1,5 +1,5 @@
 -- The answers to a client's lines, and their text.
-use Rattle.std.specs.Prelude.{◌+◌, ℕ, List, [], ◌∷◌, ◌++◌, length, Some, None, codes, decimal}
+use Rattle.std.specs.Prelude.{◌+◌, ℕ, List, [], ◌∷◌, ◌++◌, length, Option, Some, None, codes, decimal}
 use Rattle.mdb_datum.specs.Bytes.{Bytes}
 use Rattle.mdb_datum.specs.Row.{Fields}
 use Rattle.mdb_datum.specs.Written.{row_text}
@@ -7,13 +7,21 @@ use Rattle.mdb_schema.specs.declared.answer.Answer.{Answer}
 use Rattle.mdb_schema.specs.declared.answer.Answer.TheVariants.{One, Many}
 use Rattle.client_script.specs.declared.line.Line.{Line}
 
+-- what became of a row of a tracked table, by the table's name: the row before and the row after, if
+-- there is one
+pub record Changed : Type 0 where
+  pub table : Bytes
+  pub before : Option Fields
+  pub after : Option Fields
+
 pub data Reply : Type 0 where
   -- the number of the commit on which a transaction stands
   read_at : ℕ → Reply
   write_at : ℕ → Reply
   ended : Reply
-  -- the number of a new commit, and the deferred texts, the last first
-  committed : ℕ → List Bytes → Reply
+  -- the number of a new commit, what it changed in tracked tables, and the deferred texts, the last
+  -- first
+  committed : ℕ → List Changed → List Bytes → Reply
   aborted : Reply
   inserted : Reply
   replaced : Reply
@@ -42,6 +50,22 @@ pub data Reply : Type 0 where
 abbrev pub further : Bytes → Bytes
 further text = 10 ∷ 32 ∷ 32 ∷ text
 
+-- a row, or that there is none
+abbrev pub row_or_none : Option Fields → Bytes
+row_or_none None = codes "none"
+row_or_none (Some r) = row_text r
+
+-- changed TABLE BEFORE AFTER
+abbrev pub change_text : Changed → Bytes
+change_text c =
+    codes "changed "
+    ++ (c.table ++ (32 ∷ (row_or_none c.before ++ (32 ∷ row_or_none c.after))))
+
+-- a line for each change
+abbrev pub changed_lines : List Changed → Bytes
+changed_lines [] = []
+changed_lines (c ∷ cs) = further (change_text c) ++ changed_lines cs
+
 -- a line for each deferred text
 abbrev pub did_lines : List Bytes → Bytes
 did_lines [] = []
@@ -61,7 +85,8 @@ abbrev pub reply_text : Reply → Bytes
 reply_text (read_at n) = codes "read @" ++ decimal n
 reply_text (write_at n) = codes "write @" ++ decimal n
 reply_text ended = codes "ended"
-reply_text (committed n texts) = codes "commit @" ++ (decimal n ++ did_lines texts)
+reply_text (committed n changed texts) =
+    codes "commit @" ++ (decimal n ++ (changed_lines changed ++ did_lines texts))
 reply_text aborted = codes "aborted"
 reply_text inserted = codes "inserted"
 reply_text replaced = codes "replaced"

@@ -1,13 +1,14 @@
 -- The replies that a client may be given, line by line, in a database with a given history.
-use Rattle.std.specs.Prelude.{◌≡◌, ◌≤◌, ◌+◌, ℕ, false, List, [], ◌∷◌, length, Some, slice_get, ⊤}
+use Rattle.std.specs.Prelude.{◌≡◌, ◌≤◌, ◌+◌, ℕ, List, [], ◌∷◌, length, Some, slice_get, ⊤}
 use Rattle.mdb_schema.specs.History.{History}
 use Rattle.mdb_schema.specs.Schema.{DbSchema}
 use Rattle.client_script.specs.Client.{Client, Transaction, closed, reading, writing, at_start}
 use Rattle.client_script.specs.Reply.{Reply, committed}
-use Rattle.client_script.specs.Spent.{IsTold}
-use Rattle.client_script.specs.Turn.{is_of_watches}
+use Rattle.client_script.specs.Spent.{IsWriteTold}
+use Rattle.client_script.specs.Turn.{transaction_turn, defer_turn, ask_turn, name_turn, size_turn, outcome}
 use Rattle.client_script.specs.Watching.{IsWatchTold}
 use Rattle.client_script.specs.declared.command.Command.{Command}
+use Rattle.client_script.specs.declared.command.Command.TheVariants as command
 use Rattle.client_script.specs.declared.line.Line.{Line}
 
 -- the commit that ends a write transaction is the history's entry of its number: this client, with
@@ -20,21 +21,24 @@ IsCommit H client (writing t) =
 
 -- so a commit that is printed is an entry
 abbrev pub IsEntry : History → ℕ → Transaction → Reply → Type 0
-IsEntry H client t (committed m texts) = IsCommit H client t
+IsEntry H client t (committed m changed texts) = IsCommit H client t
 IsEntry H client t r = ⊤
 
--- no line has one of the six words of watches
-abbrev pub AreKnown : List Line → Type 0
-AreKnown [] = ⊤
-AreKnown (l ∷ ls) = (is_of_watches l.command ≡ false) × AreKnown ls
-
--- a line is told so after `now` commits
-pub data IsAnswered (schema : DbSchema) (H : History) (client now : ℕ) (v : Client) (c : Command)
-    (r : Reply) (next : Client) : Type 0 where
-  of_rows : is_of_watches c ≡ false → IsTold schema H now v c r next
-      → IsAnswered schema H client now v c r next
-  of_watches : IsWatchTold schema H client now v c r next
-      → IsAnswered schema H client now v c r next
+-- a line is answered so after `now` commits, by its group
+abbrev pub IsAnswered : DbSchema → History → ℕ → ℕ → Client → Command → Reply → Client → Type 0
+IsAnswered schema H client now v (command.Transaction t) r next =
+    outcome v (transaction_turn schema H now v t) ≡ (r, next)
+IsAnswered schema H client now v (command.Write w) r next = IsWriteTold schema H v w r next
+IsAnswered schema H client now v (command.Defer text) r next =
+    outcome v (defer_turn v text) ≡ (r, next)
+IsAnswered schema H client now v (command.Ask a) r next =
+    outcome v (ask_turn schema H v a) ≡ (r, next)
+IsAnswered schema H client now v (command.Name n) r next =
+    outcome v (name_turn schema H v n) ≡ (r, next)
+IsAnswered schema H client now v (command.Size set) r next =
+    outcome v (size_turn v set) ≡ (r, next)
+IsAnswered schema H client now v (command.Watches w) r next =
+    IsWatchTold schema H client now v w r next
 
 -- a line is answered so, after some number of commits: as many as the client was told of or more
 pub record Answers (schema : DbSchema) (H : History) (client : ℕ) (v : Client) (c : Command)

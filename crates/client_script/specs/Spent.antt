@@ -1,20 +1,11 @@
--- What a line may be told in place of its turn: that there are too few ids for what it writes.
-use Rattle.std.specs.Prelude.{◌≡◌, ◌≢◌, ◌≤◌, ◌+◌, ◌^◌, ℕ, Bool, true, false, List, [], ◌∷◌, length, take, Ok, codes, ⊤}
+-- What a line that writes rows may be told in place of its turn: that there are too few ids.
+use Rattle.std.specs.Prelude.{◌≡◌, ◌≢◌, ◌≤◌, ◌+◌, ◌^◌, List, [], ◌∷◌, length, take, Ok, codes, ⊤}
 use Rattle.mdb_schema.specs.History.{History, writes_in}
 use Rattle.mdb_schema.specs.Schema.{DbSchema}
 use Rattle.client_script.specs.Client.{Client, Writing, writing}
 use Rattle.client_script.specs.Reply.{Reply, refused}
-use Rattle.client_script.specs.Turn.{turn, outcome}
-use Rattle.client_script.specs.declared.command.Command.{Command}
-use Rattle.client_script.specs.declared.command.Command.TheVariants as command
-
--- a line that writes rows
-abbrev pub is_write : Command → Bool
-is_write (command.Insert table row) = true
-is_write (command.Delete table row) = true
-is_write (command.DeleteAll q) = true
-is_write (command.DeletePrefix q) = true
-is_write c = false
+use Rattle.client_script.specs.Turn.{write_turn, outcome}
+use Rattle.client_script.specs.declared.command.WriteCommand.{WriteCommand}
 
 abbrev pub ids_spent : Reply
 ids_spent = refused (codes "ids-spent")
@@ -25,24 +16,23 @@ IsFull H t = 2 ^ 36 ≤ writes_in (take t.number H) + length t.writes
 
 -- A line that writes rows and breaks no rule is told that there are too few ids, and changes
 -- nothing. It may be told so only where the transaction would be full with the writes of this line.
-pub record IsSpent (schema : DbSchema) (H : History) (now : ℕ) (v : Client) (c : Command)
-    (r : Reply) (next : Client) : Type 0 where
-  pub write : is_write c ≡ true
+pub record IsSpent (schema : DbSchema) (H : History) (v : Client) (w : WriteCommand) (r : Reply)
+    (next : Client) : Type 0 where
   pub reply : r ≡ ids_spent
   pub same : next ≡ v
   -- its turn's reply, what the client would know then, and its transaction then
   pub ruled : Reply
   pub after : Client
-  pub allowed : turn schema H now v c ≡ Ok (ruled, after)
+  pub allowed : write_turn schema H v w ≡ Ok (ruled, after)
   pub opened : Writing
   pub transaction : after.transaction ≡ writing opened
   pub full : IsFull H opened
 
--- what a line is told: its turn, or that there are too few ids
-pub data IsTold (schema : DbSchema) (H : History) (now : ℕ) (v : Client) (c : Command) (r : Reply)
+-- what a line that writes rows is told: its turn, or that there are too few ids
+pub data IsWriteTold (schema : DbSchema) (H : History) (v : Client) (w : WriteCommand) (r : Reply)
     (next : Client) : Type 0 where
-  by_turn : outcome v (turn schema H now v c) ≡ (r, next) → IsTold schema H now v c r next
-  without_ids : IsSpent schema H now v c r next → IsTold schema H now v c r next
+  by_turn : outcome v (write_turn schema H v w) ≡ (r, next) → IsWriteTold schema H v w r next
+  without_ids : IsSpent schema H v w r next → IsWriteTold schema H v w r next
 
 -- no line is told that there are too few ids
 abbrev pub HaveIds : List Reply → Type 0

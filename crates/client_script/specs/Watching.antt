@@ -1,21 +1,20 @@
--- What the lines of watches are told: `watch`, `check`, `add`, `add-limit`, `size` and `wait`.
-use Rattle.std.specs.Prelude.{◌≡◌, ◌⊎◌, ◌+◌, ◌++◌, ℕ, Bool, true, false, not, nat_lt, List, [], ◌∷◌, length, take, Contains, Option, Some, None, is_some, Ok, Err, slice_get, codes, if◌then◌else◌, ⊤}
+-- What the lines are told that look at watches, or add them to sets: `check`, `add`, `add-limit` and
+-- `wait`.
+use Rattle.std.specs.Prelude.{◌≡◌, ◌⊎◌, ◌+◌, ◌++◌, ℕ, nat_lt, List, [], ◌∷◌, length, take, Contains, Option, Some, None, Ok, Err, slice_get, codes, if◌then◌else◌, ⊤}
 use Rattle.std.specs.Str.{bytes_eq}
 use Rattle.mdb_datum.specs.Bytes.{Bytes}
-use Rattle.mdb_schema.specs.Answer.{Asked, ask, own_name, unknown_table}
+use Rattle.mdb_schema.specs.Answer.{own_name}
 use Rattle.mdb_schema.specs.Guarded.{IsUnchanged}
 use Rattle.mdb_schema.specs.History.{History}
 use Rattle.mdb_schema.specs.Query.{Query}
 use Rattle.mdb_schema.specs.Schema.{DbSchema}
-use Rattle.mdb_schema.specs.Tests.{◌>>=◌, needed, passed}
-use Rattle.mdb_schema.specs.Watchable.{IsTouched, is_watchable}
-use Rattle.mdb_schema.specs.declared.answer.Answer.{Answer}
-use Rattle.client_script.specs.Client.{Client, Judged, Sight, Watch, WatchSet, no_write_open, set_named, snapshot_named, some_open, state_seen, watch_named}
-use Rattle.client_script.specs.RefusedWord.{question_word}
-use Rattle.client_script.specs.Reply.{Reply, answered, fired_at, quiet_at, refused, sized, stopped_at, woken_by}
-use Rattle.client_script.specs.Turn.{Turn, asked, outcome}
-use Rattle.client_script.specs.declared.command.Command.{Command}
-use Rattle.client_script.specs.declared.command.Command.TheVariants as command
+use Rattle.mdb_schema.specs.Tests.{◌>>=◌, needed}
+use Rattle.mdb_schema.specs.Watchable.{IsTouched}
+use Rattle.client_script.specs.Client.{Client, Judged, Watch, WatchSet, no_write_open, set_named, watch_named}
+use Rattle.client_script.specs.Reply.{Reply, fired_at, quiet_at, refused, sized, stopped_at, woken_by}
+use Rattle.client_script.specs.Turn.{set_called}
+use Rattle.client_script.specs.declared.command.WatchesCommand.{WatchesCommand}
+use Rattle.client_script.specs.declared.command.WatchesCommand.TheVariants as watches_line
 
 -- ---- quiet and fired
 
@@ -39,15 +38,6 @@ HasFired schema H w n = IsTouched schema H w.query w.number n
 abbrev pub told_number : ℕ → Client → Client
 told_number now v = record v { last = now }
 
--- it has a further watch
-abbrev pub with_watch : Bytes → Query → ℕ → Client → Client
-with_watch name q number v = record v {
-  watching = record {
-    watches = v.watching.watches ++ record { name = name; query = q; number = number } ∷ [];
-    sets = v.watching.sets;
-  };
-}
-
 -- the sets with this one in the place of the one of its name, or at the end
 abbrev pub put_set : WatchSet → List WatchSet → List WatchSet
 put_set s [] = s ∷ []
@@ -68,35 +58,11 @@ set_for name v = set_or_new name (set_named name v.watching.sets)
 
 -- ---- rules
 
--- the watch, the set of a name
+-- the watch of a name
 abbrev pub watch_called : Bytes → Client → Judged Watch
 watch_called name v = needed (codes "unknown-name") (watch_named name v.watching.watches)
 
-abbrev pub set_called : Bytes → Client → Judged WatchSet
-set_called name v = needed (codes "unknown-name") (set_named name v.watching.sets)
-
--- what a question gives that is asked with a watch: that its table isn't there is told first, and
--- then that it isn't watched
-abbrev pub asked_watched : Bool → Asked Answer → Judged Answer
-asked_watched watchable (Err unknown_table) = Err (question_word unknown_table)
-asked_watched false a = Err (codes "unwatchable")
-asked_watched true a = asked a
-
 -- ---- turns
-
--- a question of the rows that are seen, which are committed, whose watch is kept under a new name
-abbrev pub watch_turn : DbSchema → History → Client → Judged Sight → Bytes → Query → Turn
-watch_turn schema H v sight name q = do
-  s ← sight
-  free ← passed (codes "name-taken") (not (is_some (watch_named name v.watching.watches)))
-  committed ← passed (codes "uncommitted") (not s.uncommitted)
-  a ← asked_watched (is_watchable q.ask) (ask schema (state_seen schema H s) q)
-  Ok (answered a, with_watch name q s.number v)
-
-abbrev pub size_turn : Client → Bytes → Turn
-size_turn v name = do
-  s ← set_called name v
-  Ok (sized (length s.members), v)
 
 -- no write transaction is open, and there is a watch of this name
 abbrev pub check_judged : Client → Bytes → Judged Watch
@@ -191,26 +157,21 @@ pub record IsStopped (schema : DbSchema) (H : History) (client now : ℕ) (v : C
   pub quiet : AreQuiet schema H client s.members v.last
   pub reply : r ≡ stopped_at now
 
--- A line of watches is told so, after `now` commits. A check and a wait tell that number.
-abbrev pub IsWatchTold : DbSchema → History → ℕ → ℕ → Client → Command → Reply → Client → Type 0
-IsWatchTold schema H client now v (command.Watch name q) r next =
-    outcome v (watch_turn schema H v (some_open v.transaction) name q) ≡ (r, next)
-IsWatchTold schema H client now v (command.WatchIn name snapshot q) r next =
-    let sight = needed (codes "unknown-name") (snapshot_named snapshot v.snapshots) in
-    outcome v (watch_turn schema H v sight name q) ≡ (r, next)
-IsWatchTold schema H client now v (command.Check name) r next =
+-- A line that looks at watches, or adds one to a set, is told so after `now` commits. A check and a
+-- wait tell that number.
+abbrev pub IsWatchTold :
+    DbSchema → History → ℕ → ℕ → Client → WatchesCommand → Reply → Client → Type 0
+IsWatchTold schema H client now v (watches_line.Check name) r next =
     IsJudged v (check_judged v name) r next
     (λ w. IsChecked schema H client now w r × (next ≡ told_number now v))
-IsWatchTold schema H client now v (command.Add set name) r next =
+IsWatchTold schema H client now v (watches_line.Add set name) r next =
     IsJudged v (watch_called name v) r next (λ w. IsAdded set w v r next)
-IsWatchTold schema H client now v (command.AddLimit set limit name other) r next =
+IsWatchTold schema H client now v (watches_line.AddLimit set limit name other) r next =
     IsJudged v (limit_judged v set limit name other) r next (λ w. IsAdded set w v r next)
-IsWatchTold schema H client now v (command.Size set) r next = outcome v (size_turn v set) ≡ (r, next)
-IsWatchTold schema H client now v (command.Wait set) r next =
+IsWatchTold schema H client now v (watches_line.Wait set) r next =
     IsJudged v (wait_judged v set) r next
     (λ s. IsWoken schema H client now v s r × (next ≡ told_number now v))
-IsWatchTold schema H client now v (command.WaitUntil set until) r next =
+IsWatchTold schema H client now v (watches_line.WaitUntil set until) r next =
     IsJudged v (until_judged v set until) r next
     (λ p. (IsWoken schema H client now v p.0 r ⊎ IsStopped schema H client now v p.0 p.1 r)
     × (next ≡ told_number now v))
-IsWatchTold schema H client now v c r next = ⊥

@@ -6,6 +6,25 @@ use mdb_schema::Query;
 /// What a line asks for. The names are seen as they are written.
 #[derive(Drop)]
 pub enum Command {
+    /// Begins or ends a transaction.
+    Transaction(TransactionCommand),
+    /// Writes rows.
+    Write(WriteCommand),
+    /// `defer TEXT`: hands out a text after the commit.
+    Defer { text: Text },
+    /// Asks for rows.
+    Ask(AskCommand),
+    /// Keeps a snapshot or a watch under a name.
+    Name(NameCommand),
+    /// `size SET`: how many watches a set has.
+    Size { set: Text },
+    /// Looks at watches, or adds them to sets.
+    Watches(WatchesCommand),
+}
+
+/// What begins or ends a transaction.
+#[derive(Drop)]
+pub enum TransactionCommand {
     /// `read`: begins a read transaction.
     Read,
     /// `write`: begins a write transaction.
@@ -16,40 +35,36 @@ pub enum Command {
     Commit,
     /// `abort`: aborts the write transaction.
     Abort,
+}
+
+/// What writes rows, in the write transaction.
+#[derive(Drop)]
+pub enum WriteCommand {
     /// `insert TABLE DOC`: puts a row.
-    Insert {
-        table: Text,
-        row: Row,
-    },
+    Insert { table: Text, row: Row },
     /// `delete TABLE DOC`: removes the row that has the `id` of this one.
-    Delete {
-        table: Text,
-        row: Row,
-    },
+    Delete { table: Text, row: Row },
     /// `delete-all TABLE INDEX ARGS`: removes the rows that the question `get` gives.
-    DeleteAll {
-        query: Query,
-    },
+    DeleteAll { query: Query },
     /// `delete-prefix TABLE INDEX ARGS`: removes the same rows, by an index's name with `_prefix`.
-    DeletePrefix {
-        query: Query,
-    },
-    /// `defer TEXT`: hands out a text after the commit.
-    Defer {
-        text: Text,
-    },
+    DeletePrefix { query: Query },
+}
+
+/// What asks for rows.
+#[derive(Drop)]
+pub enum AskCommand {
     /// A question of the open transaction.
-    Question {
-        query: Query,
-    },
+    Question { query: Query },
+    /// `in NAME QUESTION`: a question of a snapshot.
+    InSnapshot { name: Text, query: Query },
+}
+
+/// What keeps a snapshot or a watch under a name.
+#[derive(Drop)]
+pub enum NameCommand {
     /// `snapshot NAME`: keeps the present state.
     Snapshot {
         name: Text,
-    },
-    /// `in NAME QUESTION`: a question of a snapshot.
-    InSnapshot {
-        name: Text,
-        query: Query,
     },
     /// `watch NAME QUESTION`: a question of the open transaction that keeps a watch.
     Watch {
@@ -62,6 +77,11 @@ pub enum Command {
         snapshot: Text,
         query: Query,
     },
+}
+
+/// What looks at watches, or adds them to sets. Several answers may be allowed.
+#[derive(Drop)]
+pub enum WatchesCommand {
     /// `check NAME`: whether a watch has fired.
     Check {
         name: Text,
@@ -78,10 +98,6 @@ pub enum Command {
         limit: u32,
         name: Text,
         other: Text,
-    },
-    /// `size SET`: how many watches a set has.
-    Size {
-        set: Text,
     },
     /// `wait SET`: waits until a watch of the set fires.
     Wait {

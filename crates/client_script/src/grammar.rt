@@ -12,8 +12,15 @@ ghost use Rattle.client_script.specs.inner.GrammarParts.{limit_words, words_behi
 ghost use Rattle.client_script.specs.inner.LineAnswer.{Answers, rule_of};
 ghost use Rattle.client_script.specs.inner.WordView.{word_of, question_view, limit_words_view};
 ghost use Rattle.client_script.specs.declared.command.Command.TheVariants as commands;
+ghost use Rattle.client_script.specs.declared.command.AskCommand.TheVariants as ask_line;
+ghost use Rattle.client_script.specs.declared.command.NameCommand.TheVariants as name_line;
+ghost use Rattle.client_script.specs.declared.command.TransactionCommand.TheVariants as transaction_line;
+ghost use Rattle.client_script.specs.declared.command.WatchesCommand.TheVariants as watches_line;
+ghost use Rattle.client_script.specs.declared.command.WriteCommand.TheVariants as write_line;
 
-use crate::command::Command;
+use crate::command::{
+    AskCommand, Command, NameCommand, TransactionCommand, WatchesCommand, WriteCommand,
+};
 use crate::command_word::{CommandWord, command_named};
 use crate::line_error::LineError;
 use crate::line_rule::LineRule;
@@ -35,42 +42,42 @@ struct LimitWords<'a> {
 
 /// `read`.
 fn of_read(rest: &str) -> Result<Command, LineError>
-    ensures { Answers (λ c. c) (alone commands.Read rest.now) result }
+    ensures { Answers (λ c. c) (alone transaction_line.Read rest.now) result }
 {
     nothing(rest)?;
-    Ok(Command::Read)
+    Ok(Command::Transaction(TransactionCommand::Read))
 }
 
 /// `write`.
 fn of_write(rest: &str) -> Result<Command, LineError>
-    ensures { Answers (λ c. c) (alone commands.Write rest.now) result }
+    ensures { Answers (λ c. c) (alone transaction_line.Write rest.now) result }
 {
     nothing(rest)?;
-    Ok(Command::Write)
+    Ok(Command::Transaction(TransactionCommand::Write))
 }
 
 /// `end`.
 fn of_end(rest: &str) -> Result<Command, LineError>
-    ensures { Answers (λ c. c) (alone commands.End rest.now) result }
+    ensures { Answers (λ c. c) (alone transaction_line.End rest.now) result }
 {
     nothing(rest)?;
-    Ok(Command::End)
+    Ok(Command::Transaction(TransactionCommand::End))
 }
 
 /// `commit`.
 fn of_commit(rest: &str) -> Result<Command, LineError>
-    ensures { Answers (λ c. c) (alone commands.Commit rest.now) result }
+    ensures { Answers (λ c. c) (alone transaction_line.Commit rest.now) result }
 {
     nothing(rest)?;
-    Ok(Command::Commit)
+    Ok(Command::Transaction(TransactionCommand::Commit))
 }
 
 /// `abort`.
 fn of_abort(rest: &str) -> Result<Command, LineError>
-    ensures { Answers (λ c. c) (alone commands.Abort rest.now) result }
+    ensures { Answers (λ c. c) (alone transaction_line.Abort rest.now) result }
 {
     nothing(rest)?;
-    Ok(Command::Abort)
+    Ok(Command::Transaction(TransactionCommand::Abort))
 }
 
 /// The table and the row of `insert` and `delete`.
@@ -93,18 +100,18 @@ fn named_row(alloc: Global, name: &str, document: &str) -> Result<(Text, Row), L
 
 /// `insert TABLE DOC`.
 fn of_insert(alloc: Global, rest: &str) -> Result<Command, LineError>
-    ensures { Answers (λ c. c) (of_row commands.Insert rest.now) result }
+    ensures { Answers (λ c. c) (of_row write_line.Insert rest.now) result }
 {
     let (table, row) = table_and_row(alloc, rest)?;
-    Ok(Command::Insert { table, row })
+    Ok(Command::Write(WriteCommand::Insert { table, row }))
 }
 
 /// `delete TABLE DOC`.
 fn of_delete(alloc: Global, rest: &str) -> Result<Command, LineError>
-    ensures { Answers (λ c. c) (of_row commands.Delete rest.now) result }
+    ensures { Answers (λ c. c) (of_row write_line.Delete rest.now) result }
 {
     let (table, row) = table_and_row(alloc, rest)?;
-    Ok(Command::Delete { table, row })
+    Ok(Command::Write(WriteCommand::Delete { table, row }))
 }
 
 /// The question of `delete-all`, of `delete-prefix` and of a question's word.
@@ -117,26 +124,26 @@ fn asked_of(alloc: Global, ask: Ask, rest: &str) -> Result<Query, LineError>
 
 /// `delete-all TABLE INDEX ARGS`.
 fn of_delete_all(alloc: Global, rest: &str) -> Result<Command, LineError>
-    ensures { Answers (λ c. c) (of_query commands.DeleteAll Ask.Get rest.now) result }
+    ensures { Answers (λ c. c) (of_query (λ q. commands.Write (write_line.DeleteAll q)) Ask.Get rest.now) result }
 {
     let query = asked_of(alloc, Ask::Get, rest)?;
-    Ok(Command::DeleteAll { query })
+    Ok(Command::Write(WriteCommand::DeleteAll { query }))
 }
 
 /// `delete-prefix TABLE INDEX ARGS`.
 fn of_delete_prefix(alloc: Global, rest: &str) -> Result<Command, LineError>
-    ensures { Answers (λ c. c) (of_query commands.DeletePrefix Ask.Get rest.now) result }
+    ensures { Answers (λ c. c) (of_query (λ q. commands.Write (write_line.DeletePrefix q)) Ask.Get rest.now) result }
 {
     let query = asked_of(alloc, Ask::Get, rest)?;
-    Ok(Command::DeletePrefix { query })
+    Ok(Command::Write(WriteCommand::DeletePrefix { query }))
 }
 
 /// A question behind its word.
 fn of_question(alloc: Global, ask: Ask, rest: &str) -> Result<Command, LineError>
-    ensures { Answers (λ c. c) (of_query commands.Question ask rest.now) result }
+    ensures { Answers (λ c. c) (of_query (λ q. commands.Ask (ask_line.Question q)) ask rest.now) result }
 {
     let query = asked_of(alloc, ask, rest)?;
-    Ok(Command::Question { query })
+    Ok(Command::Ask(AskCommand::Question { query }))
 }
 
 /// `defer TEXT`.
@@ -186,18 +193,18 @@ fn two_names(alloc: Global, first: &str, second: &str) -> Result<(Text, Text), L
 
 /// `snapshot NAME`.
 fn of_keep(alloc: Global, rest: &str) -> Result<Command, LineError>
-    ensures { Answers (λ c. c) (of_name commands.Snapshot rest.now) result }
+    ensures { Answers (λ c. c) (of_name (λ n. commands.Name (name_line.Snapshot n)) rest.now) result }
 {
     let name = one_name(alloc, rest)?;
-    Ok(Command::Snapshot { name })
+    Ok(Command::Name(NameCommand::Snapshot { name }))
 }
 
 /// `check NAME`.
 fn of_check(alloc: Global, rest: &str) -> Result<Command, LineError>
-    ensures { Answers (λ c. c) (of_name commands.Check rest.now) result }
+    ensures { Answers (λ c. c) (of_name (λ n. commands.Watches (watches_line.Check n)) rest.now) result }
 {
     let name = one_name(alloc, rest)?;
-    Ok(Command::Check { name })
+    Ok(Command::Watches(WatchesCommand::Check { name }))
 }
 
 /// `size SET`.
@@ -215,7 +222,7 @@ fn of_snapshot(alloc: Global, rest: &str) -> Result<Command, LineError>
     let word = next_word(rest)?;
     let question = question_in(word.rest)?;
     let (name, query) = named_query(alloc, word.text, &question)?;
-    Ok(Command::InSnapshot { name, query })
+    Ok(Command::Ask(AskCommand::InSnapshot { name, query }))
 }
 
 /// A name and a question.
@@ -233,7 +240,7 @@ fn watch_of(alloc: Global, word: &Word, asked: &Word) -> Result<Command, LineErr
 {
     let question = question_by(asked)?;
     let (name, query) = named_query(alloc, word.text, &question)?;
-    Ok(Command::Watch { name, query })
+    Ok(Command::Name(NameCommand::Watch { name, query }))
 }
 
 /// `watch NAME in NAME QUESTION`, behind `in`.
@@ -257,11 +264,11 @@ fn watch_kept(
 {
     let name = name_in(alloc, name)?;
     let (snapshot, query) = named_query(alloc, snapshot, question)?;
-    Ok(Command::WatchIn {
+    Ok(Command::Name(NameCommand::WatchIn {
         name,
         snapshot,
         query,
-    })
+    }))
 }
 
 /// `watch`, in both forms.
@@ -290,7 +297,7 @@ fn of_add(alloc: Global, rest: &str) -> Result<Command, LineError>
 {
     let (set, name) = two_words(rest)?;
     let (set, name) = two_names(alloc, set, name)?;
-    Ok(Command::Add { set, name })
+    Ok(Command::Watches(WatchesCommand::Add { set, name }))
 }
 
 /// The words of `add-limit`, of which no more may follow.
@@ -324,12 +331,12 @@ fn of_add_limit(alloc: Global, rest: &str) -> Result<Command, LineError>
     let words = limit_words(rest)?;
     let set = name_in(alloc, words.set)?;
     let (name, other) = two_names(alloc, words.name, words.other)?;
-    Ok(Command::AddLimit {
+    Ok(Command::Watches(WatchesCommand::AddLimit {
         set,
         limit: words.limit,
         name,
         other,
-    })
+    }))
 }
 
 /// The word `until` of `wait SET until NAME`, and the one word behind it.
@@ -349,7 +356,7 @@ fn wait_until(alloc: Global, set: &Word, rest: &str) -> Result<Command, LineErro
 {
     let name = until_word(rest)?;
     let (set, until) = two_names(alloc, set.text, name)?;
-    Ok(Command::WaitUntil { set, until })
+    Ok(Command::Watches(WatchesCommand::WaitUntil { set, until }))
 }
 
 /// `wait`, in both forms.
@@ -361,7 +368,7 @@ fn of_wait(alloc: Global, rest: &str) -> Result<Command, LineError>
         return wait_until(alloc, &set, set.rest);
     }
     let set = name_in(alloc, set.text)?;
-    Ok(Command::Wait { set })
+    Ok(Command::Watches(WatchesCommand::Wait { set }))
 }
 
 /// The command behind its first word, which stands alone or is followed by rows or a question.

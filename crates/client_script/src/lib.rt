@@ -12,6 +12,7 @@
 mod command;
 mod command_word;
 mod grammar;
+pub mod laws;
 mod line;
 mod line_error;
 mod line_rule;
@@ -24,7 +25,9 @@ mod script_error;
 mod scripts;
 mod word;
 
-pub use command::Command;
+pub use command::{
+    AskCommand, Command, NameCommand, TransactionCommand, WatchesCommand, WriteCommand,
+};
 pub use line::Line;
 pub use read::read_script;
 pub use script::Script;

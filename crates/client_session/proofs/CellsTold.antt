@@ -22,13 +22,15 @@ use Rattle.client_script.specs.inner.Within.{IsWithin}
 use Rattle.client_script.specs.Client.{Client, Watch, WatchSet, at_start}
 use Rattle.client_script.specs.Reply.{Reply, fired_at, refused, sized, stopped_at, woken_by}
 use Rattle.client_script.specs.Session.{Answers, Runs}
-use Rattle.client_script.specs.Turn.{is_of_watches}
 use Rattle.client_script.specs.Watching.{set_for}
 use Rattle.client_script.specs.declared.command.Command.{Command}
 use Rattle.client_script.specs.declared.command.Command.TheVariants as command
+use Rattle.client_script.specs.declared.command.WatchesCommand.{WatchesCommand}
+use Rattle.client_script.specs.declared.command.WatchesCommand.TheVariants as watches_line
 use Rattle.client_script.specs.declared.line.Line.{Line}
-use Rattle.client_session.specs.Cells.{AreOfOneCell, AreOfOtherCells, HasCell, HasEachCellOnce, HasMoved, HasTreesAfter, RunsByCells, TellsCells}
+use Rattle.client_session.specs.Cells.{AreOfOneCell, AreOfOtherCells, HasCell, HasEachCellOnce, HasMoved, HasTreesAfter, RunsByCells, TellsCells, WatchTellsCells}
 use Rattle.client_session.specs.inner.WatchingView.{watch_of}
+use Rattle.client_session.proofs.ToldCounts.{IsOfRows}
 
 -- ---- the cells of held watches
 
@@ -71,28 +73,33 @@ fired_moved p h name at complete held all fired =
 
 -- ---- what a line tells of cells
 
--- a line that tells nothing of watches
-pub tells_rows : (J : CellHistory) (v : Client) (c : Command) (r : Reply) (next : Client) → is_of_watches c ≡ false → TellsCells J v c r next
-tells_rows J v (command.Check name) r next known = cc
-tells_rows J v (command.Add set name) r next known = cc
-tells_rows J v (command.AddLimit set limit name other) r next known = cc
-tells_rows J v (command.Wait set) r next known = cc
-tells_rows J v (command.WaitUntil set until) r next known = cc
-tells_rows J v c r next known = tt
+-- a line of rows
+pub rows_cells : (J : CellHistory) (v : Client) (c : Command) (r : Reply) (next : Client) → IsOfRows c → TellsCells J v c r next
+rows_cells J v (command.Transaction t) r next is = tt
+rows_cells J v (command.Write w) r next is = tt
+rows_cells J v (command.Defer text) r next is = tt
+rows_cells J v (command.Ask a) r next is = tt
+rows_cells J v (command.Name n) r next is = tt
+rows_cells J v (command.Size set) r next is = tt
+rows_cells J v (command.Watches w) r next is = absurd is
 
 -- a line that is refused
-pub tells_refused : (J : CellHistory) (v : Client) (c : Command) (rule : Bytes) (next : Client) → TellsCells J v c (refused rule) next
-tells_refused J v command.Read rule next = tt
-tells_refused J v c rule next = tt
+pub tells_refused : (J : CellHistory) (v : Client) (w : WatchesCommand) (rule : Bytes) (next : Client) → WatchTellsCells J v w (refused rule) next
+tells_refused J v (watches_line.Check name) rule next = tt
+tells_refused J v w rule next = tt
 
 -- one that tells the same in another history
-tells_so : (J K : CellHistory) (v : Client) (c : Command) (r : Reply) (next : Client) → ((w : Watch) (n : ℕ) → HasMoved J w n → HasMoved K w n) → ((s : WatchSet) → HasEachCellOnce J s → HasEachCellOnce K s) → TellsCells J v c r next → TellsCells K v c r next
-tells_so J K v (command.Check name) (fired_at n) next moved each told = (told.0, told.1, moved told.0 n told.2)
-tells_so J K v (command.Wait set) (woken_by name n) next moved each told = (told.0, told.1, told.2, moved told.0 n told.3)
-tells_so J K v (command.WaitUntil set until) (woken_by name n) next moved each told = (told.0, told.1, told.2, moved told.0 n told.3)
-tells_so J K v (command.WaitUntil set until) (stopped_at n) next moved each told = (told.0, told.1, moved told.0 n told.2)
-tells_so J K v (command.Add set name) (sized k) next moved each told = each (set_for set next) told
-tells_so J K v (command.AddLimit set limit name other) (sized k) next moved each told = each (set_for set next) told
+watch_tells_so : (J K : CellHistory) (v : Client) (w : WatchesCommand) (r : Reply) (next : Client) → ((x : Watch) (n : ℕ) → HasMoved J x n → HasMoved K x n) → ((s : WatchSet) → HasEachCellOnce J s → HasEachCellOnce K s) → WatchTellsCells J v w r next → WatchTellsCells K v w r next
+watch_tells_so J K v (watches_line.Check name) (fired_at n) next moved each told = (told.0, told.1, moved told.0 n told.2)
+watch_tells_so J K v (watches_line.Wait set) (woken_by name n) next moved each told = (told.0, told.1, told.2, moved told.0 n told.3)
+watch_tells_so J K v (watches_line.WaitUntil set until) (woken_by name n) next moved each told = (told.0, told.1, told.2, moved told.0 n told.3)
+watch_tells_so J K v (watches_line.WaitUntil set until) (stopped_at n) next moved each told = (told.0, told.1, moved told.0 n told.2)
+watch_tells_so J K v (watches_line.Add set name) (sized k) next moved each told = each (set_for set next) told
+watch_tells_so J K v (watches_line.AddLimit set limit name other) (sized k) next moved each told = each (set_for set next) told
+watch_tells_so J K v w r next moved each told = tt
+
+tells_so : (J K : CellHistory) (v : Client) (c : Command) (r : Reply) (next : Client) → ((x : Watch) (n : ℕ) → HasMoved J x n → HasMoved K x n) → ((s : WatchSet) → HasEachCellOnce J s → HasEachCellOnce K s) → TellsCells J v c r next → TellsCells K v c r next
+tells_so J K v (command.Watches w) r next moved each told = watch_tells_so J K v w r next moved each told
 tells_so J K v c r next moved each told = tt
 
 -- ---- a caller that has seen more

@@ -10,27 +10,32 @@ use Rattle.mem_txn.specs.declared.write_txn.WriteTxn.{WriteTxn}
 use Rattle.mdb_datum.specs.Bytes.{Bytes}
 use Rattle.mdb_schema.specs.History.{Commit, History}
 use Rattle.mdb_schema.specs.Schema.{DbSchema}
-use Rattle.mem_txn.specs.CellHistory.{Forest}
+use Rattle.mem_txn.specs.CellHistory.{CellHistory, Forest}
 use Rattle.mem_txn.specs.Checked.{IsBeginning}
 use Rattle.mem_txn.specs.Database.{Caller, Reading, View, cells_seen}
-use Rattle.client_script.proofs.LongerHistory.{no_entry, told_longer, answered_within}
+use Rattle.client_script.proofs.LongerHistory.{no_entry, answered_longer, answered_within}
 use Rattle.client_script.specs.Client.{Transaction, closed, reading, writing, Writing, Client, Sight, Snapshot, snapshot_named, state_seen, some_open}
 use Rattle.client_script.specs.Reply as said
-use Rattle.client_script.specs.Session.{IsEntry, Answers, of_rows}
+use Rattle.client_script.specs.Session.{IsAnswered, IsEntry, Answers}
 use Rattle.client_script.specs.Legal.{number_printed}
 use Rattle.client_script.specs.RefusedWord.{question_word}
-use Rattle.client_script.specs.Spent.{IsTold, by_turn}
-use Rattle.client_script.specs.Turn.{turn, outcome, is_of_watches, snapshot_reply, with_snapshot}
+use Rattle.client_script.specs.Turn.{ask_turn, name_turn, outcome, snapshot_reply, with_snapshot}
+use Rattle.client_script.specs.declared.command.AskCommand.TheVariants as ask_line
 use Rattle.client_script.specs.declared.command.Command.TheVariants as command
+use Rattle.client_script.specs.declared.command.NameCommand.TheVariants as name_line
+use Rattle.client_script.specs.declared.command.TransactionCommand.{TransactionCommand}
+use Rattle.client_script.specs.declared.command.TransactionCommand.TheVariants as transaction_line
 use Rattle.mdb_schema.specs.Answer as asked
 use Rattle.mdb_schema.specs.Answer.{Asked, ask}
 use Rattle.mdb_schema.specs.Query.{Query}
 use Rattle.mdb_schema.specs.Refusals.{AnswersAsk, ask_error}
 use Rattle.mdb_schema.specs.declared.answer.Answer.{Answer}
 use Rattle.mdb_schema.specs.declared.ask_error.AskError.{AskError}
+use Rattle.client_session.specs.Cells.{TellsCells}
+use Rattle.client_session.specs.Counts.{count_told}
 use Rattle.client_session.specs.Steps.{HasDoneOnce}
-use Rattle.client_session.proofs.CellsTold.{tells_rows}
-use Rattle.client_session.proofs.ToldCounts.{TellsNone, answered_none}
+use Rattle.client_session.proofs.CellsTold.{rows_cells}
+use Rattle.client_session.proofs.ToldCounts.{IsOfRows, TellsNone, among_none, rows_tell}
 use Rattle.client_session.proofs.FollowsOn.{follows_then, holds_on, knows_on, seen_more, within_more}
 use Rattle.client_session.proofs.KeptSteps.{seen_step}
 use Rattle.client_session.proofs.OpenTurns.{looks_self, none_made}
@@ -62,7 +67,7 @@ entry_behind [] c = refl
 entry_behind (h ∷ H) c = entry_behind H c
 
 entry_made : (H : History) (n : ℕ) (x : Writing) (r : said.Reply) → x.number ≡ length H → IsEntry (H ++ made n (writing x) r) n (writing x) r
-entry_made H n x (said.committed m texts) stands = subst (λ (k : ℕ). slice_get (H ++ record { caller = n; writes = x.writes } ∷ []) k ≡ Some (record { caller = n; writes = x.writes })) (sym stands) (entry_behind H (record { caller = n; writes = x.writes }))
+entry_made H n x (said.committed m changed texts) stands = subst (λ (k : ℕ). slice_get (H ++ record { caller = n; writes = x.writes } ∷ []) k ≡ Some (record { caller = n; writes = x.writes })) (sym stands) (entry_behind H (record { caller = n; writes = x.writes }))
 entry_made H n x (said.read_at n') stands = tt
 entry_made H n x (said.write_at n') stands = tt
 entry_made H n x said.ended stands = tt
@@ -103,12 +108,12 @@ replies_at_once c d d' r none stands replies = record {
   loads = λ v follows.
       let step = replies v follows in
       let a = step.answers in
-      answered_none (caller_of d.«open»).schema (caller_of d'.«open»).seen (caller_of d.«open»).number a.now v step.next c r (looks_self d.«open» stands).read none a.says;
+      among_none (count_told r) (looks_self d.«open» stands).read (none (caller_of d.«open»).schema (caller_of d'.«open»).seen (caller_of d.«open»).number a.now v step.next r a.says);
 }
 
 -- ---- a line's reply
 
-module _ (c : Command) (d d' : Desk) (r : said.Reply) (known : is_of_watches c ≡ false) (to : TurnsTo c d.«open» d'.«open» r) (same : d'.snapshots ≡ d.snapshots) (watching : d'.watching ≡ d.watching) where
+module _ (c : Command) (d d' : Desk) (r : said.Reply) (cells : (J : CellHistory) (v next : Client) → TellsCells J v c r next) (to : TurnsTo c d.«open» d'.«open» r) (same : d'.snapshots ≡ d.snapshots) (watching : d'.watching ≡ d.watching) where
   p : Caller
   p = caller_of d.«open»
 
@@ -144,13 +149,13 @@ module _ (c : Command) (d d' : Desk) (r : said.Reply) (known : is_of_watches c �
         now = length p.seen;
         not_older = follows.last;
         there = longer;
-        says = of_rows known (subst (λ (H : History). IsTold p.schema H (length p.seen) v c r t.next) (sym seen_grown) (told_longer p.schema p.seen more (length p.seen) v c r t.next (search (arith)) follows.within t.says));
+        says = subst (λ (H : History). IsAnswered p.schema H p.number (length p.seen) v c r t.next) (sym seen_grown) (answered_longer p.schema p.seen more p.number (length p.seen) v c r t.next follows.last (search (arith)) follows.within t.says);
         entry = subst (λ (H : History). IsEntry H p.number v.transaction r) (sym seen_grown) (subst (λ (x : Transaction). IsEntry (p.seen ++ more) p.number x r) (sym follows.transaction) (entry_of d.«open» r to.numbered));
       } in
       record {
         next = t.next;
         answers = answers;
-        cells = tells_rows (cells_seen (caller_of d'.«open»)) v c r t.next known;
+        cells = cells (cells_seen (caller_of d'.«open»)) v t.next;
         follows = follows_then d d' v t.next begins t.transaction t.last (answered_within p.schema (caller_of d'.«open»).seen p.number v c r t.next (within_more (length p.seen) (length (caller_of d'.«open»).seen) v longer follows.within) answers) t.snapshots same (knows_on d d' v t.next begins watching t.watching follows.knows) (holds_on d d' begins watching follows.holds) to.stands follows;
         grows = to.grows;
         numbered = to.numbered;
@@ -162,26 +167,30 @@ module _ (c : Command) (d d' : Desk) (r : said.Reply) (known : is_of_watches c �
 abbrev pub desk_with : Desk → Open → Desk
 desk_with d o = record { «open» = o; snapshots = d.snapshots; watching = d.watching }
 
-pub replies_told : (c c' : Command) (d : Desk) (o : Open) (s s' : DbSchema) (told : Result replied_by.the_data AllocError) → c' ≡ c → s ≡ s' → is_of_watches c ≡ false → IfOk told (λ r. TurnsTo c d.«open» o (reply_of s r)) → IfOk told (λ r. RepliesTo c' d (desk_with d o) (reply_of s' r))
-replies_told c c' d o s s' (Ok r) is same known to = subst (λ (x : Command). RepliesTo x d (desk_with d o) (reply_of s' r)) (sym is) (subst (λ (x : DbSchema). RepliesTo c d (desk_with d o) (reply_of x r)) same (replies c d (desk_with d o) (reply_of s r) known to refl refl))
-replies_told c c' d o s s' (Err e) is same known to = tt
+-- a line of rows
+pub replies_told : (c c' : Command) (d : Desk) (o : Open) (s s' : DbSchema) (told : Result replied_by.the_data AllocError) → c' ≡ c → s ≡ s' → IsOfRows c → IfOk told (λ r. TurnsTo c d.«open» o (reply_of s r)) → IfOk told (λ r. RepliesTo c' d (desk_with d o) (reply_of s' r))
+replies_told c c' d o s s' (Ok r) is same rows to = subst (λ (x : Command). RepliesTo x d (desk_with d o) (reply_of s' r)) (sym is) (subst (λ (x : DbSchema). RepliesTo c d (desk_with d o) (reply_of x r)) same (replies c d (desk_with d o) (reply_of s r) (λ J v next. rows_cells J v c (reply_of s r) next rows) to refl refl))
+replies_told c c' d o s s' (Err e) is same rows to = tt
+
+pub once_told : (c c' : Command) (d d' : Desk) (s : DbSchema) (told : Result replied_by.the_data AllocError) → c' ≡ c → TellsNone c → Stands d.«open» → IfOk told (λ r. RepliesTo c d d' (reply_of s r)) → IfOk told (λ r. LooksAndReplies c' d d' (reply_of s r))
+once_told c c' d d' s (Ok r) is none stands to = subst (λ (x : Command). LooksAndReplies x d d' (reply_of s r)) (sym is) (replies_at_once c d d' (reply_of s r) none stands to)
+once_told c c' d d' s (Err e) is none stands to = tt
+
+pub rows_told : (c c' : Command) (d : Desk) (o : Open) (s s' : DbSchema) (told : Result replied_by.the_data AllocError) → c' ≡ c → s ≡ s' → IsOfRows c → Stands d.«open» → IfOk told (λ r. TurnsTo c d.«open» o (reply_of s r)) → IfOk told (λ r. LooksAndReplies c' d (desk_with d o) (reply_of s' r))
+rows_told c c' d o s s' told is same rows stands to = once_told c c' d (desk_with d o) s' told is (rows_tell c rows) stands (replies_told c c d o s s' told refl same rows to)
 
 -- a line that begins or ends a transaction
-pub looked_told : (c c' : Command) (d : Desk) (o : Open) (s s' : DbSchema) (told : Result replied_by.the_data AllocError) → c' ≡ c → s ≡ s' → is_of_watches c ≡ false → IfOk told (λ r. LooksAndTurns c d.«open» o (reply_of s r)) → IfOk told (λ r. LooksAndReplies c' d (desk_with d o) (reply_of s' r))
-looked_told c c' d o s s' (Ok r) is same known to =
+pub looked_told : (t : TransactionCommand) (c : Command) (d : Desk) (o : Open) (s s' : DbSchema) (told : Result replied_by.the_data AllocError) → c ≡ command.Transaction t → s ≡ s' → IfOk told (λ r. LooksAndTurns t d.«open» o (reply_of s r)) → IfOk told (λ r. LooksAndReplies c d (desk_with d o) (reply_of s' r))
+looked_told t c d o s s' (Ok r) is same to =
     let at : Desk = desk_with d to.at in
-    let reply : RepliesTo c at (desk_with d o) (reply_of s r) = replies c at (desk_with d o) (reply_of s r) known to.turns refl refl in
-    subst (λ (x : Command). LooksAndReplies x d (desk_with d o) (reply_of s' r)) (sym is) (subst (λ (x : DbSchema). LooksAndReplies c d (desk_with d o) (reply_of x r)) same (record { at = at; looks = to.looks; snapshots = refl; watching = refl; replied = λ v before follows. reply v follows; loads = λ v follows. to.loads v follows.transaction follows.last }))
-looked_told c c' d o s s' (Err e) is same known to = tt
-
-pub once_told : (c : Command) (d d' : Desk) (s : DbSchema) (told : Result replied_by.the_data AllocError) → TellsNone c → Stands d.«open» → IfOk told (λ r. RepliesTo c d d' (reply_of s r)) → IfOk told (λ r. LooksAndReplies c d d' (reply_of s r))
-once_told c d d' s (Ok r) starts stands to = replies_at_once c d d' (reply_of s r) starts stands to
-once_told c d d' s (Err e) starts stands to = tt
+    let reply : RepliesTo (command.Transaction t) at (desk_with d o) (reply_of s r) = replies (command.Transaction t) at (desk_with d o) (reply_of s r) (λ J v next. tt) to.turns refl refl in
+    subst (λ (x : Command). LooksAndReplies x d (desk_with d o) (reply_of s' r)) (sym is) (subst (λ (x : DbSchema). LooksAndReplies (command.Transaction t) d (desk_with d o) (reply_of x r)) same (record { at = at; looks = to.looks; snapshots = refl; watching = refl; replied = λ v before follows. reply v follows; loads = λ v follows. to.loads v follows.transaction follows.last }))
+looked_told t c d o s s' (Err e) is same to = tt
 
 -- a `write` that makes one try
-pub tried_told : (n : ℕ) (c : Command) (d : Desk) (o : Open) (s s' : DbSchema) (told : Result (Option replied_by.the_data) AllocError) → c ≡ command.Write → s ≡ s' → IfOk told (λ r. TriesWrite n d.«open» o (option_map (reply_of s) r)) → IfOk told (λ r. StepsTo n c d (desk_with d o) (option_map (reply_of s') r))
+pub tried_told : (n : ℕ) (c : Command) (d : Desk) (o : Open) (s s' : DbSchema) (told : Result (Option replied_by.the_data) AllocError) → c ≡ command.Transaction transaction_line.Write → s ≡ s' → IfOk told (λ r. TriesWrite n d.«open» o (option_map (reply_of s) r)) → IfOk told (λ r. StepsTo n c d (desk_with d o) (option_map (reply_of s') r))
 tried_told n c d o s s' (Ok (Some r)) is same tries = (
-  looked_told command.Write c d o s s' (Ok r) is same refl tries.0,
+  looked_told transaction_line.Write c d o s s' (Ok r) is same tries.0,
   subst (λ (x : Command). HasDoneOnce x (caller_of d.«open») (caller_of o)) (sym is) tries.1,
 )
 tried_told n c d o s s' (Ok None) is same tries = subst (λ (x : Command). IsHeldUp n x d (desk_with d o)) (sym is) (record { looks = tries.0; snapshots = refl; watching = refl; why = tries.1 })
@@ -205,17 +214,17 @@ kept_makes (writing k) s n (reading m) = refl
 kept_makes (writing k) s n (writing t) = refl
 
 -- a line that changes nothing
-pub kept_desk : (c : Command) (d : Desk) (r : said.Reply) → is_of_watches c ≡ false → Stands d.«open» → number_printed r ≡ [] → ((n : ℕ) (t : Transaction) → made n t r ≡ []) → ((v : Client) → Follows d v → outcome v (turn (caller_of d.«open»).schema (caller_of d.«open»).seen (length (caller_of d.«open»).seen) v c) ≡ (r, v)) → RepliesTo c d d r
-kept_desk c d r known stands none makes says v follows = record {
+pub kept_desk : (c : Command) (d : Desk) (r : said.Reply) → IsOfRows c → Stands d.«open» → number_printed r ≡ [] → ((n : ℕ) (t : Transaction) → made n t r ≡ []) → ((v : Client) → Follows d v → (let p = caller_of d.«open» in IsAnswered p.schema p.seen p.number (length p.seen) v c r v)) → RepliesTo c d d r
+kept_desk c d r rows stands none makes says v follows = record {
   next = v;
   answers = record {
     now = length (caller_of d.«open»).seen;
     not_older = follows.last;
     there = search (arith);
-    says = of_rows known (by_turn (says v follows));
+    says = says v follows;
     entry = no_entry (caller_of d.«open»).seen (caller_of d.«open»).number v.transaction r none;
   };
-  cells = tells_rows (cells_seen (caller_of d.«open»)) v c r v known;
+  cells = rows_cells (cells_seen (caller_of d.«open»)) v c r v rows;
   follows = follows;
   grows = none_grown (caller_of d.«open») (transaction_of d.«open») r (makes (caller_of d.«open»).number (transaction_of d.«open»));
   numbered = none_numbered (caller_of d.«open») (transaction_of d.«open») r none (makes (caller_of d.«open»).number (transaction_of d.«open»));
@@ -231,27 +240,27 @@ found_sight : (p : Caller) (found : Option Sight) (view : View) → Some view �
 found_sight p None view e = cc
 found_sight p (Some s) view e = record { sight = s; is = refl; sees = cc }
 
-snapshot_says : (d : Desk) (v : Client) (name : Bytes) (q : Query) (view : View) (why : asked.AskRefusal) → Follows d v → seen_in d.snapshots name ≡ Some view → ask view.schema view.state q ≡ Err why → outcome v (turn (caller_of d.«open»).schema (caller_of d.«open»).seen (length (caller_of d.«open»).seen) v (command.InSnapshot name q)) ≡ (said.refused (question_word why), v)
+snapshot_says : (d : Desk) (v : Client) (name : Bytes) (q : Query) (view : View) (why : asked.AskRefusal) → Follows d v → seen_in d.snapshots name ≡ Some view → ask view.schema view.state q ≡ Err why → outcome v (ask_turn (caller_of d.«open»).schema (caller_of d.«open»).seen v (ask_line.InSnapshot name q)) ≡ (said.refused (question_word why), v)
 snapshot_says d v name q view why follows there refuses =
     let found = found_sight (caller_of d.«open») (snapshot_named name v.snapshots) view (sym there ∙ follows.snapshots name) in
     let told : ask (caller_of d.«open»).schema (state_seen (caller_of d.«open»).schema (caller_of d.«open»).seen found.sight) q ≡ Err why = ap (λ (x : View). ask x.schema x.state q) found.sees ∙ refuses in
     rw (found.is, told) refl
 
-snapshot_tells : (d : Desk) (v : Client) (name : Bytes) (q : Query) (view : View) (a : Answer) → Follows d v → seen_in d.snapshots name ≡ Some view → ask view.schema view.state q ≡ Ok a → outcome v (turn (caller_of d.«open»).schema (caller_of d.«open»).seen (length (caller_of d.«open»).seen) v (command.InSnapshot name q)) ≡ (said.answered a, v)
+snapshot_tells : (d : Desk) (v : Client) (name : Bytes) (q : Query) (view : View) (a : Answer) → Follows d v → seen_in d.snapshots name ≡ Some view → ask view.schema view.state q ≡ Ok a → outcome v (ask_turn (caller_of d.«open»).schema (caller_of d.«open»).seen v (ask_line.InSnapshot name q)) ≡ (said.answered a, v)
 snapshot_tells d v name q view a follows there tells =
     let found = found_sight (caller_of d.«open») (snapshot_named name v.snapshots) view (sym there ∙ follows.snapshots name) in
     let told : ask (caller_of d.«open»).schema (state_seen (caller_of d.«open»).schema (caller_of d.«open»).seen found.sight) q ≡ Ok a = ap (λ (x : View). ask x.schema x.state q) found.sees ∙ tells in
     rw (found.is, told) refl
 
 -- a question of a snapshot that is answered
-pub snapshot_answered : (d : Desk) (name : Bytes) (q : Query) (view : View) (a : Answer) → Stands d.«open» → seen_in d.snapshots name ≡ Some view → AnswersAsk (ask view.schema view.state q) (Ok a) → RepliesTo (command.InSnapshot name q) d d (said.answered a)
+pub snapshot_answered : (d : Desk) (name : Bytes) (q : Query) (view : View) (a : Answer) → Stands d.«open» → seen_in d.snapshots name ≡ Some view → AnswersAsk (ask view.schema view.state q) (Ok a) → RepliesTo (command.Ask (ask_line.InSnapshot name q)) d d (said.answered a)
 snapshot_answered d name q view a stands there answers = of (ask view.schema view.state q) refl answers
   where
-    of : (x : Asked Answer) → ask view.schema view.state q ≡ x → AnswersAsk x (Ok a) → RepliesTo (command.InSnapshot name q) d d (said.answered a)
+    of : (x : Asked Answer) → ask view.schema view.state q ≡ x → AnswersAsk x (Ok a) → RepliesTo (command.Ask (ask_line.InSnapshot name q)) d d (said.answered a)
     of (Err why) is told = cc
     of (Ok b) is told =
         let same : a ≡ b = cc in
-        kept_desk (command.InSnapshot name q) d (said.answered a) refl stands refl (answer_makes a) (λ v follows. snapshot_tells d v name q view a follows there (is ∙ ap Ok (sym same)))
+        kept_desk (command.Ask (ask_line.InSnapshot name q)) d (said.answered a) tt stands refl (answer_makes a) (λ v follows. snapshot_tells d v name q view a follows there (is ∙ ap Ok (sym same)))
 
 no_rule : {A : Type 0} (P : A → Type 0) (r : Result A AllocError) → IsErr r → IfOk r P
 no_rule P (Ok x) is = cc
@@ -261,18 +270,18 @@ abbrev RefusedDesk : Command → Desk → Option rules.the_data → Type 0
 RefusedDesk c d None = ⊤
 RefusedDesk c d (Some rule) = RepliesTo c d d (said.refused (rule_name (caller_of d.«open»).schema rule))
 
-pub snapshot_refused : (d : Desk) (name : Bytes) (q : Query) (view : View) (e : AskError) (rule : Option rules.the_data) (result : Result replied_by.the_data AllocError) → Stands d.«open» → seen_in d.snapshots name ≡ Some view → AnswersAsk (ask view.schema view.state q) (Err e) → rule ≡ question_rule e → MatchOption rule (IsErr result) (λ r. result ≡ Ok (replied_by.Refused r)) → IfOk result (λ r. RepliesTo (command.InSnapshot name q) d d (reply_of (caller_of d.«open»).schema r))
+pub snapshot_refused : (d : Desk) (name : Bytes) (q : Query) (view : View) (e : AskError) (rule : Option rules.the_data) (result : Result replied_by.the_data AllocError) → Stands d.«open» → seen_in d.snapshots name ≡ Some view → AnswersAsk (ask view.schema view.state q) (Err e) → rule ≡ question_rule e → MatchOption rule (IsErr result) (λ r. result ≡ Ok (replied_by.Refused r)) → IfOk result (λ r. RepliesTo (command.Ask (ask_line.InSnapshot name q)) d d (reply_of (caller_of d.«open»).schema r))
 snapshot_refused d name q view e rule result stands there answers rule_is told = of (ask view.schema view.state q) refl answers
   where
     C : Command
-    C = command.InSnapshot name q
+    C = command.Ask (ask_line.InSnapshot name q)
 
     by_rule : (x : Option rules.the_data) → rule ≡ x → RefusedDesk C d x → IfOk result (λ r. RepliesTo C d d (reply_of (caller_of d.«open»).schema r))
     by_rule None is turns = no_rule (λ r. RepliesTo C d d (reply_of (caller_of d.«open»).schema r)) result (subst (λ (y : Option rules.the_data). MatchOption y (IsErr result) (λ r. result ≡ Ok (replied_by.Refused r))) is told)
     by_rule (Some x) is turns = subst (λ (y : Result replied_by.the_data AllocError). IfOk y (λ r. RepliesTo C d d (reply_of (caller_of d.«open»).schema r))) (sym (subst (λ (y : Option rules.the_data). MatchOption y (IsErr result) (λ r. result ≡ Ok (replied_by.Refused r))) is told)) turns
 
     refuses : (why : asked.AskRefusal) → ask view.schema view.state q ≡ Err why → RepliesTo C d d (said.refused (question_word why))
-    refuses why is = kept_desk C d (said.refused (question_word why)) refl stands refl (refused_makes (question_word why)) (λ v follows. snapshot_says d v name q view why follows there is)
+    refuses why is = kept_desk C d (said.refused (question_word why)) tt stands refl (refused_makes (question_word why)) (λ v follows. snapshot_says d v name q view why follows there is)
 
     of : (x : Asked Answer) → ask view.schema view.state q ≡ x → AnswersAsk x (Err e) → IfOk result (λ r. RepliesTo C d d (reply_of (caller_of d.«open»).schema r))
     of (Ok a) is e_is = by_rule None (rule_is ∙ ap question_rule e_is) tt
@@ -329,16 +338,16 @@ module _ (d : Desk) (o : Open) (snaps : Named Kept) (name : Bytes) (s : Sight) (
   not_there : (v : Client) → Follows d v → (q : Bytes) → bytes_eq name q ≡ true → snapshot_named q v.snapshots ≡ None
   not_there v follows q is = subst (λ (x : Bytes). snapshot_named x v.snapshots ≡ None) (same_key name q is) (unnamed v follows)
 
-  answers : (v : Client) → Follows d v → Answers holder.schema (caller_of o).seen holder.number v (command.Snapshot name) r (with_snapshot name s v)
+  answers : (v : Client) → Follows d v → Answers holder.schema (caller_of o).seen holder.number v (command.Name (name_line.Snapshot name)) r (with_snapshot name s v)
   unfolding holder
   answers v follows =
       let free_name = unnamed v follows in
-      let told : outcome v (turn holder.schema holder.seen (length holder.seen) v (command.Snapshot name)) ≡ (snapshot_reply (transaction_of d.«open») s, with_snapshot name s v) = rw (follows.transaction, opened, free_name) refl in
+      let told : outcome v (name_turn holder.schema holder.seen v (name_line.Snapshot name)) ≡ (snapshot_reply (transaction_of d.«open») s, with_snapshot name s v) = rw (follows.transaction, opened, free_name) refl in
       record {
         now = length holder.seen;
         not_older = follows.last;
         there = rw caller (search (arith));
-        says = of_rows refl (by_turn (ap (λ (q : Caller). outcome v (turn holder.schema q.seen (length holder.seen) v (command.Snapshot name))) caller ∙ told ∙ ap (λ (x : said.Reply). (x, with_snapshot name s v)) (sym reply)));
+        says = ap (λ (q : Caller). outcome v (name_turn holder.schema q.seen v (name_line.Snapshot name))) caller ∙ told ∙ ap (λ (x : said.Reply). (x, with_snapshot name s v)) (sym reply);
         entry = no_entry (caller_of o).seen holder.number v.transaction r none;
       }
 
@@ -347,7 +356,7 @@ module _ (d : Desk) (o : Open) (snaps : Named Kept) (name : Bytes) (s : Sight) (
   kept_follows v follows = record {
     transaction = follows.transaction ∙ sym same;
     last = rw caller follows.last;
-    within = answered_within holder.schema (caller_of o).seen holder.number v (command.Snapshot name) r (with_snapshot name s v) (rw caller follows.within) (answers v follows);
+    within = answered_within holder.schema (caller_of o).seen holder.number v (command.Name (name_line.Snapshot name)) r (with_snapshot name s v) (rw caller follows.within) (answers v follows);
     snapshots = λ q.
         seen_step (get_by_text snaps.kept q) (bytes_eq name q) k (get_by_text d.snapshots.kept q) (kept q)
         ∙ ap (cond (bytes_eq name q) (Some (kept_view k))) (follows.snapshots q)
@@ -364,7 +373,7 @@ module _ (d : Desk) (o : Open) (snaps : Named Kept) (name : Bytes) (s : Sight) (
     stands = stands;
   }
 
-  pub keep_replies : RepliesTo (command.Snapshot name) d (record { «open» = o; snapshots = snaps; watching = d.watching }) r
+  pub keep_replies : RepliesTo (command.Name (name_line.Snapshot name)) d (record { «open» = o; snapshots = snaps; watching = d.watching }) r
   unfolding holder d'
   keep_replies v follows = record {
     next = with_snapshot name s v;
@@ -403,14 +412,14 @@ present_writing o txn kept n is stands answers number =
     }
 
 -- a snapshot under a new name
-pub kept_new : (d : Desk) (o : Open) (snaps : Named Kept) (name : Bytes) (k : Kept) (r : said.Reply) → Presents d.«open» k r → caller_of o ≡ caller_of d.«open» → transaction_of o ≡ transaction_of d.«open» → Stands o → is_some (seen_in d.snapshots name) ≡ false → ((q : Bytes) → get_by_text snaps.kept q ≡ cond (bytes_eq name q) (Some k) (get_by_text d.snapshots.kept q)) → RepliesTo (command.Snapshot name) d (record { «open» = o; snapshots = snaps; watching = d.watching }) r
+pub kept_new : (d : Desk) (o : Open) (snaps : Named Kept) (name : Bytes) (k : Kept) (r : said.Reply) → Presents d.«open» k r → caller_of o ≡ caller_of d.«open» → transaction_of o ≡ transaction_of d.«open» → Stands o → is_some (seen_in d.snapshots name) ≡ false → ((q : Bytes) → get_by_text snaps.kept q ≡ cond (bytes_eq name q) (Some k) (get_by_text d.snapshots.kept q)) → RepliesTo (command.Name (name_line.Snapshot name)) d (record { «open» = o; snapshots = snaps; watching = d.watching }) r
 kept_new d o snaps name k r present caller same stands free kept = keep_replies d o snaps name present.sight k r present.opened caller same stands free kept present.sees present.keeps present.reply
 
 -- the same of a state that is kept with its reply, where there was memory
 pub kept_present : (d : Desk) (o : Open) (snaps : Named Kept) (name : Bytes) (k : Kept) (s : DbSchema) (y : replied_by.the_data) (told : Result replied_by.the_data AllocError) → Presents d.«open» k (reply_of s y) → caller_of o ≡ caller_of d.«open» → transaction_of o ≡ transaction_of d.«open» → Stands o → is_some (seen_in d.snapshots name) ≡ false
     → IfOk told (λ r. r ≡ y) → OnOk told ((q : Bytes) → get_by_text snaps.kept q ≡ cond (bytes_eq name q) (Some k) (get_by_text d.snapshots.kept q))
-    → IfOk told (λ r. RepliesTo (command.Snapshot name) d (record { «open» = o; snapshots = snaps; watching = d.watching }) (reply_of s r))
+    → IfOk told (λ r. RepliesTo (command.Name (name_line.Snapshot name)) d (record { «open» = o; snapshots = snaps; watching = d.watching }) (reply_of s r))
 kept_present d o snaps name k s y (Ok r) present caller same stands free is kept =
-    subst (λ (x : replied_by.the_data). RepliesTo (command.Snapshot name) d (record { «open» = o; snapshots = snaps; watching = d.watching }) (reply_of s x)) (sym is)
+    subst (λ (x : replied_by.the_data). RepliesTo (command.Name (name_line.Snapshot name)) d (record { «open» = o; snapshots = snaps; watching = d.watching }) (reply_of s x)) (sym is)
     (kept_new d o snaps name k (reply_of s y) present caller same stands free kept)
 kept_present d o snaps name k s y (Err e) present caller same stands free is kept = tt

@@ -1,6 +1,7 @@
 -- What a check and a wait are told, and that they print a count that was read.
 use Rattle.std.proofs.Common.{◌≡◌, ◌∙◌, ◌++◌, ℕ, List, [], ◌∷◌, length, Option, Some, None, Ok, Err, refl, sym, ap, subst, inl, inr, append-nil, append_assoc, arith}
 use Rattle.std.specs.Prelude.{codes, option_map}
+use Rattle.std.proofs.lemmas.List.{length-map}
 use Rattle.std.specs.BTreeMap.{get_by_text}
 use mathlib.Core.List.{IsPrefix}
 use Rattle.mdb_datum.specs.Bytes.{Bytes}
@@ -17,15 +18,16 @@ use Rattle.mem_txn.proofs.OneLook.{last_read}
 use Rattle.watch_set.specs.Checks.{OnlyLooks}
 use Rattle.watch_set.specs.Members.{Member}
 use Rattle.client_script.specs.Client.{Client, Judged, Watch, WatchSet, no_write_open, set_named, watch_named}
-use Rattle.client_script.specs.Reply.{Reply, fired_at, quiet_at, refused}
-use Rattle.client_script.specs.Watching.{IsChecked, IsJudged, check_judged, set_called, told_number, until_judged, wait_judged, watch_called}
-use Rattle.client_script.specs.declared.command.Command.TheVariants as command
-use Rattle.client_session.specs.Cells.{TellsCells}
+use Rattle.client_script.specs.Reply.{Reply, fired_at, quiet_at, refused, sized}
+use Rattle.client_script.specs.Watching.{IsChecked, IsJudged, check_judged, told_number, until_judged, wait_judged, watch_called}
+use Rattle.client_script.specs.Turn.{outcome, set_called, size_turn}
+use Rattle.client_script.specs.declared.command.WatchesCommand.TheVariants as watches_line
+use Rattle.client_session.specs.Cells.{WatchTellsCells}
 use Rattle.client_session.specs.Counts.{AreAmong, count_told}
 use Rattle.client_session.specs.declared.watching.Watching.{Watching}
 use Rattle.client_session.specs.inner.ReplyOf.{reply_of}
 use Rattle.client_session.specs.inner.SetsKept.{look_reply}
-use Rattle.client_session.specs.inner.WatchingView.{HasLookedOn, Holds, IsSet, IsSetOf, Knows, PrintsRead, TellsLook, watch_of}
+use Rattle.client_session.specs.inner.WatchingView.{HasLookedOn, Holds, IsSet, IsSetOf, Knows, PrintsRead, TellsLook, member_of, watch_of}
 use Rattle.client_session.proofs.CellsTold.{fired_moved}
 use Rattle.client_session.proofs.HeldOn.{holds_longer, knows_longer}
 use Rattle.client_session.proofs.OpenTurns.{later_seen}
@@ -116,6 +118,22 @@ pub called_no_set : (p : Caller) (g : Watching) (v : Client) (set : Bytes) → K
 called_no_set p g v set knows none =
     ap (λ (o : Option WatchSet). needed unknown o) (known_none p (set_named set v.watching.sets) (subst (λ (o : Option (List Member)). IsSetOf p o (set_named set v.watching.sets)) none (knows.sets set)))
 
+-- how many members a set has
+size_by : (v : Client) → Judged WatchSet → Reply × Client
+size_by v j = outcome v (j >>= (λ s. Ok (sized (length s.members), v)))
+
+pub size_known : (p : Caller) (g : Watching) (v : Client) (set : Bytes) (ms : List Member) → Knows p g v.watching → get_by_text g.sets.kept set ≡ Some ms → outcome v (size_turn v set) ≡ (sized (length ms), v)
+unfolding size_by
+size_known p g v set ms knows there =
+    let s = called_set p g v set ms knows there in
+    let known = s.2 in
+    let count : length s.0.members ≡ length ms = ap length known.members ∙ length-map ms member_of in
+    ap (size_by v) s.1 ∙ ap (λ (n : ℕ). (sized n, v)) count
+
+pub size_unknown : (p : Caller) (g : Watching) (v : Client) (set : Bytes) → Knows p g v.watching → get_by_text g.sets.kept set ≡ None → outcome v (size_turn v set) ≡ (refused unknown, v)
+unfolding size_by
+size_unknown p g v set knows none = ap (size_by v) (called_no_set p g v set knows none)
+
 -- no write transaction is open
 module _ (v : Client) (free : no_write_open v.transaction ≡ Ok tt) where
   check_free : (name : Bytes) → check_judged v name ≡ watch_called name v
@@ -143,13 +161,13 @@ checked old new name h (look.Fired at) held law answers =
 
 -- a watch that has fired has another cell
 moved : (g : Watching) (v : Client) (name : Bytes) (old new : Caller) (h : HeldWatch) (l : Look) (next : Client) → Knows old g v.watching → get_by_text g.watches.kept name ≡ Some h → IsHeldBy new h → AreComplete (cells_seen new) → AnswersCheck old new h l
-    → TellsCells (cells_seen new) v (command.Check name) (reply_of old.schema (look_reply l)) next
+    → WatchTellsCells (cells_seen new) v (watches_line.Check name) (reply_of old.schema (look_reply l)) next
 moved g v name old new h (look.Quiet at) next knows there held complete answers = tt
 moved g v name old new h (look.Fired at) next knows there held complete answers =
     (watch_of name h, named_watch old g v name h knows there, fired_moved new h name at complete held answers.1 answers.2)
 
 pub check_told : (g : Watching) (name : Bytes) (old new : Caller) (h : HeldWatch) (l : Look) → get_by_text g.watches.kept name ≡ Some h → Holds old g → HasSeen old new → IsHeldBy new h → MovesAreTouches (cells_seen new) → AreComplete (cells_seen new)
-    → AnswersCheck old new h l → TellsLook g (command.Check name) old new (reply_of old.schema (look_reply l))
+    → AnswersCheck old new h l → TellsLook g (watches_line.Check name) old new (reply_of old.schema (look_reply l))
 check_told g name old new h l there holds seen held law complete answers = record {
   prints = prints_count old old new (number_of l) (reply_of old.schema (look_reply l)) ([], append-nil old.counts) answers.0 answers.1 (prints_number old l);
   told = λ v may. record {

@@ -1,6 +1,6 @@
 -- The turns that begin and end transactions.
 use Rattle.std.proofs.Common.{arith, lt-ltb, ◌≡◌, refl, ap, subst, sym, ◌∙◌, ℕ, ◌+◌, ◌<◌, ◌≤◌, ◌^◌, List, [], ◌∷◌, ◌++◌, length, inl, inr, Result, Ok, Err, IfOk, OnErr}
-use Rattle.std.specs.Prelude.{codes, nat_lt}
+use Rattle.std.specs.Prelude.{codes, map, nat_lt}
 use Rattle.std.specs.declared.alloc.AllocError.{AllocError}
 use Rattle.std.proofs.lemmas.List.{append-nil, length-append}
 use Rattle.mdb_datum.specs.Bytes.{Bytes}
@@ -22,18 +22,19 @@ use Rattle.mem_txn.specs.declared.txn_error.BeginError.TheVariants as begin_erro
 use Rattle.mem_txn.specs.declared.write_txn.WriteTxn.{WriteTxn}
 use Rattle.client_script.specs.Client.{Client, Transaction, closed, reading, writing}
 use Rattle.client_script.specs.Reply.{Reply, read_at, write_at, ended, committed, aborted, refused}
-use Rattle.client_script.specs.Spent.{by_turn}
-use Rattle.client_script.specs.Turn.{commit_limit, outcome, turn}
-use Rattle.client_script.specs.declared.command.Command.{Command}
+use Rattle.client_script.specs.Turn.{changed_row, commit_limit, outcome, transaction_turn}
 use Rattle.client_script.specs.declared.command.Command.TheVariants as command
+use Rattle.client_script.specs.declared.command.TransactionCommand.{TransactionCommand}
+use Rattle.client_script.specs.declared.command.TransactionCommand.TheVariants as transaction_line
 use Rattle.client_session.specs.Answered.{IsLater}
+use Rattle.client_session.specs.Counts.{count_told}
 use Rattle.client_session.specs.Steps.{HasDoneOnce}
 use Rattle.client_session.specs.declared.open.Open.{Open}
 use Rattle.client_session.specs.declared.open.Open.TheVariants as opens
 use Rattle.client_session.specs.declared.reply.Reply.TheVariants as replies
 use Rattle.client_session.specs.inner.ReplyOf.{reply_of}
 use Rattle.client_session.specs.inner.OpenView.{Grows, IsNumbered, Looks, LooksAndTurns, Stands, TurnsTo, WasRead, caller_of, transaction_of}
-use Rattle.client_session.proofs.ToldCounts.{TellsNone, told_none}
+use Rattle.client_session.proofs.ToldCounts.{TellsNone, among_none}
 use Rattle.mdb_schema.specs.Schema.{DbSchema}
 
 -- a caller that has seen no more
@@ -54,11 +55,11 @@ none_made p q cs none same =
 was_read : (p : Caller) → WasRead p (reading_of p)
 was_read p = (p, begins_itself p, refl)
 
-read_turns : (pass : Caller) → TurnsTo command.Read (opens.Nothing pass) (opens.Reading pass (reading_of pass)) (read_at (length pass.seen))
+read_turns : (pass : Caller) → TurnsTo (command.Transaction transaction_line.Read) (opens.Nothing pass) (opens.Reading pass (reading_of pass)) (read_at (length pass.seen))
 read_turns pass = record {
   turns = λ v is le. record {
     next = record { last = length pass.seen; transaction = reading (length pass.seen); snapshots = v.snapshots; watching = v.watching };
-    says = by_turn (rw is refl);
+    says = rw is refl;
     transaction = refl;
     snapshots = refl;
     watching = refl;
@@ -108,22 +109,22 @@ looked old new n seen read = record {
   stands = tt;
 }
 
-pub begun_read : (self : Open) (old new : Caller) (txn : Reading) (n : ℕ) → self ≡ opens.Nothing old → HasSeen old new → HasRead old new txn.view.number → txn ≡ reading_of new → n ≡ txn.view.number → LooksAndTurns command.Read self (opens.Reading new txn) (read_at n)
+pub begun_read : (self : Open) (old new : Caller) (txn : Reading) (n : ℕ) → self ≡ opens.Nothing old → HasSeen old new → HasRead old new txn.view.number → txn ≡ reading_of new → n ≡ txn.view.number → LooksAndTurns transaction_line.Read self (opens.Reading new txn) (read_at n)
 unfolding looked
-begun_read self old new txn n is seen read sees number = subst (λ (s : Open). LooksAndTurns command.Read s (opens.Reading new txn) (read_at n)) (sym is) (record {
+begun_read self old new txn n is seen read sees number = subst (λ (s : Open). LooksAndTurns transaction_line.Read s (opens.Reading new txn) (read_at n)) (sym is) (record {
   at = opens.Nothing new;
   looks = looked old new txn.view.number seen read;
   turns =
-      subst (λ (k : ℕ). TurnsTo command.Read (opens.Nothing new) (opens.Reading new txn) (read_at k)) (sym (number ∙ ap (λ (x : Reading). x.view.number) sees))
-      (subst (λ (x : Reading). TurnsTo command.Read (opens.Nothing new) (opens.Reading new x) (read_at (length new.seen))) (sym sees) (read_turns new));
+      subst (λ (k : ℕ). TurnsTo (command.Transaction transaction_line.Read) (opens.Nothing new) (opens.Reading new txn) (read_at k)) (sym (number ∙ ap (λ (x : Reading). x.view.number) sees))
+      (subst (λ (x : Reading). TurnsTo (command.Transaction transaction_line.Read) (opens.Nothing new) (opens.Reading new x) (read_at (length new.seen))) (sym sees) (read_turns new));
   loads = λ v is' le. inl (number, tt);
 })
 
-end_turns : (pass : Caller) (txn : Reading) → TurnsTo command.End (opens.Reading pass txn) (opens.Nothing pass) ended
+end_turns : (pass : Caller) (txn : Reading) → TurnsTo (command.Transaction transaction_line.End) (opens.Reading pass txn) (opens.Nothing pass) ended
 end_turns pass txn = record {
   turns = λ v is le. record {
     next = record { last = v.last; transaction = closed; snapshots = v.snapshots; watching = v.watching };
-    says = by_turn (rw is refl);
+    says = rw is refl;
     transaction = refl;
     snapshots = refl;
     watching = refl;
@@ -134,19 +135,19 @@ end_turns pass txn = record {
   numbered = refl;
 }
 
-pub ended_turns : (self : Open) (pass : Caller) (txn : Reading) → self ≡ opens.Reading pass txn → TurnsTo command.End self (opens.Nothing pass) ended
-ended_turns self pass txn is = subst (λ (s : Open). TurnsTo command.End s (opens.Nothing pass) ended) (sym is) (end_turns pass txn)
+pub ended_turns : (self : Open) (pass : Caller) (txn : Reading) → self ≡ opens.Reading pass txn → TurnsTo (command.Transaction transaction_line.End) self (opens.Nothing pass) ended
+ended_turns self pass txn is = subst (λ (s : Open). TurnsTo (command.Transaction transaction_line.End) s (opens.Nothing pass) ended) (sym is) (end_turns pass txn)
 
 -- what a new write transaction is to its client
 new_writing : ℕ → Transaction
 new_writing n = writing (record { number = n; writes = []; texts = [] })
 
-write_turns : (old : Caller) (txn : WriteTxn Bytes) → length old.seen < 2 ^ 63 → changes_of txn ≡ begun old → items_of txn ≡ [] → TurnsTo command.Write (opens.Nothing old) (opens.Writing txn) (write_at (length old.seen))
+write_turns : (old : Caller) (txn : WriteTxn Bytes) → length old.seen < 2 ^ 63 → changes_of txn ≡ begun old → items_of txn ≡ [] → TurnsTo (command.Transaction transaction_line.Write) (opens.Nothing old) (opens.Writing txn) (write_at (length old.seen))
 unfolding new_writing
 write_turns old txn few changes items = record {
   turns = λ v is le. record {
     next = record { last = length old.seen; transaction = new_writing (length old.seen); snapshots = v.snapshots; watching = v.watching };
-    says = by_turn (rw (is, lt-ltb (length old.seen) commit_limit few) refl);
+    says = rw (is, lt-ltb (length old.seen) commit_limit few) refl;
     transaction = sym (ap (λ (c : Changes). writing (record { number = length c.caller.seen; writes = c.writes; texts = items_of txn })) changes ∙ ap (λ (texts : List Bytes). writing (record { number = length old.seen; writes = []; texts = texts })) items);
     snapshots = refl;
     watching = refl;
@@ -158,23 +159,23 @@ write_turns old txn few changes items = record {
 }
 
 pub begun_write : (self : Open) (old : Caller) (txn : WriteTxn Bytes) (n : ℕ) → self ≡ opens.Nothing old → HasSeen old (changes_of txn).caller → HasRead old (changes_of txn).caller (length (changes_of txn).caller.seen) → length (changes_of txn).caller.seen < 2 ^ 63 → changes_of txn ≡ begun (changes_of txn).caller → items_of txn ≡ [] → n ≡ length (changes_of txn).caller.seen
-    → LooksAndTurns command.Write self (opens.Writing txn) (write_at n)
+    → LooksAndTurns transaction_line.Write self (opens.Writing txn) (write_at n)
 unfolding looked
 begun_write self old txn n is seen read few changes items number =
     let new = (changes_of txn).caller in
-    subst (λ (s : Open). LooksAndTurns command.Write s (opens.Writing txn) (write_at n)) (sym is) (record {
+    subst (λ (s : Open). LooksAndTurns transaction_line.Write s (opens.Writing txn) (write_at n)) (sym is) (record {
       at = opens.Nothing new;
       looks = looked old new (length new.seen) seen read;
-      turns = subst (λ (k : ℕ). TurnsTo command.Write (opens.Nothing new) (opens.Writing txn) (write_at k)) (sym number) (write_turns new txn few changes items);
+      turns = subst (λ (k : ℕ). TurnsTo (command.Transaction transaction_line.Write) (opens.Nothing new) (opens.Writing txn) (write_at k)) (sym number) (write_turns new txn few changes items);
       loads = λ v is' le. inl (number, tt);
     })
 
 -- a history that can have no further commit
-spent_turns : (pass : Caller) → length pass.seen ≡ 2 ^ 63 → TurnsTo command.Write (opens.Nothing pass) (opens.Nothing pass) (refused (codes "commits-spent"))
+spent_turns : (pass : Caller) → length pass.seen ≡ 2 ^ 63 → TurnsTo (command.Transaction transaction_line.Write) (opens.Nothing pass) (opens.Nothing pass) (refused (codes "commits-spent"))
 spent_turns pass spent = record {
   turns = λ v is le. record {
     next = v;
-    says = by_turn (rw (is, ap (λ (n : ℕ). nat_lt n commit_limit) spent) refl);
+    says = rw (is, ap (λ (n : ℕ). nat_lt n commit_limit) spent) refl;
     transaction = is;
     snapshots = refl;
     watching = refl;
@@ -185,10 +186,10 @@ spent_turns pass spent = record {
   numbered = refl;
 }
 
-pub spent_write : (self : Open) (old : Caller) (r : BeginRefused) → self ≡ opens.Nothing old → r.cause ≡ begin_errors.CommitsSpent → HasSeen old r.pass → IsRefused old r.pass r.cause → LooksAndTurns command.Write self (opens.Nothing r.pass) (refused (codes "commits-spent"))
+pub spent_write : (self : Open) (old : Caller) (r : BeginRefused) → self ≡ opens.Nothing old → r.cause ≡ begin_errors.CommitsSpent → HasSeen old r.pass → IsRefused old r.pass r.cause → LooksAndTurns transaction_line.Write self (opens.Nothing r.pass) (refused (codes "commits-spent"))
 spent_write self old r is cause seen why =
     let spent : IsRefused old r.pass begin_errors.CommitsSpent = subst (IsRefused old r.pass) cause why in
-    subst (λ (s : Open). LooksAndTurns command.Write s (opens.Nothing r.pass) (refused (codes "commits-spent"))) (sym is) (record {
+    subst (λ (s : Open). LooksAndTurns transaction_line.Write s (opens.Nothing r.pass) (refused (codes "commits-spent"))) (sym is) (record {
       at = opens.Nothing r.pass;
       looks = looked old r.pass (length r.pass.seen) seen spent.0;
       turns = spent_turns r.pass spent.1;
@@ -199,14 +200,14 @@ pub try_began : (callers : ℕ) (p : Caller) (t : Tried Bytes) (txn : WriteTxn B
 try_began callers p t txn is answers = subst (λ (x : Tried Bytes). AnswersTry callers p (Ok x)) is answers
 
 -- the one try found the turn free
-pub won_from : (self : Open) (old new : Caller) → self ≡ opens.Nothing old → HasWon old new → HasDoneOnce command.Write (caller_of self) new
+pub won_from : (self : Open) (old new : Caller) → self ≡ opens.Nothing old → HasWon old new → HasDoneOnce (command.Transaction transaction_line.Write) (caller_of self) new
 won_from self old new is won = inr (subst (λ (s : Open). HasWon (caller_of s) new) (sym is) won)
 
-abort_turns : (pass : Caller) (txn : WriteTxn Bytes) → pass ≡ (changes_of txn).caller → TurnsTo command.Abort (opens.Writing txn) (opens.Nothing pass) aborted
+abort_turns : (pass : Caller) (txn : WriteTxn Bytes) → pass ≡ (changes_of txn).caller → TurnsTo (command.Transaction transaction_line.Abort) (opens.Writing txn) (opens.Nothing pass) aborted
 abort_turns pass txn same = record {
   turns = λ v is le. record {
     next = record { last = v.last; transaction = closed; snapshots = v.snapshots; watching = v.watching };
-    says = by_turn (rw is refl);
+    says = rw is refl;
     transaction = refl;
     snapshots = refl;
     watching = refl;
@@ -217,14 +218,18 @@ abort_turns pass txn same = record {
   numbered = refl;
 }
 
-pub aborted_turns : (self : Open) (pass : Caller) (txn : WriteTxn Bytes) → self ≡ opens.Writing txn → pass ≡ (changes_of txn).caller → TurnsTo command.Abort self (opens.Nothing pass) aborted
-aborted_turns self pass txn is same = subst (λ (s : Open). TurnsTo command.Abort s (opens.Nothing pass) aborted) (sym is) (abort_turns pass txn same)
+pub aborted_turns : (self : Open) (pass : Caller) (txn : WriteTxn Bytes) → self ≡ opens.Writing txn → pass ≡ (changes_of txn).caller → TurnsTo (command.Transaction transaction_line.Abort) self (opens.Nothing pass) aborted
+aborted_turns self pass txn is same = subst (λ (s : Open). TurnsTo (command.Transaction transaction_line.Abort) s (opens.Nothing pass) aborted) (sym is) (abort_turns pass txn same)
 
-commit_turns : (txn : WriteTxn Bytes) (c : Committed Bytes) → IsCommitted txn c → TurnsTo command.Commit (opens.Writing txn) (opens.Nothing c.pass) (committed c.receipt.number (deferred_items c.receipt.items))
+-- the reply to a commit
+abbrev said_by : WriteTxn Bytes → Committed Bytes → Reply
+said_by txn c = committed c.receipt.number (map (changed_row (changes_of txn).caller.schema) c.receipt.changes) (deferred_items c.receipt.items)
+
+commit_turns : (txn : WriteTxn Bytes) (c : Committed Bytes) → IsCommitted txn c → TurnsTo (command.Transaction transaction_line.Commit) (opens.Writing txn) (opens.Nothing c.pass) (said_by txn c)
 commit_turns txn c is_committed = record {
   turns = λ v is le. record {
     next = record { last = length (changes_of txn).caller.seen + 1; transaction = closed; snapshots = v.snapshots; watching = v.watching };
-    says = by_turn (rw (is, is_committed.number, is_committed.items) refl);
+    says = rw (is, is_committed.number, is_committed.changes, is_committed.items) refl;
     transaction = refl;
     snapshots = refl;
     watching = refl;
@@ -241,11 +246,11 @@ commit_turns txn c is_committed = record {
     numbers : c.receipt.number ≡ length (changes_of txn).caller.seen + 1 → told c.receipt.number ≡ told (length (changes_of txn).caller.seen + 1)
     numbers e = ap told e
 
-pub committed_turns : (self : Open) (txn : WriteTxn Bytes) (c : Committed Bytes) → self ≡ opens.Writing txn → IsCommitted txn c → TurnsTo command.Commit self (opens.Nothing c.pass) (committed c.receipt.number (deferred_items c.receipt.items))
-committed_turns self txn c is is_committed = subst (λ (s : Open). TurnsTo command.Commit s (opens.Nothing c.pass) (committed c.receipt.number (deferred_items c.receipt.items))) (sym is) (commit_turns txn c is_committed)
+committed_turns : (self : Open) (txn : WriteTxn Bytes) (c : Committed Bytes) → self ≡ opens.Writing txn → IsCommitted txn c → TurnsTo (command.Transaction transaction_line.Commit) self (opens.Nothing c.pass) (reply_of (caller_of self).schema (replies.Committed c.receipt))
+committed_turns self txn c is is_committed = subst (λ (s : Open). TurnsTo (command.Transaction transaction_line.Commit) s (opens.Nothing c.pass) (reply_of (caller_of s).schema (replies.Committed c.receipt))) (sym is) (commit_turns txn c is_committed)
 
-pub committed_result : (self : Open) (txn : WriteTxn Bytes) (c : Committed Bytes) (result : Open × Result replies.the_data AllocError) → self ≡ opens.Writing txn → IsCommitted txn c → result ≡ (opens.Nothing c.pass, Ok (replies.Committed c.receipt)) → IfOk result.1 (λ r. TurnsTo command.Commit self result.0 (reply_of (caller_of self).schema r))
-committed_result self txn c result is is_committed gives = subst (λ (p : Open × Result replies.the_data AllocError). IfOk p.1 (λ r. TurnsTo command.Commit self p.0 (reply_of (caller_of self).schema r))) (sym gives) (committed_turns self txn c is is_committed)
+pub committed_result : (self : Open) (txn : WriteTxn Bytes) (c : Committed Bytes) (result : Open × Result replies.the_data AllocError) → self ≡ opens.Writing txn → IsCommitted txn c → result ≡ (opens.Nothing c.pass, Ok (replies.Committed c.receipt)) → IfOk result.1 (λ r. TurnsTo (command.Transaction transaction_line.Commit) self result.0 (reply_of (caller_of self).schema r))
+committed_result self txn c result is is_committed gives = subst (λ (p : Open × Result replies.the_data AllocError). IfOk p.1 (λ r. TurnsTo (command.Transaction transaction_line.Commit) self p.0 (reply_of (caller_of self).schema r))) (sym gives) (committed_turns self txn c is is_committed)
 
 -- ---- a command that looks at no further commits
 
@@ -260,60 +265,60 @@ looks_self o stands = record {
 }
 
 -- and breaks a rule
-refused_once : (c : Command) (o : Open) (rule : Bytes) → Stands o → TurnsTo c o o (refused rule) → LooksAndTurns c o o (refused rule)
-refused_once c o rule stands turns = record { at = o; looks = looks_self o stands; turns = turns; loads = λ v same le. tt }
+refused_once : (t : TransactionCommand) (o : Open) (rule : Bytes) → Stands o → TurnsTo (command.Transaction t) o o (refused rule) → LooksAndTurns t o o (refused rule)
+refused_once t o rule stands turns = record { at = o; looks = looks_self o stands; turns = turns; loads = λ v same le. tt }
 
 -- a transaction is open, and so none begins
-open_turns : (c : Command) (o : Open) → Stands o → Grows (caller_of o) (caller_of o) (transaction_of o) (refused (codes "transaction-open"))
+open_turns : (t : TransactionCommand) (o : Open) → Stands o → Grows (caller_of o) (caller_of o) (transaction_of o) (refused (codes "transaction-open"))
     → IsNumbered (caller_of o) (transaction_of o) (refused (codes "transaction-open"))
-    → ((v : Client) → v.transaction ≡ transaction_of o → outcome v (turn (caller_of o).schema (caller_of o).seen (length (caller_of o).seen) v c) ≡ (refused (codes "transaction-open"), v))
-    → LooksAndTurns c o o (refused (codes "transaction-open"))
-open_turns c o stands grows numbered says = refused_once c o (codes "transaction-open") stands (record {
-  turns = λ v is le. record { next = v; says = by_turn (says v is); transaction = is; snapshots = refl; watching = refl; last = le };
+    → ((v : Client) → v.transaction ≡ transaction_of o → outcome v (transaction_turn (caller_of o).schema (caller_of o).seen (length (caller_of o).seen) v t) ≡ (refused (codes "transaction-open"), v))
+    → LooksAndTurns t o o (refused (codes "transaction-open"))
+open_turns t o stands grows numbered says = refused_once t o (codes "transaction-open") stands (record {
+  turns = λ v is le. record { next = v; says = says v is; transaction = is; snapshots = refl; watching = refl; last = le };
   stands = stands;
   grows = grows;
   numbered = numbered;
 })
 
-pub read_refused : (o : Open) → Stands o → ((p : Caller) → o ≡ opens.Nothing p → ⊥) → LooksAndTurns command.Read o o (refused (codes "transaction-open"))
+pub read_refused : (o : Open) → Stands o → ((p : Caller) → o ≡ opens.Nothing p → ⊥) → LooksAndTurns transaction_line.Read o o (refused (codes "transaction-open"))
 read_refused (opens.Nothing p) stands not = absurd (not p refl)
-read_refused (opens.Reading p txn) stands not = open_turns command.Read (opens.Reading p txn) stands (none_made p p [] refl refl) refl (λ v is. rw is refl)
-read_refused (opens.Writing txn) stands not = open_turns command.Read (opens.Writing txn) stands (none_made (changes_of txn).caller (changes_of txn).caller [] refl refl) refl (λ v is. rw is refl)
+read_refused (opens.Reading p txn) stands not = open_turns transaction_line.Read (opens.Reading p txn) stands (none_made p p [] refl refl) refl (λ v is. rw is refl)
+read_refused (opens.Writing txn) stands not = open_turns transaction_line.Read (opens.Writing txn) stands (none_made (changes_of txn).caller (changes_of txn).caller [] refl refl) refl (λ v is. rw is refl)
 
-pub write_refused : (o : Open) → Stands o → ((p : Caller) → o ≡ opens.Nothing p → ⊥) → LooksAndTurns command.Write o o (refused (codes "transaction-open"))
+pub write_refused : (o : Open) → Stands o → ((p : Caller) → o ≡ opens.Nothing p → ⊥) → LooksAndTurns transaction_line.Write o o (refused (codes "transaction-open"))
 write_refused (opens.Nothing p) stands not = absurd (not p refl)
-write_refused (opens.Reading p txn) stands not = open_turns command.Write (opens.Reading p txn) stands (none_made p p [] refl refl) refl (λ v is. rw is refl)
-write_refused (opens.Writing txn) stands not = open_turns command.Write (opens.Writing txn) stands (none_made (changes_of txn).caller (changes_of txn).caller [] refl refl) refl (λ v is. rw is refl)
+write_refused (opens.Reading p txn) stands not = open_turns transaction_line.Write (opens.Reading p txn) stands (none_made p p [] refl refl) refl (λ v is. rw is refl)
+write_refused (opens.Writing txn) stands not = open_turns transaction_line.Write (opens.Writing txn) stands (none_made (changes_of txn).caller (changes_of txn).caller [] refl refl) refl (λ v is. rw is refl)
 
 -- ---- a rule is broken
 
-nothing_turns : (c : Command) (p : Caller) (rule : Bytes) → ((v : Client) → v.transaction ≡ closed → outcome v (turn p.schema p.seen (length p.seen) v c) ≡ (refused rule, v)) → TurnsTo c (opens.Nothing p) (opens.Nothing p) (refused rule)
-nothing_turns c p rule says = record {
-  turns = λ v is le. record { next = v; says = by_turn (says v is); transaction = is; snapshots = refl; watching = refl; last = le };
+nothing_turns : (t : TransactionCommand) (p : Caller) (rule : Bytes) → ((v : Client) → v.transaction ≡ closed → outcome v (transaction_turn p.schema p.seen (length p.seen) v t) ≡ (refused rule, v)) → TurnsTo (command.Transaction t) (opens.Nothing p) (opens.Nothing p) (refused rule)
+nothing_turns t p rule says = record {
+  turns = λ v is le. record { next = v; says = says v is; transaction = is; snapshots = refl; watching = refl; last = le };
   stands = tt;
   grows = none_made p p [] refl refl;
   numbered = refl;
 }
 
-pub nothing_refused : (c : Command) (self : Open) (p : Caller) (rule : Bytes) → self ≡ opens.Nothing p → ((v : Client) → v.transaction ≡ closed → outcome v (turn p.schema p.seen (length p.seen) v c) ≡ (refused rule, v)) → TurnsTo c self (opens.Nothing p) (refused rule)
-nothing_refused c self p rule is says = subst (λ (o : Open). TurnsTo c o (opens.Nothing p) (refused rule)) (sym is) (nothing_turns c p rule says)
+pub nothing_refused : (t : TransactionCommand) (self : Open) (p : Caller) (rule : Bytes) → self ≡ opens.Nothing p → ((v : Client) → v.transaction ≡ closed → outcome v (transaction_turn p.schema p.seen (length p.seen) v t) ≡ (refused rule, v)) → TurnsTo (command.Transaction t) self (opens.Nothing p) (refused rule)
+nothing_refused t self p rule is says = subst (λ (o : Open). TurnsTo (command.Transaction t) o (opens.Nothing p) (refused rule)) (sym is) (nothing_turns t p rule says)
 
-reading_turns : (c : Command) (p : Caller) (txn : Reading) (rule : Bytes) → Stands (opens.Reading p txn) → ((v : Client) → v.transaction ≡ reading txn.view.number → outcome v (turn p.schema p.seen (length p.seen) v c) ≡ (refused rule, v)) → TurnsTo c (opens.Reading p txn) (opens.Reading p txn) (refused rule)
-reading_turns c p txn rule stands says = record {
-  turns = λ v is le. record { next = v; says = by_turn (says v is); transaction = is; snapshots = refl; watching = refl; last = le };
+reading_turns : (t : TransactionCommand) (p : Caller) (txn : Reading) (rule : Bytes) → Stands (opens.Reading p txn) → ((v : Client) → v.transaction ≡ reading txn.view.number → outcome v (transaction_turn p.schema p.seen (length p.seen) v t) ≡ (refused rule, v)) → TurnsTo (command.Transaction t) (opens.Reading p txn) (opens.Reading p txn) (refused rule)
+reading_turns t p txn rule stands says = record {
+  turns = λ v is le. record { next = v; says = says v is; transaction = is; snapshots = refl; watching = refl; last = le };
   stands = stands;
   grows = none_made p p [] refl refl;
   numbered = refl;
 }
 
-pub reading_refused : (c : Command) (self : Open) (p : Caller) (txn : Reading) (rule : Bytes) → self ≡ opens.Reading p txn → Stands self → ((v : Client) → v.transaction ≡ reading txn.view.number → outcome v (turn p.schema p.seen (length p.seen) v c) ≡ (refused rule, v)) → TurnsTo c self (opens.Reading p txn) (refused rule)
-reading_refused c self p txn rule is stands says = subst (λ (o : Open). TurnsTo c o (opens.Reading p txn) (refused rule)) (sym is) (reading_turns c p txn rule (subst Stands is stands) says)
+pub reading_refused : (t : TransactionCommand) (self : Open) (p : Caller) (txn : Reading) (rule : Bytes) → self ≡ opens.Reading p txn → Stands self → ((v : Client) → v.transaction ≡ reading txn.view.number → outcome v (transaction_turn p.schema p.seen (length p.seen) v t) ≡ (refused rule, v)) → TurnsTo (command.Transaction t) self (opens.Reading p txn) (refused rule)
+reading_refused t self p txn rule is stands says = subst (λ (o : Open). TurnsTo (command.Transaction t) o (opens.Reading p txn) (refused rule)) (sym is) (reading_turns t p txn rule (subst Stands is stands) says)
 
-pub end_refused : (o : Open) → Stands o → ((p : Caller) → o ≡ opens.Nothing p → ⊥) → ((p : Caller) (txn : Reading) → o ≡ opens.Reading p txn → ⊥) → TurnsTo command.End o o (refused (codes "write-open"))
+pub end_refused : (o : Open) → Stands o → ((p : Caller) → o ≡ opens.Nothing p → ⊥) → ((p : Caller) (txn : Reading) → o ≡ opens.Reading p txn → ⊥) → TurnsTo (command.Transaction transaction_line.End) o o (refused (codes "write-open"))
 end_refused (opens.Nothing p) stands not nor = absurd (not p refl)
 end_refused (opens.Reading p txn) stands not nor = absurd (nor p txn refl)
 end_refused (opens.Writing txn) stands not nor = record {
-  turns = λ v is le. record { next = v; says = by_turn (rw is refl); transaction = is; snapshots = refl; watching = refl; last = le };
+  turns = λ v is le. record { next = v; says = rw is refl; transaction = is; snapshots = refl; watching = refl; last = le };
   stands = stands;
   grows = none_made (changes_of txn).caller (changes_of txn).caller [] refl refl;
   numbered = refl;
@@ -321,17 +326,20 @@ end_refused (opens.Writing txn) stands not nor = record {
 
 -- ---- turns that look at no further commits
 
-turns_once : (c : Command) (o o' : Open) (r : Reply) → TellsNone c → Stands o → TurnsTo c o o' r → LooksAndTurns c o o' r
-turns_once c o o' r is stands turns = record {
+turns_once : (t : TransactionCommand) (o o' : Open) (r : Reply) → TellsNone (command.Transaction t) → Stands o → TurnsTo (command.Transaction t) o o' r → LooksAndTurns t o o' r
+turns_once t o o' r none stands turns = record {
   at = o;
   looks = looks_self o stands;
   turns = turns;
-  loads = λ v same le. let t = turns.turns v same le in told_none (caller_of o).schema (caller_of o).seen (length (caller_of o).seen) v t.next c r (looks_self o stands).read is t.says;
+  loads = λ v same le.
+      let p = caller_of o in
+      let told = turns.turns v same le in
+      among_none (count_told r) (looks_self o stands).read (none p.schema p.seen p.number (length p.seen) v told.next r told.says);
 }
 
-pub told_once : (c c' : Command) (o o' : Open) (s : DbSchema) (told : Result replies.the_data AllocError) → c' ≡ c → TellsNone c → Stands o → IfOk told (λ r. TurnsTo c o o' (reply_of s r)) → IfOk told (λ r. LooksAndTurns c' o o' (reply_of s r))
-told_once c c' o o' s (Ok r) is starts stands turns = subst (λ (x : Command). LooksAndTurns x o o' (reply_of s r)) (sym is) (turns_once c o o' (reply_of s r) starts stands turns)
-told_once c c' o o' s (Err e) is starts stands turns = tt
+pub told_once : (t t' : TransactionCommand) (o o' : Open) (s : DbSchema) (told : Result replies.the_data AllocError) → t' ≡ t → TellsNone (command.Transaction t) → Stands o → IfOk told (λ r. TurnsTo (command.Transaction t) o o' (reply_of s r)) → IfOk told (λ r. LooksAndTurns t' o o' (reply_of s r))
+told_once t t' o o' s (Ok r) is none stands turns = subst (λ (x : TransactionCommand). LooksAndTurns x o o' (reply_of s r)) (sym is) (turns_once t o o' (reply_of s r) none stands turns)
+told_once t t' o o' s (Err e) is none stands turns = tt
 
-pub told_pair : (c c' : Command) (o : Open) (s : DbSchema) (turn : Open × replies.the_data) (result : Open × Result replies.the_data AllocError) → c' ≡ c → TellsNone c → Stands o → result ≡ (turn.0, Ok turn.1) → TurnsTo c o turn.0 (reply_of s turn.1) → IfOk result.1 (λ r. LooksAndTurns c' o result.0 (reply_of s r))
-told_pair c c' o s turn result is starts stands gives turns = subst (λ (p : Open × Result replies.the_data AllocError). IfOk p.1 (λ r. LooksAndTurns c' o p.0 (reply_of s r))) (sym gives) (subst (λ (x : Command). LooksAndTurns x o turn.0 (reply_of s turn.1)) (sym is) (turns_once c o turn.0 (reply_of s turn.1) starts stands turns))
+pub told_pair : (t t' : TransactionCommand) (o : Open) (s : DbSchema) (turn : Open × replies.the_data) (result : Open × Result replies.the_data AllocError) → t' ≡ t → TellsNone (command.Transaction t) → Stands o → result ≡ (turn.0, Ok turn.1) → TurnsTo (command.Transaction t) o turn.0 (reply_of s turn.1) → IfOk result.1 (λ r. LooksAndTurns t' o result.0 (reply_of s r))
+told_pair t t' o s turn result is none stands gives turns = subst (λ (p : Open × Result replies.the_data AllocError). IfOk p.1 (λ r. LooksAndTurns t' o p.0 (reply_of s r))) (sym gives) (subst (λ (x : TransactionCommand). LooksAndTurns x o turn.0 (reply_of s turn.1)) (sym is) (turns_once t o turn.0 (reply_of s turn.1) none stands turns))

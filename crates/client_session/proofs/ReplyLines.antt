@@ -1,11 +1,12 @@
 -- One more line of an answer.
-use Rattle.std.proofs.Common.{◌≡◌, ap, sym, ◌∙◌, ℕ, zero, suc, ◌+◌, List, [], ◌∷◌, ◌++◌, drop, length, take, refl, Some, slice_get, arith}
+use Rattle.std.proofs.Common.{◌≡◌, ap, sym, ◌∙◌, ℕ, zero, suc, ◌+◌, List, [], ◌∷◌, ◌++◌, drop, length, take, refl, Some, slice_get, Result, Ok, Err, OnOk, arith}
 use Rattle.std.specs.Prelude.{codes}
+use Rattle.std.specs.declared.alloc.AllocError.{AllocError}
 use Rattle.std.proofs.lemmas.List.{append_assoc}
 use Rattle.mdb_datum.specs.Bytes.{Bytes}
 use Rattle.mdb_datum.specs.Row.{Fields}
 use Rattle.mdb_datum.specs.Written.{row_text}
-use Rattle.client_script.specs.Reply.{did_lines, further, row_lines}
+use Rattle.client_script.specs.Reply.{Changed, change_text, changed_lines, did_lines, further, row_lines}
 
 one_more : (n : ℕ) → suc n ≡ n + 1
 one_more n = search (arith)
@@ -31,6 +32,23 @@ row_step out more rows at row whole there added so_far =
     ∙ append_assoc out (further (row_text row)) (row_lines (drop (at + 1) rows))
     ∙ ap (λ (b : Bytes). out ++ b) (sym (ap row_lines (drop_next rows at row there)))
     ∙ so_far
+
+pub change_step : (out more : Bytes) (changes : List Changed) (at : ℕ) (change : Changed) (whole : Bytes) → slice_get changes at ≡ Some change → more ≡ out ++ further (change_text change) → out ++ changed_lines (drop at changes) ≡ whole → more ++ changed_lines (drop (at + 1) changes) ≡ whole
+change_step out more changes at change whole there added so_far =
+    ap (λ (b : Bytes). b ++ changed_lines (drop (at + 1) changes)) added
+    ∙ append_assoc out (further (change_text change)) (changed_lines (drop (at + 1) changes))
+    ∙ ap (λ (b : Bytes). out ++ b) (sym (ap changed_lines (drop_next changes at change there)))
+    ∙ so_far
+
+-- a text that is added in four steps
+pub four_steps : (r : Result (Unit {0}) AllocError) (out a b c d w x y z : Bytes) → a ≡ out ++ w → b ≡ a ++ x → c ≡ b ++ y → OnOk r (d ≡ c ++ z) → OnOk r (d ≡ out ++ (w ++ (x ++ (y ++ z))))
+four_steps (Ok u) out a b c d w x y z first second third last =
+    last
+    ∙ ap (λ (t : Bytes). t ++ z) (third ∙ ap (λ (t : Bytes). t ++ y) (second ∙ ap (λ (t : Bytes). t ++ x) first))
+    ∙ append_assoc ((out ++ w) ++ x) y z
+    ∙ append_assoc (out ++ w) x (y ++ z)
+    ∙ append_assoc out w (x ++ (y ++ z))
+four_steps (Err e) out a b c d w x y z first second third last = tt
 
 -- ---- what was there stays
 

@@ -36,10 +36,14 @@ use Rattle.client_script.proofs.OneClient.{insert_prints}
 use Rattle.client_script.specs.Legal.{callers, number_printed}
 use Rattle.std.specs.List.{enumerate_from}
 use Rattle.client_script.specs.Reply as said
-use Rattle.client_script.specs.Spent.{IsFull, by_turn, ids_spent, is_write as writes_rows, without_ids}
-use Rattle.client_script.specs.Turn.{turn, outcome, write_turn, wipe_turn, insert_reply, indexes_of}
+use Rattle.client_script.specs.Session.{IsAnswered}
+use Rattle.client_script.specs.Spent.{IsFull, by_turn, ids_spent, without_ids}
+use Rattle.client_script.specs.Turn.{outcome, step_turn, write_turn, wipe_turn, insert_reply, indexes_of}
 use Rattle.client_script.specs.declared.command.Command.{Command}
+use Rattle.client_script.specs.declared.command.AskCommand.TheVariants as ask_line
 use Rattle.client_script.specs.declared.command.Command.TheVariants as command
+use Rattle.client_script.specs.declared.command.WriteCommand.{WriteCommand}
+use Rattle.client_script.specs.declared.command.WriteCommand.TheVariants as write_line
 use Rattle.client_script.specs.RefusedWord.{write_word, question_word}
 use Rattle.mdb_encode.specs.KeyRefusal.{wrong_kind, out_of_range, bad_uuid, too_many, too_long}
 use Rattle.client_session.proofs.RowRules.{rule_same, other_rule}
@@ -62,18 +66,18 @@ none_numbered p t r prints makes = ap (map (λ m. (m, p.number))) prints ∙ sym
 -- ---- writes that are accepted
 
 -- a command whose turn is a write
-pub IsWrite : Command → Write → Bytes → (Option Fields → said.Reply) → Type 0
-IsWrite c w table reply = (schema : DbSchema) (H : History) (now : ℕ) (v : Client) → turn schema H now v c ≡ write_turn schema H v w table reply
+pub IsWrite : WriteCommand → Write → Bytes → (Option Fields → said.Reply) → Type 0
+IsWrite c w table reply = (schema : DbSchema) (H : History) (v : Client) → write_turn schema H v c ≡ step_turn schema H v w table reply
 
 next_changes : Client → Changes → List Bytes → Client
 next_changes v t texts = record v { transaction = writing (record { number = length t.caller.seen; writes = t.writes; texts = texts }) }
 
-pub accepted : (c : Command) (w : Write) (table : Bytes) (reply : Option Fields → said.Reply) → IsWrite c w table reply → (txn txn' : WriteTxn Bytes) (after : State × Option Fields) → step (changes_of txn).caller.schema (present (changes_of txn)) w ≡ Ok after → changes_of txn' ≡ changed.with_writes (changes_of txn) (w ∷ []) → items_of txn' ≡ items_of txn → (changes_of txn).spoiled ≡ false → ((n : ℕ) (t : Transaction) → made n t (reply after.1) ≡ []) → number_printed (reply after.1) ≡ [] → TurnsTo c (opens.Writing txn) (opens.Writing txn') (reply after.1)
+pub accepted : (c : WriteCommand) (w : Write) (table : Bytes) (reply : Option Fields → said.Reply) → IsWrite c w table reply → (txn txn' : WriteTxn Bytes) (after : State × Option Fields) → step (changes_of txn).caller.schema (present (changes_of txn)) w ≡ Ok after → changes_of txn' ≡ changed.with_writes (changes_of txn) (w ∷ []) → items_of txn' ≡ items_of txn → (changes_of txn).spoiled ≡ false → ((n : ℕ) (t : Transaction) → made n t (reply after.1) ≡ []) → number_printed (reply after.1) ≡ [] → TurnsTo (command.Write c) (opens.Writing txn) (opens.Writing txn') (reply after.1)
 unfolding IsWrite next_changes
 accepted c w table reply is_write txn txn' after steps changes items sound makes prints = record {
   turns = λ v is le. record {
     next = next_changes v (changed.with_writes (changes_of txn) (w ∷ [])) (items_of txn);
-    says = by_turn (ap (outcome v) (is_write (changes_of txn).caller.schema (changes_of txn).caller.seen (length (changes_of txn).caller.seen) v) ∙ rw (is, steps) refl);
+    says = by_turn (ap (outcome v) (is_write (changes_of txn).caller.schema (changes_of txn).caller.seen v) ∙ rw (is, steps) refl);
     transaction = ap (λ (t : Changes). (next_changes v t (items_of txn)).transaction) (sym changes) ∙ ap (λ (texts : List Bytes). (next_changes v (changes_of txn') texts).transaction) (sym items);
     snapshots = refl;
     watching = refl;
@@ -124,20 +128,20 @@ inserted_is : (was : Option Fields) (replaced : Bool) → gives_replaced was rep
 inserted_is None replaced is = rw is refl
 inserted_is (Some row) replaced is = rw is refl
 
-pub insert_turns : (self : Open) (txn txn' : WriteTxn Bytes) (table : Bytes) (row : Fields) (replaced : Bool) → self ≡ opens.Writing txn → (changes_of txn).spoiled ≡ false → AnswersTxnWrite gives_replaced (put table row) (changes_of txn).spoiled (Ok replaced) (changes_of txn) (changes_of txn') → items_of txn' ≡ items_of txn → TurnsTo (command.Insert table row) self (opens.Writing txn') (if replaced then said.replaced else said.inserted)
+pub insert_turns : (self : Open) (txn txn' : WriteTxn Bytes) (table : Bytes) (row : Fields) (replaced : Bool) → self ≡ opens.Writing txn → (changes_of txn).spoiled ≡ false → AnswersTxnWrite gives_replaced (put table row) (changes_of txn).spoiled (Ok replaced) (changes_of txn) (changes_of txn') → items_of txn' ≡ items_of txn → TurnsTo (command.Write (write_line.Insert table row)) self (opens.Writing txn') (if replaced then said.replaced else said.inserted)
 unfolding IsWrite
 insert_turns self txn txn' table row replaced is sound answers items =
     let a = accepts gives_replaced (put table row) replaced (changes_of txn) (changes_of txn') sound answers in
-    subst (λ (s : Open). TurnsTo (command.Insert table row) s (opens.Writing txn') (if replaced then said.replaced else said.inserted)) (sym is)
-    (subst (λ (r : said.Reply). TurnsTo (command.Insert table row) (opens.Writing txn) (opens.Writing txn') r) (inserted_is a.after.1 replaced a.given)
-    (accepted (command.Insert table row) (put table row) table insert_reply (λ schema H now v. refl) txn txn' a.after a.steps a.changes items sound (insert_makes a.after.1) (insert_prints a.after.1)))
+    subst (λ (s : Open). TurnsTo (command.Write (write_line.Insert table row)) s (opens.Writing txn') (if replaced then said.replaced else said.inserted)) (sym is)
+    (subst (λ (r : said.Reply). TurnsTo (command.Write (write_line.Insert table row)) (opens.Writing txn) (opens.Writing txn') r) (inserted_is a.after.1 replaced a.given)
+    (accepted (write_line.Insert table row) (put table row) table insert_reply (λ schema H v. refl) txn txn' a.after a.steps a.changes items sound (insert_makes a.after.1) (insert_prints a.after.1)))
 
-pub delete_turns : (self : Open) (txn txn' : WriteTxn Bytes) (table : Bytes) (row gone : Fields) → self ≡ opens.Writing txn → (changes_of txn).spoiled ≡ false → AnswersTxnWrite gives_row (remove table row) (changes_of txn).spoiled (Ok gone) (changes_of txn) (changes_of txn') → items_of txn' ≡ items_of txn → TurnsTo (command.Delete table row) self (opens.Writing txn') said.deleted
+pub delete_turns : (self : Open) (txn txn' : WriteTxn Bytes) (table : Bytes) (row gone : Fields) → self ≡ opens.Writing txn → (changes_of txn).spoiled ≡ false → AnswersTxnWrite gives_row (remove table row) (changes_of txn).spoiled (Ok gone) (changes_of txn) (changes_of txn') → items_of txn' ≡ items_of txn → TurnsTo (command.Write (write_line.Delete table row)) self (opens.Writing txn') said.deleted
 unfolding IsWrite
 delete_turns self txn txn' table row gone is sound answers items =
     let a = accepts gives_row (remove table row) gone (changes_of txn) (changes_of txn') sound answers in
-    subst (λ (s : Open). TurnsTo (command.Delete table row) s (opens.Writing txn') said.deleted) (sym is)
-    (accepted (command.Delete table row) (remove table row) table (λ was. said.deleted) (λ schema H now v. refl) txn txn' a.after a.steps a.changes items sound (λ n t. deleted_makes n t) refl)
+    subst (λ (s : Open). TurnsTo (command.Write (write_line.Delete table row)) s (opens.Writing txn') said.deleted) (sym is)
+    (accepted (write_line.Delete table row) (remove table row) table (λ was. said.deleted) (λ schema H v. refl) txn txn' a.after a.steps a.changes items sound (λ n t. deleted_makes n t) refl)
   where
     deleted_makes : (n : ℕ) (t : Transaction) → made n t said.deleted ≡ []
     deleted_makes n closed = refl
@@ -147,7 +151,7 @@ delete_turns self txn txn' table row gone is sound answers items =
 -- ---- refusals
 
 -- nothing is changed, and the line is answered with the name of a rule
-same_turns : (c : Command) (txn txn' : WriteTxn Bytes) (rule : Bytes) → ((v : Client) → v.transaction ≡ transaction_of (opens.Writing txn) → turn (changes_of txn).caller.schema (changes_of txn).caller.seen (length (changes_of txn).caller.seen) v c ≡ Err rule) → changes_of txn' ≡ changes_of txn → items_of txn' ≡ items_of txn → (changes_of txn).spoiled ≡ false → TurnsTo c (opens.Writing txn) (opens.Writing txn') (said.refused rule)
+same_turns : (c : WriteCommand) (txn txn' : WriteTxn Bytes) (rule : Bytes) → ((v : Client) → v.transaction ≡ transaction_of (opens.Writing txn) → write_turn (changes_of txn).caller.schema (changes_of txn).caller.seen v c ≡ Err rule) → changes_of txn' ≡ changes_of txn → items_of txn' ≡ items_of txn → (changes_of txn).spoiled ≡ false → TurnsTo (command.Write c) (opens.Writing txn) (opens.Writing txn') (said.refused rule)
 unfolding next_changes
 same_turns c txn txn' rule breaks changes items sound = record {
   turns = λ v is le. record {
@@ -171,13 +175,12 @@ full_same t ws texts full =
     subst (λ (n : ℕ). 2 ^ 36 ≤ n) (add_assoc (writes_in t.caller.seen) (length t.writes) (length ws) ∙ ap (λ (n : ℕ). n + (length t.writes + length ws)) (sym seen) ∙ ap (λ (n : ℕ). writes_in (take (length t.caller.seen) t.caller.seen) + n) (sym both)) full
 
 -- there are too few ids for a line's writes: nothing is changed, and it is told so
-spent_turns : (c : Command) → writes_rows c ≡ true → (txn txn' : WriteTxn Bytes) (ws : List Write) (reply : said.Reply) → ((v : Client) → v.transaction ≡ transaction_of (opens.Writing txn) → turn (changes_of txn).caller.schema (changes_of txn).caller.seen (length (changes_of txn).caller.seen) v c ≡ Ok (reply, next_changes v (changed.with_writes (changes_of txn) ws) (items_of txn))) → changed.IsFull (length ws) (changes_of txn) → changes_of txn' ≡ changes_of txn → items_of txn' ≡ items_of txn → (changes_of txn).spoiled ≡ false → TurnsTo c (opens.Writing txn) (opens.Writing txn') ids_spent
+spent_turns : (c : WriteCommand) (txn txn' : WriteTxn Bytes) (ws : List Write) (reply : said.Reply) → ((v : Client) → v.transaction ≡ transaction_of (opens.Writing txn) → write_turn (changes_of txn).caller.schema (changes_of txn).caller.seen v c ≡ Ok (reply, next_changes v (changed.with_writes (changes_of txn) ws) (items_of txn))) → changed.IsFull (length ws) (changes_of txn) → changes_of txn' ≡ changes_of txn → items_of txn' ≡ items_of txn → (changes_of txn).spoiled ≡ false → TurnsTo (command.Write c) (opens.Writing txn) (opens.Writing txn') ids_spent
 unfolding next_changes
-spent_turns c writes txn txn' ws reply allowed full changes items sound = record {
+spent_turns c txn txn' ws reply allowed full changes items sound = record {
   turns = λ v is le. record {
     next = v;
     says = without_ids (record {
-      write = writes;
       reply = refl;
       same = refl;
       ruled = reply;
@@ -237,25 +240,25 @@ no_table : (schema : DbSchema) (s : State) (w : Write) → table_at schema s (ta
 no_table schema s (put name row) none = rw none refl
 no_table schema s (remove name row) none = rw none refl
 
-write_refused_turn : (c : Command) (w : Write) (reply : Option Fields → said.Reply) → IsWrite c w (table_of w) reply → (txn txn' : WriteTxn Bytes) (why : written.WriteRefusal) → step (changes_of txn).caller.schema (present (changes_of txn)) w ≡ Err why → changes_of txn' ≡ changes_of txn → items_of txn' ≡ items_of txn → (changes_of txn).spoiled ≡ false → TurnsTo c (opens.Writing txn) (opens.Writing txn') (said.refused (write_word (indexes_of (changes_of txn).caller.schema (table_of w)) why))
+write_refused_turn : (c : WriteCommand) (w : Write) (reply : Option Fields → said.Reply) → IsWrite c w (table_of w) reply → (txn txn' : WriteTxn Bytes) (why : written.WriteRefusal) → step (changes_of txn).caller.schema (present (changes_of txn)) w ≡ Err why → changes_of txn' ≡ changes_of txn → items_of txn' ≡ items_of txn → (changes_of txn).spoiled ≡ false → TurnsTo (command.Write c) (opens.Writing txn) (opens.Writing txn') (said.refused (write_word (indexes_of (changes_of txn).caller.schema (table_of w)) why))
 unfolding IsWrite
-write_refused_turn c w reply is_write txn txn' why refuses changes items sound = same_turns c txn txn' _ (λ v is. is_write (changes_of txn).caller.schema (changes_of txn).caller.seen (length (changes_of txn).caller.seen) v ∙ rw (is, refuses) refl) changes items sound
+write_refused_turn c w reply is_write txn txn' why refuses changes items sound = same_turns c txn txn' _ (λ v is. is_write (changes_of txn).caller.schema (changes_of txn).caller.seen v ∙ rw (is, refuses) refl) changes items sound
 
-module _ {A : Type 0} (gives : Option Fields → A → Type 0) (c : Command) (w : Write) (reply : Option Fields → said.Reply) (is_write : IsWrite c w (table_of w) reply) (writes : writes_rows c ≡ true) (txn txn' : WriteTxn Bytes) (items : items_of txn' ≡ items_of txn) (sound : (changes_of txn).spoiled ≡ false) where
+module _ {A : Type 0} (gives : Option Fields → A → Type 0) (c : WriteCommand) (w : Write) (reply : Option Fields → said.Reply) (is_write : IsWrite c w (table_of w) reply) (txn txn' : WriteTxn Bytes) (items : items_of txn' ≡ items_of txn) (sound : (changes_of txn).spoiled ≡ false) where
   schema : DbSchema
   schema = (changes_of txn).caller.schema
 
   To : TxnWriteError → Type 0
-  To e = RefusedTo c (opens.Writing txn) (opens.Writing txn') schema (write_rule schema (table_of w) e)
+  To e = RefusedTo (command.Write c) (opens.Writing txn) (opens.Writing txn') schema (write_rule schema (table_of w) e)
 
   refused_rule : (t : Table) → table_at schema (present (changes_of txn)) (table_of w) ≡ Some t → (why : written.WriteRefusal) → step schema (present (changes_of txn)) w ≡ Err why → changes_of txn' ≡ changes_of txn → To (write_refused.Refused (write_error why))
   unfolding To schema
   refused_rule t there why refuses changes =
       let at = placed schema (present (changes_of txn)) (table_of w) t there in
       let other = other_rule schema (present (changes_of txn)) w t why there refuses in
-      subst (λ (p : Option ℕ). RefusedTo c (opens.Writing txn) (opens.Writing txn') schema (row_rule_but_memory p (write_error why))) (sym at.is)
-      (subst (λ (r : Option rules.the_data). RefusedTo c (opens.Writing txn) (opens.Writing txn') schema r) (sym (but_memory at.place why))
-      (subst (λ (b : Bytes). TurnsTo c (opens.Writing txn) (opens.Writing txn') (said.refused b)) (sym (rule_same schema (table_of w) at.place why other at.is))
+      subst (λ (p : Option ℕ). RefusedTo (command.Write c) (opens.Writing txn) (opens.Writing txn') schema (row_rule_but_memory p (write_error why))) (sym at.is)
+      (subst (λ (r : Option rules.the_data). RefusedTo (command.Write c) (opens.Writing txn) (opens.Writing txn') schema r) (sym (but_memory at.place why))
+      (subst (λ (b : Bytes). TurnsTo (command.Write c) (opens.Writing txn) (opens.Writing txn') (said.refused b)) (sym (rule_same schema (table_of w) at.place why other at.is))
       (write_refused_turn c w reply is_write txn txn' why refuses changes items sound)))
 
   -- the write breaks no rule, and finds too few ids
@@ -263,8 +266,8 @@ module _ {A : Type 0} (gives : Option Fields → A → Type 0) (c : Command) (w 
   unfolding To schema IsWrite next_changes
   spent_rule t there after steps full changes =
       let at = placed schema (present (changes_of txn)) (table_of w) t there in
-      subst (λ (p : Option ℕ). RefusedTo c (opens.Writing txn) (opens.Writing txn') schema (row_rule_but_memory p write_errors.IdsSpent)) (sym at.is)
-      (spent_turns c writes txn txn' (w ∷ []) (reply after.1) (λ v is. is_write (changes_of txn).caller.schema (changes_of txn).caller.seen (length (changes_of txn).caller.seen) v ∙ rw (is, steps) refl) full changes items sound)
+      subst (λ (p : Option ℕ). RefusedTo (command.Write c) (opens.Writing txn) (opens.Writing txn') schema (row_rule_but_memory p write_errors.IdsSpent)) (sym at.is)
+      (spent_turns c txn txn' (w ∷ []) (reply after.1) (λ v is. is_write (changes_of txn).caller.schema (changes_of txn).caller.seen v ∙ rw (is, steps) refl) full changes items sound)
 
   refused_step : (t : Table) → table_at schema (present (changes_of txn)) (table_of w) ≡ Some t → (e : TxnWriteError) (s : Stepped) → step schema (present (changes_of txn)) w ≡ s → AnswersStep gives w s (err_of e) (changes_of txn) (changes_of txn') → To e
   unfolding To err_of
@@ -284,7 +287,7 @@ module _ {A : Type 0} (gives : Option Fields → A → Type 0) (c : Command) (w 
       subst To (sym is) (write_refused_turn c w reply is_write txn txn' written.unknown_table (no_table schema (present (changes_of txn)) w none) answers.1 items sound)
   refused_table e (Some t) there answers = refused_step t there e (step schema (present (changes_of txn)) w) refl answers
 
-  pub refuses : (e : TxnWriteError) → AnswersTxnWrite gives w (changes_of txn).spoiled (Err e) (changes_of txn) (changes_of txn') → RefusedTo c (opens.Writing txn) (opens.Writing txn') (changes_of txn).caller.schema (write_rule (changes_of txn).caller.schema (table_of w) e)
+  pub refuses : (e : TxnWriteError) → AnswersTxnWrite gives w (changes_of txn).spoiled (Err e) (changes_of txn) (changes_of txn') → RefusedTo (command.Write c) (opens.Writing txn) (opens.Writing txn') (changes_of txn).caller.schema (write_rule (changes_of txn).caller.schema (table_of w) e)
   unfolding To err_of schema
   refuses e answers = refused_table e (table_seen (changes_of txn) (table_of w)) (named w) (subst (λ b. AnswersTxnWrite gives w b (Err e) (changes_of txn) (changes_of txn')) sound answers)
     where
@@ -293,13 +296,13 @@ module _ {A : Type 0} (gives : Option Fields → A → Type 0) (c : Command) (w 
       named (remove name row) = refl
 
 -- the goal of a write that is refused
-pub refused_write : {A : Type 0} (gives : Option Fields → A → Type 0) (c : Command) (w : Write) (reply : Option Fields → said.Reply) → IsWrite c w (table_of w) reply → writes_rows c ≡ true → (self : Open) (txn txn' : WriteTxn Bytes) (schema : DbSchema) (e : TxnWriteError) (rule : Option rules.the_data) (result : Result replies.the_data AllocError) → self ≡ opens.Writing txn → schema ≡ (changes_of txn).caller.schema → (changes_of txn).spoiled ≡ false → AnswersTxnWrite gives w (changes_of txn).spoiled (Err e) (changes_of txn) (changes_of txn') → items_of txn' ≡ items_of txn → rule ≡ write_rule schema (table_of w) e → MatchOption rule (IsErr result) (λ r. result ≡ Ok (replies.Refused r)) → IfOk result (λ r. TurnsTo c self (opens.Writing txn') (reply_of schema r))
-refused_write gives c w reply is_write writes self txn txn' schema e rule result is same sound answers items rule_is told =
-    subst (λ (s : Open). IfOk result (λ r. TurnsTo c s (opens.Writing txn') (reply_of schema r))) (sym is)
-    (refusal_told c (opens.Writing txn) (opens.Writing txn') schema rule result told
-    (subst (λ (r : Option rules.the_data). RefusedTo c (opens.Writing txn) (opens.Writing txn') schema r) (sym rule_is)
-    (subst (λ (d : DbSchema). RefusedTo c (opens.Writing txn) (opens.Writing txn') d (write_rule d (table_of w) e)) (sym same)
-    (refuses gives c w reply is_write writes txn txn' items sound e answers))))
+pub refused_write : {A : Type 0} (gives : Option Fields → A → Type 0) (c : WriteCommand) (w : Write) (reply : Option Fields → said.Reply) → IsWrite c w (table_of w) reply → (self : Open) (txn txn' : WriteTxn Bytes) (schema : DbSchema) (e : TxnWriteError) (rule : Option rules.the_data) (result : Result replies.the_data AllocError) → self ≡ opens.Writing txn → schema ≡ (changes_of txn).caller.schema → (changes_of txn).spoiled ≡ false → AnswersTxnWrite gives w (changes_of txn).spoiled (Err e) (changes_of txn) (changes_of txn') → items_of txn' ≡ items_of txn → rule ≡ write_rule schema (table_of w) e → MatchOption rule (IsErr result) (λ r. result ≡ Ok (replies.Refused r)) → IfOk result (λ r. TurnsTo (command.Write c) self (opens.Writing txn') (reply_of schema r))
+refused_write gives c w reply is_write self txn txn' schema e rule result is same sound answers items rule_is told =
+    subst (λ (s : Open). IfOk result (λ r. TurnsTo (command.Write c) s (opens.Writing txn') (reply_of schema r))) (sym is)
+    (refusal_told (command.Write c) (opens.Writing txn) (opens.Writing txn') schema rule result told
+    (subst (λ (r : Option rules.the_data). RefusedTo (command.Write c) (opens.Writing txn) (opens.Writing txn') schema r) (sym rule_is)
+    (subst (λ (d : DbSchema). RefusedTo (command.Write c) (opens.Writing txn) (opens.Writing txn') d (write_rule d (table_of w) e)) (sym same)
+    (refuses gives c w reply is_write txn txn' items sound e answers))))
 
 -- ---- wipes
 
@@ -309,15 +312,15 @@ count_of n = Ok n
 wipe_error_of : TxnWipeError → Result ℕ TxnWipeError
 wipe_error_of e = Err e
 
-pub IsWipe : Command → (DbSchema → State → Asked (List Write)) → Type 0
-IsWipe c wiping = (schema : DbSchema) (H : History) (now : ℕ) (v : Client) → turn schema H now v c ≡ wipe_turn (wiping schema) schema H v
+pub IsWipe : WriteCommand → (DbSchema → State → Asked (List Write)) → Type 0
+IsWipe c wiping = (schema : DbSchema) (H : History) (v : Client) → write_turn schema H v c ≡ wipe_turn (wiping schema) schema H v
 
-wiped_turns : (c : Command) (wiping : DbSchema → State → Asked (List Write)) → IsWipe c wiping → (txn txn' : WriteTxn Bytes) (gone : List Write) → wiping (changes_of txn).caller.schema (present (changes_of txn)) ≡ Ok gone → changes_of txn' ≡ changed.with_writes (changes_of txn) gone → items_of txn' ≡ items_of txn → (changes_of txn).spoiled ≡ false → TurnsTo c (opens.Writing txn) (opens.Writing txn') (said.wiped (length gone))
+wiped_turns : (c : WriteCommand) (wiping : DbSchema → State → Asked (List Write)) → IsWipe c wiping → (txn txn' : WriteTxn Bytes) (gone : List Write) → wiping (changes_of txn).caller.schema (present (changes_of txn)) ≡ Ok gone → changes_of txn' ≡ changed.with_writes (changes_of txn) gone → items_of txn' ≡ items_of txn → (changes_of txn).spoiled ≡ false → TurnsTo (command.Write c) (opens.Writing txn) (opens.Writing txn') (said.wiped (length gone))
 unfolding IsWipe next_changes
 wiped_turns c wiping is_wipe txn txn' gone lists changes items sound = record {
   turns = λ v is le. record {
     next = next_changes v (changed.with_writes (changes_of txn) gone) (items_of txn);
-    says = by_turn (ap (outcome v) (is_wipe (changes_of txn).caller.schema (changes_of txn).caller.seen (length (changes_of txn).caller.seen) v) ∙ rw (is, lists) refl);
+    says = by_turn (ap (outcome v) (is_wipe (changes_of txn).caller.schema (changes_of txn).caller.seen v) ∙ rw (is, lists) refl);
     transaction = ap (λ (t : Changes). (next_changes v t (items_of txn)).transaction) (sym changes) ∙ ap (λ (texts : List Bytes). (next_changes v (changes_of txn') texts).transaction) (sym items);
     snapshots = refl;
     watching = refl;
@@ -328,9 +331,9 @@ wiped_turns c wiping is_wipe txn txn' gone lists changes items sound = record {
   numbered = refl;
 }
 
-wipe_refused_turn : (c : Command) (wiping : DbSchema → State → Asked (List Write)) → IsWipe c wiping → (txn txn' : WriteTxn Bytes) (why : asked.AskRefusal) → wiping (changes_of txn).caller.schema (present (changes_of txn)) ≡ Err why → changes_of txn' ≡ changes_of txn → items_of txn' ≡ items_of txn → (changes_of txn).spoiled ≡ false → TurnsTo c (opens.Writing txn) (opens.Writing txn') (said.refused (question_word why))
+wipe_refused_turn : (c : WriteCommand) (wiping : DbSchema → State → Asked (List Write)) → IsWipe c wiping → (txn txn' : WriteTxn Bytes) (why : asked.AskRefusal) → wiping (changes_of txn).caller.schema (present (changes_of txn)) ≡ Err why → changes_of txn' ≡ changes_of txn → items_of txn' ≡ items_of txn → (changes_of txn).spoiled ≡ false → TurnsTo (command.Write c) (opens.Writing txn) (opens.Writing txn') (said.refused (question_word why))
 unfolding IsWipe
-wipe_refused_turn c wiping is_wipe txn txn' why breaks changes items sound = same_turns c txn txn' _ (λ v is. is_wipe (changes_of txn).caller.schema (changes_of txn).caller.seen (length (changes_of txn).caller.seen) v ∙ rw (is, breaks) refl) changes items sound
+wipe_refused_turn c wiping is_wipe txn txn' why breaks changes items sound = same_turns c txn txn' _ (λ v is. is_wipe (changes_of txn).caller.schema (changes_of txn).caller.seen v ∙ rw (is, breaks) refl) changes items sound
 
 -- the rule of a question that is refused, and its name
 pub rule_of_question : (why : asked.AskRefusal) → question_rule (ask_error why) ≡ Some (rules.Question (ask_error why))
@@ -361,30 +364,30 @@ name_of_question (asked.bad_argument no_prefix_form) = refl
 question_refused : (c : Command) (old new : Open) (schema : DbSchema) (why : asked.AskRefusal) → TurnsTo c old new (said.refused (question_word why)) → RefusedTo c old new schema (question_rule (ask_error why))
 question_refused c old new schema why turns = subst (λ (r : Option rules.the_data). RefusedTo c old new schema r) (sym (rule_of_question why)) (subst (λ (b : Bytes). TurnsTo c old new (said.refused b)) (sym (name_of_question why)) turns)
 
-module _ (c : Command) (wiping : DbSchema → State → Asked (List Write)) (is_wipe : IsWipe c wiping) (writes : writes_rows c ≡ true) (name : Bytes) (unknown : (schema : DbSchema) (s : State) → table_at schema s name ≡ None → wiping schema s ≡ Err asked.unknown_table) (txn txn' : WriteTxn Bytes) (items : items_of txn' ≡ items_of txn) (sound : (changes_of txn).spoiled ≡ false) where
+module _ (c : WriteCommand) (wiping : DbSchema → State → Asked (List Write)) (is_wipe : IsWipe c wiping) (name : Bytes) (unknown : (schema : DbSchema) (s : State) → table_at schema s name ≡ None → wiping schema s ≡ Err asked.unknown_table) (txn txn' : WriteTxn Bytes) (items : items_of txn' ≡ items_of txn) (sound : (changes_of txn).spoiled ≡ false) where
   lists : Asked (List Write)
   lists = wiping (changes_of txn).caller.schema (present (changes_of txn))
 
-  wipe_ok : (n : ℕ) (told : Asked (List Write)) → lists ≡ told → AnswersRemovals told (count_of n) (changes_of txn) (changes_of txn') → TurnsTo c (opens.Writing txn) (opens.Writing txn') (said.wiped n)
+  wipe_ok : (n : ℕ) (told : Asked (List Write)) → lists ≡ told → AnswersRemovals told (count_of n) (changes_of txn) (changes_of txn') → TurnsTo (command.Write c) (opens.Writing txn) (opens.Writing txn') (said.wiped n)
   unfolding lists count_of
-  wipe_ok n (Ok gone) is answers = subst (λ (k : ℕ). TurnsTo c (opens.Writing txn) (opens.Writing txn') (said.wiped k)) (sym answers.0) (wiped_turns c wiping is_wipe txn txn' gone is answers.1 items sound)
+  wipe_ok n (Ok gone) is answers = subst (λ (k : ℕ). TurnsTo (command.Write c) (opens.Writing txn) (opens.Writing txn') (said.wiped k)) (sym answers.0) (wiped_turns c wiping is_wipe txn txn' gone is answers.1 items sound)
   wipe_ok n (Err why) is answers = let e = answers.0 in cc
 
-  pub wipes : (n : ℕ) → AnswersTxnWipe (changes_of txn).spoiled name (wiping (changes_of txn).caller.schema (present (changes_of txn))) (Ok n) (changes_of txn) (changes_of txn') → TurnsTo c (opens.Writing txn) (opens.Writing txn') (said.wiped n)
+  pub wipes : (n : ℕ) → AnswersTxnWipe (changes_of txn).spoiled name (wiping (changes_of txn).caller.schema (present (changes_of txn))) (Ok n) (changes_of txn) (changes_of txn') → TurnsTo (command.Write c) (opens.Writing txn) (opens.Writing txn') (said.wiped n)
   unfolding lists count_of
   wipes n answers = of (table_seen (changes_of txn) name) (subst (λ b. AnswersTxnWipe b name lists (Ok n) (changes_of txn) (changes_of txn')) sound answers)
     where
-      of : (table : Option Table) → MatchOption table ((count_of n ≡ Err wipe_refused.UnknownTable) × (changes_of txn' ≡ changes_of txn)) (λ t. AnswersRemovals lists (count_of n) (changes_of txn) (changes_of txn')) → TurnsTo c (opens.Writing txn) (opens.Writing txn') (said.wiped n)
+      of : (table : Option Table) → MatchOption table ((count_of n ≡ Err wipe_refused.UnknownTable) × (changes_of txn' ≡ changes_of txn)) (λ t. AnswersRemovals lists (count_of n) (changes_of txn) (changes_of txn')) → TurnsTo (command.Write c) (opens.Writing txn) (opens.Writing txn') (said.wiped n)
       of None told = let e = told.0 in cc
       of (Some t) told = wipe_ok n lists refl told
 
   ToWipe : TxnWipeError → Type 0
-  ToWipe e = RefusedTo c (opens.Writing txn) (opens.Writing txn') (changes_of txn).caller.schema (wipe_rule e)
+  ToWipe e = RefusedTo (command.Write c) (opens.Writing txn) (opens.Writing txn') (changes_of txn).caller.schema (wipe_rule e)
 
   -- the wipe breaks no rule, and finds too few ids
   spent_wipe : (gone : List Write) → lists ≡ Ok gone → changed.IsFull (length gone) (changes_of txn) → changes_of txn' ≡ changes_of txn → ToWipe (wipe_refused.Refused wipe_errors.IdsSpent)
   unfolding ToWipe lists IsWipe next_changes
-  spent_wipe gone is_lists full changes = spent_turns c writes txn txn' gone (said.wiped (length gone)) (λ v is. is_wipe (changes_of txn).caller.schema (changes_of txn).caller.seen (length (changes_of txn).caller.seen) v ∙ rw (is, is_lists) refl) full changes items sound
+  spent_wipe gone is_lists full changes = spent_turns c txn txn' gone (said.wiped (length gone)) (λ v is. is_wipe (changes_of txn).caller.schema (changes_of txn).caller.seen v ∙ rw (is, is_lists) refl) full changes items sound
 
   wipe_err : (e : TxnWipeError) (told : Asked (List Write)) → lists ≡ told → AnswersRemovals told (wipe_error_of e) (changes_of txn) (changes_of txn') → ToWipe e
   unfolding ToWipe lists wipe_error_of
@@ -394,9 +397,9 @@ module _ (c : Command) (wiping : DbSchema → State → Asked (List Write)) (is_
   ]
   wipe_err e (Err why) is answers =
       let told : e ≡ wipe_refused.Refused (wipe_errors.Refused (ask_error why)) = (let x = answers.0 in cc) in
-      subst ToWipe (sym told) (question_refused c (opens.Writing txn) (opens.Writing txn') (changes_of txn).caller.schema why (wipe_refused_turn c wiping is_wipe txn txn' why is answers.1 items sound))
+      subst ToWipe (sym told) (question_refused (command.Write c) (opens.Writing txn) (opens.Writing txn') (changes_of txn).caller.schema why (wipe_refused_turn c wiping is_wipe txn txn' why is answers.1 items sound))
 
-  pub wipe_refuses : (e : TxnWipeError) → AnswersTxnWipe (changes_of txn).spoiled name (wiping (changes_of txn).caller.schema (present (changes_of txn))) (Err e) (changes_of txn) (changes_of txn') → RefusedTo c (opens.Writing txn) (opens.Writing txn') (changes_of txn).caller.schema (wipe_rule e)
+  pub wipe_refuses : (e : TxnWipeError) → AnswersTxnWipe (changes_of txn).spoiled name (wiping (changes_of txn).caller.schema (present (changes_of txn))) (Err e) (changes_of txn) (changes_of txn') → RefusedTo (command.Write c) (opens.Writing txn) (opens.Writing txn') (changes_of txn).caller.schema (wipe_rule e)
   unfolding ToWipe lists wipe_error_of
   wipe_refuses e answers = of (table_seen (changes_of txn) name) refl (subst (λ b. AnswersTxnWipe b name lists (Err e) (changes_of txn) (changes_of txn')) sound answers)
     where
@@ -407,15 +410,15 @@ module _ (c : Command) (wiping : DbSchema → State → Asked (List Write)) (is_
       of (Some t) there told = wipe_err e lists refl told
 
 -- the goals of wipes
-pub wiped_result : (c : Command) (wiping : DbSchema → State → Asked (List Write)) → IsWipe c wiping → writes_rows c ≡ true → (name : Bytes) → ((schema : DbSchema) (s : State) → table_at schema s name ≡ None → wiping schema s ≡ Err asked.unknown_table) → (self : Open) (txn txn' : WriteTxn Bytes) (n : ℕ) → self ≡ opens.Writing txn → (changes_of txn).spoiled ≡ false → AnswersTxnWipe (changes_of txn).spoiled name (wiping (changes_of txn).caller.schema (present (changes_of txn))) (Ok n) (changes_of txn) (changes_of txn') → items_of txn' ≡ items_of txn → TurnsTo c self (opens.Writing txn') (said.wiped n)
-wiped_result c wiping is_wipe writes name unknown self txn txn' n is sound answers items = subst (λ (s : Open). TurnsTo c s (opens.Writing txn') (said.wiped n)) (sym is) (wipes c wiping is_wipe writes name unknown txn txn' items sound n answers)
+pub wiped_result : (c : WriteCommand) (wiping : DbSchema → State → Asked (List Write)) → IsWipe c wiping → (name : Bytes) → ((schema : DbSchema) (s : State) → table_at schema s name ≡ None → wiping schema s ≡ Err asked.unknown_table) → (self : Open) (txn txn' : WriteTxn Bytes) (n : ℕ) → self ≡ opens.Writing txn → (changes_of txn).spoiled ≡ false → AnswersTxnWipe (changes_of txn).spoiled name (wiping (changes_of txn).caller.schema (present (changes_of txn))) (Ok n) (changes_of txn) (changes_of txn') → items_of txn' ≡ items_of txn → TurnsTo (command.Write c) self (opens.Writing txn') (said.wiped n)
+wiped_result c wiping is_wipe name unknown self txn txn' n is sound answers items = subst (λ (s : Open). TurnsTo (command.Write c) s (opens.Writing txn') (said.wiped n)) (sym is) (wipes c wiping is_wipe name unknown txn txn' items sound n answers)
 
-pub refused_wipe : (c : Command) (wiping : DbSchema → State → Asked (List Write)) → IsWipe c wiping → writes_rows c ≡ true → (name : Bytes) → ((schema : DbSchema) (s : State) → table_at schema s name ≡ None → wiping schema s ≡ Err asked.unknown_table) → (self : Open) (txn txn' : WriteTxn Bytes) (e : TxnWipeError) (rule : Option rules.the_data) (result : Result replies.the_data AllocError) → self ≡ opens.Writing txn → (changes_of txn).spoiled ≡ false → AnswersTxnWipe (changes_of txn).spoiled name (wiping (changes_of txn).caller.schema (present (changes_of txn))) (Err e) (changes_of txn) (changes_of txn') → items_of txn' ≡ items_of txn → rule ≡ wipe_rule e → MatchOption rule (IsErr result) (λ r. result ≡ Ok (replies.Refused r)) → IfOk result (λ r. TurnsTo c self (opens.Writing txn') (reply_of (caller_of self).schema r))
-refused_wipe c wiping is_wipe writes name unknown self txn txn' e rule result is sound answers items rule_is told =
-    subst (λ (s : Open). IfOk result (λ r. TurnsTo c s (opens.Writing txn') (reply_of (caller_of s).schema r))) (sym is)
-    (refusal_told c (opens.Writing txn) (opens.Writing txn') (changes_of txn).caller.schema rule result told
-    (subst (λ (r : Option rules.the_data). RefusedTo c (opens.Writing txn) (opens.Writing txn') (changes_of txn).caller.schema r) (sym rule_is)
-    (wipe_refuses c wiping is_wipe writes name unknown txn txn' items sound e answers)))
+pub refused_wipe : (c : WriteCommand) (wiping : DbSchema → State → Asked (List Write)) → IsWipe c wiping → (name : Bytes) → ((schema : DbSchema) (s : State) → table_at schema s name ≡ None → wiping schema s ≡ Err asked.unknown_table) → (self : Open) (txn txn' : WriteTxn Bytes) (e : TxnWipeError) (rule : Option rules.the_data) (result : Result replies.the_data AllocError) → self ≡ opens.Writing txn → (changes_of txn).spoiled ≡ false → AnswersTxnWipe (changes_of txn).spoiled name (wiping (changes_of txn).caller.schema (present (changes_of txn))) (Err e) (changes_of txn) (changes_of txn') → items_of txn' ≡ items_of txn → rule ≡ wipe_rule e → MatchOption rule (IsErr result) (λ r. result ≡ Ok (replies.Refused r)) → IfOk result (λ r. TurnsTo (command.Write c) self (opens.Writing txn') (reply_of (caller_of self).schema r))
+refused_wipe c wiping is_wipe name unknown self txn txn' e rule result is sound answers items rule_is told =
+    subst (λ (s : Open). IfOk result (λ r. TurnsTo (command.Write c) s (opens.Writing txn') (reply_of (caller_of s).schema r))) (sym is)
+    (refusal_told (command.Write c) (opens.Writing txn) (opens.Writing txn') (changes_of txn).caller.schema rule result told
+    (subst (λ (r : Option rules.the_data). RefusedTo (command.Write c) (opens.Writing txn) (opens.Writing txn') (changes_of txn).caller.schema r) (sym rule_is)
+    (wipe_refuses c wiping is_wipe name unknown txn txn' items sound e answers)))
 
 pub wipe_unknown : (q : Query) (schema : DbSchema) (s : State) → table_at schema s q.table ≡ None → wipe schema s q ≡ Err asked.unknown_table
 wipe_unknown q schema s none = rw none refl
@@ -423,30 +426,30 @@ wipe_unknown q schema s none = rw none refl
 pub wipe_by_prefix_unknown : (q : Query) (schema : DbSchema) (s : State) → table_at schema s q.table ≡ None → wipe_by_prefix schema s q ≡ Err asked.unknown_table
 wipe_by_prefix_unknown q schema s none = rw none refl
 
-pub is_delete_all : (q : Query) → IsWipe (command.DeleteAll q) (λ schema s. wipe schema s q)
+pub is_delete_all : (q : Query) → IsWipe (write_line.DeleteAll q) (λ schema s. wipe schema s q)
 unfolding IsWipe
-is_delete_all q schema H now v = refl
+is_delete_all q schema H v = refl
 
-pub is_delete_prefix : (q : Query) → IsWipe (command.DeletePrefix q) (λ schema s. wipe_by_prefix schema s q)
+pub is_delete_prefix : (q : Query) → IsWipe (write_line.DeletePrefix q) (λ schema s. wipe_by_prefix schema s q)
 unfolding IsWipe
-is_delete_prefix q schema H now v = refl
+is_delete_prefix q schema H v = refl
 
-pub is_insert : (table : Bytes) (row : Fields) → IsWrite (command.Insert table row) (put table row) table insert_reply
+pub is_insert : (table : Bytes) (row : Fields) → IsWrite (write_line.Insert table row) (put table row) table insert_reply
 unfolding IsWrite
-is_insert table row schema H now v = refl
+is_insert table row schema H v = refl
 
-pub is_delete : (table : Bytes) (row : Fields) → IsWrite (command.Delete table row) (remove table row) table (λ was. said.deleted)
+pub is_delete : (table : Bytes) (row : Fields) → IsWrite (write_line.Delete table row) (remove table row) table (λ was. said.deleted)
 unfolding IsWrite
-is_delete table row schema H now v = refl
+is_delete table row schema H v = refl
 
 -- ---- questions
 
 -- nothing is changed
-pub kept_turns : (c : Command) (old new : Open) (r : said.Reply) → caller_of new ≡ caller_of old → transaction_of new ≡ transaction_of old → Stands new → ((v : Client) → v.transaction ≡ transaction_of old → outcome v (turn (caller_of old).schema (caller_of old).seen (length (caller_of old).seen) v c) ≡ (r, v)) → ((n : ℕ) (t : Transaction) → made n t r ≡ []) → number_printed r ≡ [] → TurnsTo c old new r
+pub kept_turns : (c : Command) (old new : Open) (r : said.Reply) → caller_of new ≡ caller_of old → transaction_of new ≡ transaction_of old → Stands new → ((v : Client) → v.transaction ≡ transaction_of old → (let p = caller_of old in IsAnswered p.schema p.seen p.number (length p.seen) v c r v)) → ((n : ℕ) (t : Transaction) → made n t r ≡ []) → number_printed r ≡ [] → TurnsTo c old new r
 kept_turns c old new r caller same stands says makes prints = record {
   turns = λ v is le. record {
     next = v;
-    says = by_turn (says v is);
+    says = says v is;
     transaction = is ∙ sym same;
     snapshots = refl;
     watching = refl;
@@ -471,39 +474,39 @@ module _ (q : Query) (old new : Open) (sight : Sight) (opened : some_open (trans
   gives : Asked Answer
   gives = ask (caller_of old).schema (state_seen (caller_of old).schema (caller_of old).seen sight) q
 
-  answered_turn : (a : Answer) → gives ≡ Ok a → TurnsTo (command.Question q) old new (said.answered a)
+  answered_turn : (a : Answer) → gives ≡ Ok a → TurnsTo (command.Ask (ask_line.Question q)) old new (said.answered a)
   unfolding gives
-  answered_turn a is = kept_turns (command.Question q) old new (said.answered a) caller same stands (λ v open_is. rw (open_is, opened, is) refl) (answer_makes a) refl
+  answered_turn a is = kept_turns (command.Ask (ask_line.Question q)) old new (said.answered a) caller same stands (λ v open_is. rw (open_is, opened, is) refl) (answer_makes a) refl
 
-  refused_turn : (why : asked.AskRefusal) → gives ≡ Err why → TurnsTo (command.Question q) old new (said.refused (question_word why))
+  refused_turn : (why : asked.AskRefusal) → gives ≡ Err why → TurnsTo (command.Ask (ask_line.Question q)) old new (said.refused (question_word why))
   unfolding gives
-  refused_turn why is = kept_turns (command.Question q) old new (said.refused (question_word why)) caller same stands (λ v open_is. rw (open_is, opened, is) refl) (refused_makes (question_word why)) refl
+  refused_turn why is = kept_turns (command.Ask (ask_line.Question q)) old new (said.refused (question_word why)) caller same stands (λ v open_is. rw (open_is, opened, is) refl) (refused_makes (question_word why)) refl
 
-  asked_of : (told : Asked Answer) → gives ≡ told → TurnsTo (command.Question q) old new (asked_reply told)
+  asked_of : (told : Asked Answer) → gives ≡ told → TurnsTo (command.Ask (ask_line.Question q)) old new (asked_reply told)
   asked_of (Ok a) is = answered_turn a is
   asked_of (Err why) is = refused_turn why is
 
-  pub asked_turns : TurnsTo (command.Question q) old new (asked_reply (ask (caller_of old).schema (state_seen (caller_of old).schema (caller_of old).seen sight) q))
+  pub asked_turns : TurnsTo (command.Ask (ask_line.Question q)) old new (asked_reply (ask (caller_of old).schema (state_seen (caller_of old).schema (caller_of old).seen sight) q))
   unfolding gives
   asked_turns = asked_of gives refl
 
-  answered_of : (a : Answer) (told : Asked Answer) → gives ≡ told → AnswersAsk told (Ok a) → TurnsTo (command.Question q) old new (said.answered a)
+  answered_of : (a : Answer) (told : Asked Answer) → gives ≡ told → AnswersAsk told (Ok a) → TurnsTo (command.Ask (ask_line.Question q)) old new (said.answered a)
   answered_of a (Ok b) is answers = answered_turn a (is ∙ ap Ok (sym answers))
   answered_of a (Err why) is answers = cc
 
-  pub answered_turns : (a : Answer) → AnswersAsk (ask (caller_of old).schema (state_seen (caller_of old).schema (caller_of old).seen sight) q) (Ok a) → TurnsTo (command.Question q) old new (said.answered a)
+  pub answered_turns : (a : Answer) → AnswersAsk (ask (caller_of old).schema (state_seen (caller_of old).schema (caller_of old).seen sight) q) (Ok a) → TurnsTo (command.Ask (ask_line.Question q)) old new (said.answered a)
   unfolding gives
   answered_turns a answers = answered_of a gives refl answers
 
-  refused_of : (e : AskError) (told : Asked Answer) → gives ≡ told → AnswersAsk told (Err e) → RefusedTo (command.Question q) old new (caller_of old).schema (question_rule e)
-  refused_of e (Ok b) is answers = subst (λ (x : AskError). RefusedTo (command.Question q) old new (caller_of old).schema (question_rule x)) (sym answers) tt
+  refused_of : (e : AskError) (told : Asked Answer) → gives ≡ told → AnswersAsk told (Err e) → RefusedTo (command.Ask (ask_line.Question q)) old new (caller_of old).schema (question_rule e)
+  refused_of e (Ok b) is answers = subst (λ (x : AskError). RefusedTo (command.Ask (ask_line.Question q)) old new (caller_of old).schema (question_rule x)) (sym answers) tt
   refused_of e (Err why) is answers =
       let told : e ≡ ask_error why = cc in
-      subst (λ (x : AskError). RefusedTo (command.Question q) old new (caller_of old).schema (question_rule x)) (sym told) (question_refused (command.Question q) old new (caller_of old).schema why (refused_turn why is))
+      subst (λ (x : AskError). RefusedTo (command.Ask (ask_line.Question q)) old new (caller_of old).schema (question_rule x)) (sym told) (question_refused (command.Ask (ask_line.Question q)) old new (caller_of old).schema why (refused_turn why is))
 
-  pub refused_question : (e : AskError) (rule : Option rules.the_data) (result : Result replies.the_data AllocError) → AnswersAsk (ask (caller_of old).schema (state_seen (caller_of old).schema (caller_of old).seen sight) q) (Err e) → rule ≡ question_rule e → MatchOption rule (IsErr result) (λ r. result ≡ Ok (replies.Refused r)) → IfOk result (λ r. TurnsTo (command.Question q) old new (reply_of (caller_of old).schema r))
+  pub refused_question : (e : AskError) (rule : Option rules.the_data) (result : Result replies.the_data AllocError) → AnswersAsk (ask (caller_of old).schema (state_seen (caller_of old).schema (caller_of old).seen sight) q) (Err e) → rule ≡ question_rule e → MatchOption rule (IsErr result) (λ r. result ≡ Ok (replies.Refused r)) → IfOk result (λ r. TurnsTo (command.Ask (ask_line.Question q)) old new (reply_of (caller_of old).schema r))
   unfolding gives
-  refused_question e rule result answers rule_is told = refusal_told (command.Question q) old new (caller_of old).schema rule result told (subst (λ (r : Option rules.the_data). RefusedTo (command.Question q) old new (caller_of old).schema r) (sym rule_is) (refused_of e gives refl answers))
+  refused_question e rule result answers rule_is told = refusal_told (command.Ask (ask_line.Question q)) old new (caller_of old).schema rule result told (subst (λ (r : Option rules.the_data). RefusedTo (command.Ask (ask_line.Question q)) old new (caller_of old).schema r) (sym rule_is) (refused_of e gives refl answers))
 
 -- ---- the caller stays
 
@@ -541,7 +544,7 @@ unfolding next_changes
 defer_turns self txn txn' text item is copied changes items sound = subst (λ (s : Open). TurnsTo (command.Defer text) s (opens.Writing txn') said.deferred) (sym is) (record {
   turns = λ v open_is le. record {
     next = next_changes v (changes_of txn) (items_of txn ++ text ∷ []);
-    says = by_turn (rw open_is refl);
+    says = rw open_is refl;
     transaction = ap (λ (t : Changes). (next_changes v t (items_of txn ++ text ∷ [])).transaction) (sym changes) ∙ ap (λ (texts : List Bytes). (next_changes v (changes_of txn') texts).transaction) (sym (items ∙ ap (λ (x : Bytes). items_of txn ++ x ∷ []) copied));
     snapshots = refl;
     watching = refl;
@@ -554,29 +557,29 @@ defer_turns self txn txn' text item is copied changes items sound = subst (λ (s
 
 -- ---- questions of the open transaction
 
-pub reading_asked : (self : Open) (pass : Caller) (txn txn' : Reading) (q q' : Query) → self ≡ opens.Reading pass txn → Stands (opens.Reading pass txn) → txn' ≡ txn → q' ≡ q → TurnsTo (command.Question q) self (opens.Reading pass txn) (asked_reply (ask txn'.view.schema txn'.view.state q'))
+pub reading_asked : (self : Open) (pass : Caller) (txn txn' : Reading) (q q' : Query) → self ≡ opens.Reading pass txn → Stands (opens.Reading pass txn) → txn' ≡ txn → q' ≡ q → TurnsTo (command.Ask (ask_line.Question q)) self (opens.Reading pass txn) (asked_reply (ask txn'.view.schema txn'.view.state q'))
 reading_asked self pass txn txn' q q' is stands same asked =
     let sight : Sight = record { number = txn.view.number; writes = []; uncommitted = false } in
     let here = asked_turns q (opens.Reading pass txn) (opens.Reading pass txn) sight refl refl refl stands in
-    let there = subst (λ (x : View). TurnsTo (command.Question q) (opens.Reading pass txn) (opens.Reading pass txn) (asked_reply (ask x.schema x.state q))) (sym stands.1) here in
-    let shared = subst (λ (t : Reading). TurnsTo (command.Question q) (opens.Reading pass txn) (opens.Reading pass txn) (asked_reply (ask t.view.schema t.view.state q))) (sym same) there in
-    let posed = subst (λ (x : Query). TurnsTo (command.Question q) (opens.Reading pass txn) (opens.Reading pass txn) (asked_reply (ask txn'.view.schema txn'.view.state x))) (sym asked) shared in
-    subst (λ (s : Open). TurnsTo (command.Question q) s (opens.Reading pass txn) (asked_reply (ask txn'.view.schema txn'.view.state q'))) (sym is) posed
+    let there = subst (λ (x : View). TurnsTo (command.Ask (ask_line.Question q)) (opens.Reading pass txn) (opens.Reading pass txn) (asked_reply (ask x.schema x.state q))) (sym stands.1) here in
+    let shared = subst (λ (t : Reading). TurnsTo (command.Ask (ask_line.Question q)) (opens.Reading pass txn) (opens.Reading pass txn) (asked_reply (ask t.view.schema t.view.state q))) (sym same) there in
+    let posed = subst (λ (x : Query). TurnsTo (command.Ask (ask_line.Question q)) (opens.Reading pass txn) (opens.Reading pass txn) (asked_reply (ask txn'.view.schema txn'.view.state x))) (sym asked) shared in
+    subst (λ (s : Open). TurnsTo (command.Ask (ask_line.Question q)) s (opens.Reading pass txn) (asked_reply (ask txn'.view.schema txn'.view.state q'))) (sym is) posed
 
 pub writing_same : (txn txn' : WriteTxn Bytes) → changes_of txn' ≡ changes_of txn → items_of txn' ≡ items_of txn → transaction_of (opens.Writing txn') ≡ transaction_of (opens.Writing txn)
 writing_same txn txn' changes items = ap (λ (t : Changes). writing (record { number = length t.caller.seen; writes = t.writes; texts = items_of txn' })) changes ∙ ap (λ (texts : List Bytes). writing (record { number = length (changes_of txn).caller.seen; writes = (changes_of txn).writes; texts = texts })) items
 
-pub writing_answered : (self : Open) (txn txn' : WriteTxn Bytes) (q : Query) (a : Answer) → self ≡ opens.Writing txn → (changes_of txn).spoiled ≡ false → AnswersTxnAsk (changes_of txn).spoiled (ask (changes_of txn).caller.schema (present (changes_of txn)) q) (Ok a) → changes_of txn' ≡ changes_of txn → items_of txn' ≡ items_of txn → TurnsTo (command.Question q) self (opens.Writing txn') (said.answered a)
+pub writing_answered : (self : Open) (txn txn' : WriteTxn Bytes) (q : Query) (a : Answer) → self ≡ opens.Writing txn → (changes_of txn).spoiled ≡ false → AnswersTxnAsk (changes_of txn).spoiled (ask (changes_of txn).caller.schema (present (changes_of txn)) q) (Ok a) → changes_of txn' ≡ changes_of txn → items_of txn' ≡ items_of txn → TurnsTo (command.Ask (ask_line.Question q)) self (opens.Writing txn') (said.answered a)
 unfolding next_changes
 writing_answered self txn txn' q a is sound answers changes items =
-    subst (λ (s : Open). TurnsTo (command.Question q) s (opens.Writing txn') (said.answered a)) (sym is)
+    subst (λ (s : Open). TurnsTo (command.Ask (ask_line.Question q)) s (opens.Writing txn') (said.answered a)) (sym is)
     (answered_turns q (opens.Writing txn) (opens.Writing txn') (record { number = length (changes_of txn).caller.seen; writes = (changes_of txn).writes; uncommitted = true }) refl (ap (λ (t : Changes). t.caller) changes) (writing_same txn txn' changes items) (ap (λ (t : Changes). t.spoiled) changes ∙ sound) a (subst (λ b. AnswersTxnAsk b (ask (changes_of txn).caller.schema (present (changes_of txn)) q) (Ok a)) sound answers))
 
-pub writing_refused : (self : Open) (txn txn' : WriteTxn Bytes) (q : Query) (e : TxnAskError) (rule : Option rules.the_data) (result : Result replies.the_data AllocError) → self ≡ opens.Writing txn → (changes_of txn).spoiled ≡ false → AnswersTxnAsk (changes_of txn).spoiled (ask (changes_of txn).caller.schema (present (changes_of txn)) q) (Err e) → changes_of txn' ≡ changes_of txn → items_of txn' ≡ items_of txn → rule ≡ txn_question_rule e → MatchOption rule (IsErr result) (λ r. result ≡ Ok (replies.Refused r)) → IfOk result (λ r. TurnsTo (command.Question q) self (opens.Writing txn') (reply_of (caller_of self).schema r))
+pub writing_refused : (self : Open) (txn txn' : WriteTxn Bytes) (q : Query) (e : TxnAskError) (rule : Option rules.the_data) (result : Result replies.the_data AllocError) → self ≡ opens.Writing txn → (changes_of txn).spoiled ≡ false → AnswersTxnAsk (changes_of txn).spoiled (ask (changes_of txn).caller.schema (present (changes_of txn)) q) (Err e) → changes_of txn' ≡ changes_of txn → items_of txn' ≡ items_of txn → rule ≡ txn_question_rule e → MatchOption rule (IsErr result) (λ r. result ≡ Ok (replies.Refused r)) → IfOk result (λ r. TurnsTo (command.Ask (ask_line.Question q)) self (opens.Writing txn') (reply_of (caller_of self).schema r))
 writing_refused self txn txn' q e rule result is sound answers changes items rule_is told =
-    subst (λ (s : Open). IfOk result (λ r. TurnsTo (command.Question q) s (opens.Writing txn') (reply_of (caller_of s).schema r))) (sym is)
+    subst (λ (s : Open). IfOk result (λ r. TurnsTo (command.Ask (ask_line.Question q)) s (opens.Writing txn') (reply_of (caller_of s).schema r))) (sym is)
     (of e rule_is (subst (λ b. AnswersTxnAsk b (ask (changes_of txn).caller.schema (present (changes_of txn)) q) (Err e)) sound answers))
   where
-    of : (e : TxnAskError) → rule ≡ txn_question_rule e → AnswersTxnAsk false (ask (changes_of txn).caller.schema (present (changes_of txn)) q) (Err e) → IfOk result (λ r. TurnsTo (command.Question q) (opens.Writing txn) (opens.Writing txn') (reply_of (changes_of txn).caller.schema r))
+    of : (e : TxnAskError) → rule ≡ txn_question_rule e → AnswersTxnAsk false (ask (changes_of txn).caller.schema (present (changes_of txn)) q) (Err e) → IfOk result (λ r. TurnsTo (command.Ask (ask_line.Question q)) (opens.Writing txn) (opens.Writing txn') (reply_of (changes_of txn).caller.schema r))
     of ask_refused.Spoiled rule_is' answers' = absurd answers'
     of (ask_refused.Refused x) rule_is' answers' = refused_question q (opens.Writing txn) (opens.Writing txn') (record { number = length (changes_of txn).caller.seen; writes = (changes_of txn).writes; uncommitted = true }) refl (ap (λ (t : Changes). t.caller) changes) (writing_same txn txn' changes items) (ap (λ (t : Changes). t.spoiled) changes ∙ sound) x rule result answers' rule_is' told

@@ -8,6 +8,8 @@ use Rattle.client_script.specs.Client.{Client, at_start}
 use Rattle.client_script.specs.Reply.{Reply, lines_text}
 use Rattle.client_script.specs.declared.command.Command.{Command}
 use Rattle.client_script.specs.declared.command.Command.TheVariants as command
+use Rattle.client_script.specs.declared.command.TransactionCommand.TheVariants as transaction_line
+use Rattle.client_script.specs.declared.command.WatchesCommand.{WatchesCommand}
 use Rattle.client_script.specs.declared.line.Line.{Line}
 use Rattle.client_session.proofs.CellsTold.{runs_of}
 use Rattle.client_session.proofs.OneMoreLine.{all_carried, from_here, kept_some, next, seen_more, stops_here}
@@ -247,9 +249,9 @@ module _ (client : ℕ) (script : List Line) (d d' : Desk) (n : ℕ) (text text'
   later : Progress
   later = progress_of client script (Some d') n text' failed'
 
-  waits : (c : Command) → IsWaiting c d d' → Waits sooner later c
+  waits : (w : WatchesCommand) → IsWaiting w d d' → Waits sooner later w
   unfolding sooner later
-  waits c held = record {
+  waits w held = record {
     replies = so_far.replies;
     client = so_far.client;
     runs = let p = caller_of d.«open» in runs_of (cells_seen p) p.number at_start (take n script) so_far.replies so_far.client so_far.runs;
@@ -263,27 +265,17 @@ module _ (client : ℕ) (script : List Line) (d d' : Desk) (n : ℕ) (text text'
 
   pub blocked : (callers : ℕ) (c : Command) → HoldsUp callers c d d' → IsBlocked callers (progress_of client script (Some d) n text failed) (progress_of client script (Some d') n text' failed') c
   unfolding sooner later
-  blocked callers command.Write held = held
-  blocked callers command.Read held = waits command.Read held
-  blocked callers command.End held = waits command.End held
-  blocked callers command.Commit held = waits command.Commit held
-  blocked callers command.Abort held = waits command.Abort held
-  blocked callers (command.Insert table row) held = waits (command.Insert table row) held
-  blocked callers (command.Delete table row) held = waits (command.Delete table row) held
-  blocked callers (command.DeleteAll q) held = waits (command.DeleteAll q) held
-  blocked callers (command.DeletePrefix q) held = waits (command.DeletePrefix q) held
-  blocked callers (command.Defer said) held = waits (command.Defer said) held
-  blocked callers (command.Question q) held = waits (command.Question q) held
-  blocked callers (command.Snapshot name) held = waits (command.Snapshot name) held
-  blocked callers (command.InSnapshot name q) held = waits (command.InSnapshot name q) held
-  blocked callers (command.Watch name q) held = waits (command.Watch name q) held
-  blocked callers (command.WatchIn name snapshot q) held = waits (command.WatchIn name snapshot q) held
-  blocked callers (command.Check name) held = waits (command.Check name) held
-  blocked callers (command.Add set name) held = waits (command.Add set name) held
-  blocked callers (command.AddLimit set limit name other) held = waits (command.AddLimit set limit name other) held
-  blocked callers (command.Size set) held = waits (command.Size set) held
-  blocked callers (command.Wait set) held = waits (command.Wait set) held
-  blocked callers (command.WaitUntil set until) held = waits (command.WaitUntil set until) held
+  blocked callers (command.Transaction transaction_line.Read) held = absurd held
+  blocked callers (command.Transaction transaction_line.Write) held = held
+  blocked callers (command.Transaction transaction_line.End) held = absurd held
+  blocked callers (command.Transaction transaction_line.Commit) held = absurd held
+  blocked callers (command.Transaction transaction_line.Abort) held = absurd held
+  blocked callers (command.Write w) held = absurd held
+  blocked callers (command.Defer said) held = absurd held
+  blocked callers (command.Ask a) held = absurd held
+  blocked callers (command.Name n) held = absurd held
+  blocked callers (command.Size set) held = absurd held
+  blocked callers (command.Watches w) held = waits w held
 
 module _ (s : Progress) (client : ℕ) (script : List Line) (desk desk' : Option Desk) (n : ℕ) (text text' : Bytes) (failed : Bool) (d d' : Desk) (view_is : progress_of client script desk n text failed ≡ s) (is : desk ≡ Some d) (is' : desk' ≡ Some d') (h : HasDone script desk n text failed) (unfinished : (failed ≡ false) × (n < length script)) where
   old : Caller

@@ -8,7 +8,12 @@ use Rattle.mdb_datum.specs.contracts.text.Text
 use Rattle.mdb_encode.specs.contracts.key.Key
 use Rattle.mdb_schema.specs.contracts.query.Parts
 use Rattle.mdb_schema.specs.contracts.query.Query
+use Rattle.client_script.specs.contracts.command.AskCommand
 use Rattle.client_script.specs.contracts.command.Command
+use Rattle.client_script.specs.contracts.command.NameCommand
+use Rattle.client_script.specs.contracts.command.TransactionCommand
+use Rattle.client_script.specs.contracts.command.WatchesCommand
+use Rattle.client_script.specs.contracts.command.WriteCommand
 use Rattle.client_script.specs.contracts.line.Line
 use Rattle.client_script.specs.contracts.script.Script
 use Rattle.mem_txn.proofs.Threads.{changes_send, pass_send, read_send, snapshot_send}
@@ -51,8 +56,23 @@ query-sync : IsSync Query.the_row
 query-sync = search (sendable, crosses, parts-send, parts-sync) depth 20
 
 -- each of the variants is looked through
+transaction-send : IsSend (TransactionCommand.the_field).row
+transaction-send = search (sendable, crosses) depth 20
+
+write_rows-send : IsSend (WriteCommand.the_field).row
+write_rows-send = search (sendable, crosses, text-send, row-send, query-send) depth 100 fits 100000
+
+ask-send : IsSend (AskCommand.the_field).row
+ask-send = search (sendable, crosses, text-send, query-send) depth 100 fits 100000
+
+name-send : IsSend (NameCommand.the_field).row
+name-send = search (sendable, crosses, text-send, query-send) depth 100 fits 100000
+
+watches_line-send : IsSend (WatchesCommand.the_field).row
+watches_line-send = search (sendable, crosses, text-send) depth 100 fits 100000
+
 command-send : IsSend (Command.the_field).row
-command-send = search (sendable, crosses, text-send, row-send, query-send) depth 100 fits 100000
+command-send = search (sendable, crosses, text-send, transaction-send, write_rows-send, ask-send, name-send, watches_line-send) depth 100 fits 100000
 
 line-send : IsSend Line.the_row
 line-send = search (sendable, crosses, command-send) depth 100 fits 100000

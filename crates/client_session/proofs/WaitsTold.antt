@@ -18,7 +18,7 @@ use Rattle.client_script.specs.Client.{Client, Judged, Watch, WatchSet}
 use Rattle.client_script.specs.Reply.{Reply, stopped_at, woken_by}
 use Rattle.client_script.specs.Watching as told
 use Rattle.client_script.specs.Watching.{IsStopped, IsWoken, told_number, until_judged, wait_judged, watch_called}
-use Rattle.client_script.specs.declared.command.Command.TheVariants as command
+use Rattle.client_script.specs.declared.command.WatchesCommand.TheVariants as watches_line
 use Rattle.client_session.specs.Cells.{MemberHasMoved}
 use Rattle.client_session.specs.Steps.{HasStayedQuiet}
 use Rattle.client_session.specs.declared.reply.Reply as own
@@ -162,7 +162,7 @@ module _ (g : Watching) (set : Bytes) (old last new : Caller) (holds : Holds old
       )
 
   alone : (place at : ℕ) (m : Member) (mid : Caller) → get_by_text g.sets.kept set ≡ Some ms → slice_get ms place ≡ Some m → checks.IsQuietLook last (take place (watches_of ms)) mid → checks.HasFired last mid new m.held at
-      → TellsLook g (command.Wait set) old new (woken_by m.name at)
+      → TellsLook g (watches_line.Wait set) old new (woken_by m.name at)
   alone place at m mid there within quiet fired =
       record {
         prints = prints_count old last new at (woken_by m.name at) first.counts fired.1.0 fired.1.1 refl;
@@ -178,7 +178,7 @@ module _ (g : Watching) (set : Bytes) (old last new : Caller) (holds : Holds old
       }
 
   beside_until : (until : Bytes) (h : HeldWatch) (place at : ℕ) (m : Member) (mid : Caller) → get_by_text g.sets.kept set ≡ Some ms → get_by_text g.watches.kept until ≡ Some h
-      → slice_get ms place ≡ Some m → checks.IsQuietLook last (take place (watches_of ms)) mid → checks.HasFired last mid new m.held at → TellsLook g (command.WaitUntil set until) old new (woken_by m.name at)
+      → slice_get ms place ≡ Some m → checks.IsQuietLook last (take place (watches_of ms)) mid → checks.HasFired last mid new m.held at → TellsLook g (watches_line.WaitUntil set until) old new (woken_by m.name at)
   beside_until until h place at m mid there named within quiet fired =
       record {
         prints = prints_count old last new at (woken_by m.name at) first.counts fired.1.0 fired.1.1 refl;
@@ -194,7 +194,7 @@ module _ (g : Watching) (set : Bytes) (old last new : Caller) (holds : Holds old
       }
 
   by_until : (until : Bytes) (h : HeldWatch) (at : ℕ) (mid : Caller) → get_by_text g.sets.kept set ≡ Some ms → get_by_text g.watches.kept until ≡ Some h → checks.IsQuietLook last (watches_of ms) mid → checks.HasFired last mid new h at
-      → TellsLook g (command.WaitUntil set until) old new (stopped_at at)
+      → TellsLook g (watches_line.WaitUntil set until) old new (stopped_at at)
   by_until until h at mid there named quiet fired =
       record {
         prints = prints_count old last new at (stopped_at at) first.counts fired.1.0 fired.1.1 refl;
@@ -220,7 +220,7 @@ module _ (g : Watching) (set : Bytes) (old last new : Caller) (holds : Holds old
   woken_told None u (woken.Fired place at) r there (read, once, told) is =
       let found = found_alone (get_by_text g.sets.kept set) ms u there in
       let (m, within, mid, quiet, fired) = told in
-      subst (λ (x : Reply). TellsLook g (command.Wait set) old new x) (replied place at m r within is) (alone place at m mid found.0 within (read, once, quiet) fired)
+      subst (λ (x : Reply). TellsLook g (watches_line.Wait set) old new x) (replied place at m r within is) (alone place at m mid found.0 within (read, once, quiet) fired)
   woken_told None u (woken.Stopped at) r there (read, once, told) is =
       let found = found_alone (get_by_text g.sets.kept set) ms u there in
       let none : FindsWoken last read new ms None (woken.Stopped at) = subst (λ (o : Option HeldWatch). FindsWoken last read new ms o (woken.Stopped at)) found.1 told in
@@ -228,11 +228,11 @@ module _ (g : Watching) (set : Bytes) (old last new : Caller) (holds : Holds old
   woken_told (Some until) u (woken.Fired place at) r there (read, once, told) is =
       let found = found_until (get_by_text g.sets.kept set) (get_by_text g.watches.kept until) ms u there in
       let (m, within, mid, quiet, fired) = told in
-      subst (λ (x : Reply). TellsLook g (command.WaitUntil set until) old new x) (replied place at m r within is) (beside_until until found.0 place at m mid found.1 found.2 within (read, once, quiet) fired)
+      subst (λ (x : Reply). TellsLook g (watches_line.WaitUntil set until) old new x) (replied place at m r within is) (beside_until until found.0 place at m mid found.1 found.2 within (read, once, quiet) fired)
   woken_told (Some until) u (woken.Stopped at) r there (read, once, told) is =
       let found = found_until (get_by_text g.sets.kept set) (get_by_text g.watches.kept until) ms u there in
       let some : FindsWoken last read new ms (Some found.0) (woken.Stopped at) = subst (λ (o : Option HeldWatch). FindsWoken last read new ms o (woken.Stopped at)) found.3 told in
-      subst (λ (x : Reply). TellsLook g (command.WaitUntil set until) old new x) (sym (ap (reply_of old.schema) is)) (by_until until found.0 at some.0 found.1 found.2 (read, once, some.1) some.2)
+      subst (λ (x : Reply). TellsLook g (watches_line.WaitUntil set until) old new x) (sym (ap (reply_of old.schema) is)) (by_until until found.0 at some.0 found.1 found.2 (read, once, some.1) some.2)
 
 pub wait_told : (g : Watching) (set : Bytes) (old new : Caller) (ms : List Member) (until : Option Bytes) (u : Option HeldWatch) (w : Woken) (r : own.Reply) → awaited_in g set until ≡ Some (ms, u) → Holds old g → IsBeginning old new
     → MovesAreTouches (cells_seen new) → AreComplete (cells_seen new) → AnswersWait old new ms u w → RepliesWoken ms w r → TellsLook g (wait_for set until) old new (reply_of old.schema r)

@@ -27,10 +27,10 @@ use Rattle.watch_set.specs.Members as set_specs
 use Rattle.watch_set.specs.Members.{Member, chosen}
 use Rattle.client_script.specs.Client.{Client, Judged, Sight, Watch, set_named, state_seen, watch_named}
 use Rattle.client_script.specs.Reply.{Reply, answered, refused}
-use Rattle.client_script.specs.Turn.{Turn, outcome}
-use Rattle.client_script.specs.Watching.{asked_watched, limit_judged, limited, watch_called, watch_turn, with_watch}
-use Rattle.client_script.specs.declared.command.Command.TheVariants as command
-use Rattle.client_session.specs.Cells.{TellsCells}
+use Rattle.client_script.specs.Turn.{Turn, asked_watched, outcome, watch_turn, with_watch}
+use Rattle.client_script.specs.Watching.{limit_judged, limited, watch_called}
+use Rattle.client_script.specs.declared.command.WatchesCommand.TheVariants as watches_line
+use Rattle.client_session.specs.Cells.{WatchTellsCells}
 use Rattle.client_session.specs.declared.reply.Reply as own
 use Rattle.client_session.specs.declared.reply.Reply.TheVariants as replies
 use Rattle.client_session.specs.declared.rule.Rule.{Rule}
@@ -231,7 +231,7 @@ module _ (p : Caller) (v : Client) (s : Sight) (name : Bytes) (q : Query) where
 -- ---- a watch added to a set
 
 module _ (p : Caller) (now : ℕ) (old new : Watching) (v : Client) (ids : IdsTellCells p) (knows : Knows p old v.watching) (holds : Holds p old) (set : Bytes) where
-  pub add_unknown : (name : Bytes) → get_by_text old.watches.kept name ≡ None → WatchTold p now old v (command.Add set name) (refused unknown)
+  pub add_unknown : (name : Bytes) → get_by_text old.watches.kept name ≡ None → WatchTold p now old v (watches_line.Add set name) (refused unknown)
   add_unknown name none = record {
     next = v;
     says = judged_not v (watch_called name v) unknown _ (called_none p old v name knows none);
@@ -240,13 +240,13 @@ module _ (p : Caller) (now : ℕ) (old new : Watching) (v : Client) (ids : IdsTe
     holds = holds;
   }
 
-  pub add_told : (name : Bytes) (h : HeldWatch) (r : own.Reply) → get_by_text old.watches.kept name ≡ Some h → new.watches ≡ old.watches → AddsTo old.sets new.sets set name h r → WatchTold p now new v (command.Add set name) (reply_of p.schema r)
+  pub add_told : (name : Bytes) (h : HeldWatch) (r : own.Reply) → get_by_text old.watches.kept name ≡ Some h → new.watches ≡ old.watches → AddsTo old.sets new.sets set name h r → WatchTold p now new v (watches_line.Add set name) (reply_of p.schema r)
   add_told name h r there watches adds =
       let a = set_added p old new v set name h r ids knows holds (holds.watches name h there) watches adds in
       record {
         next = a.next;
         says = judged_so v (watch_called name v) (watch_of name h) (reply_of p.schema r) a.next _ (called_watch p old v name h knows there) a.added;
-        cells = subst (λ (x : Reply). TellsCells (cells_seen p) v (command.Add set name) x a.next) (sym (ap (reply_of p.schema) adds.reply)) a.each;
+        cells = subst (λ (x : Reply). WatchTellsCells (cells_seen p) v (watches_line.Add set name) x a.next) (sym (ap (reply_of p.schema) adds.reply)) a.each;
         knows = a.knows;
         holds = a.holds;
       }
@@ -263,7 +263,7 @@ module _ (p : Caller) (now : ℕ) (old new : Watching) (v : Client) (ids : IdsTe
     limit_missed (Some h) there (inl none) = cc
     limit_missed (Some h) there (inr none) = ap with_first (called_watch p old v name h knows there) ∙ ap (with_other (watch_of name h)) (called_none p old v other knows none)
 
-    pub limit_unknown : (get_by_text old.watches.kept name ≡ None) ⊎ (get_by_text old.watches.kept other ≡ None) → WatchTold p now old v (command.AddLimit set limit name other) (refused unknown)
+    pub limit_unknown : (get_by_text old.watches.kept name ≡ None) ⊎ (get_by_text old.watches.kept other ≡ None) → WatchTold p now old v (watches_line.AddLimit set limit name other) (refused unknown)
     limit_unknown none = record {
       next = v;
       says = judged_not v (limit_judged v set limit name other) unknown _ (limit_missed (get_by_text old.watches.kept name) refl none);
@@ -279,25 +279,25 @@ module _ (p : Caller) (now : ℕ) (old new : Watching) (v : Client) (ids : IdsTe
           ∙ ap (λ (n : ℕ). Ok (if nat_lt n limit then watch_of name h else watch_of other o)) (count_known p old v set knows) ∙ ap (λ (c : Bool). Ok (if c then watch_of name h else watch_of other o)) is
 
       pub limit_first : (r : own.Reply) → nat_lt (length (members_in old.sets set)) limit ≡ true → new.watches ≡ old.watches → AddsTo old.sets new.sets set name h r
-          → WatchTold p now new v (command.AddLimit set limit name other) (reply_of p.schema r)
+          → WatchTold p now new v (watches_line.AddLimit set limit name other) (reply_of p.schema r)
       limit_first r is watches adds =
           let a = set_added p old new v set name h r ids knows holds (holds.watches name h there) watches adds in
           record {
             next = a.next;
             says = judged_so v (limit_judged v set limit name other) (watch_of name h) (reply_of p.schema r) a.next _ (limit_found true is) a.added;
-            cells = subst (λ (x : Reply). TellsCells (cells_seen p) v (command.AddLimit set limit name other) x a.next) (sym (ap (reply_of p.schema) adds.reply)) a.each;
+            cells = subst (λ (x : Reply). WatchTellsCells (cells_seen p) v (watches_line.AddLimit set limit name other) x a.next) (sym (ap (reply_of p.schema) adds.reply)) a.each;
             knows = a.knows;
             holds = a.holds;
           }
 
       pub limit_other : (r : own.Reply) → nat_lt (length (members_in old.sets set)) limit ≡ false → new.watches ≡ old.watches → AddsTo old.sets new.sets set other o r
-          → WatchTold p now new v (command.AddLimit set limit name other) (reply_of p.schema r)
+          → WatchTold p now new v (watches_line.AddLimit set limit name other) (reply_of p.schema r)
       limit_other r is watches adds =
           let a = set_added p old new v set other o r ids knows holds (holds.watches other o beside) watches adds in
           record {
             next = a.next;
             says = judged_so v (limit_judged v set limit name other) (watch_of other o) (reply_of p.schema r) a.next _ (limit_found false is) a.added;
-            cells = subst (λ (x : Reply). TellsCells (cells_seen p) v (command.AddLimit set limit name other) x a.next) (sym (ap (reply_of p.schema) adds.reply)) a.each;
+            cells = subst (λ (x : Reply). WatchTellsCells (cells_seen p) v (watches_line.AddLimit set limit name other) x a.next) (sym (ap (reply_of p.schema) adds.reply)) a.each;
             knows = a.knows;
             holds = a.holds;
           }
@@ -310,14 +310,14 @@ module _ (p : Caller) (now : ℕ) (old new : Watching) (v : Client) (ids : IdsTe
         one_more m = set_specs.with_watch m.name m.held (members_in old.sets set)
 
         limit_either : (b : Bool) → nat_lt (length (members_in old.sets set)) limit ≡ b → new.watches ≡ old.watches → ((q : Bytes) → get_by_text mid.kept q ≡ cond (bytes_eq set q) None (get_by_text old.sets.kept q)) → ms ≡ one_more (chosen_of b) → PutsBack mid new.sets set ms r
-            → WatchTold p now new v (command.AddLimit set limit name other) (reply_of p.schema r)
+            → WatchTold p now new v (watches_line.AddLimit set limit name other) (reply_of p.schema r)
         limit_either true is watches left more puts = limit_first r is watches (put_added old.sets mid new.sets set name h ms r left more puts)
         limit_either false is watches left more puts = limit_other r is watches (put_added old.sets mid new.sets set other o ms r left more puts)
 
         -- the set that was taken out has a watch more, and was put back
         pub limit_told : new.watches ≡ old.watches → ((q : Bytes) → get_by_text mid.kept q ≡ cond (bytes_eq set q) None (get_by_text old.sets.kept q)) → found ≡ members_in old.sets set
             → (let m = chosen limit found (record { name = name; held = h }) (record { name = other; held = o }) in ms ≡ set_specs.with_watch m.name m.held found) → PutsBack mid new.sets set ms r
-            → WatchTold p now new v (command.AddLimit set limit name other) (reply_of p.schema r)
+            → WatchTold p now new v (watches_line.AddLimit set limit name other) (reply_of p.schema r)
         limit_told watches left is more puts =
             limit_either (nat_lt (length (members_in old.sets set)) limit) refl watches left
             (subst (λ (xs : List Member). let m = chosen limit xs (record { name = name; held = h }) (record { name = other; held = o }) in ms ≡ set_specs.with_watch m.name m.held xs) is more) puts

@@ -14,6 +14,7 @@ use Rattle.client_script.specs.Legal.{printed}
 use Rattle.client_script.specs.Reply.{Reply, lines_text}
 use Rattle.client_script.specs.Session.{Session}
 use Rattle.client_script.specs.declared.command.Command.TheVariants as command
+use Rattle.client_script.specs.declared.command.TransactionCommand.TheVariants as transaction_line
 use Rattle.client_script.specs.declared.line.Line.{Line}
 use Rattle.client_session.specs.Progress.{Progress}
 
@@ -75,7 +76,8 @@ pub record HasAnswered (old new : Progress) : Type 0 where
 abbrev pub IsUntold : List Line → ℕ → List Commit → Type 0
 IsUntold script at [] = ⊤
 IsUntold script at (c ∷ []) =
-    (l : Line) × (slice_get script at ≡ Some l) × (l.command ≡ command.Commit)
+    (l : Line) × (slice_get script at ≡ Some l)
+    × (l.command ≡ command.Transaction transaction_line.Commit)
 IsUntold script at (c ∷ d ∷ cs) = ⊥
 
 -- The same of a call that found no memory, but the last commit may be untold: the line behind those

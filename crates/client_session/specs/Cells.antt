@@ -11,6 +11,8 @@ use Rattle.client_script.specs.Session.{Answers}
 use Rattle.client_script.specs.Watching.{AreOfOneIndex, set_for}
 use Rattle.client_script.specs.declared.command.Command.{Command}
 use Rattle.client_script.specs.declared.command.Command.TheVariants as command
+use Rattle.client_script.specs.declared.command.WatchesCommand.{WatchesCommand}
+use Rattle.client_script.specs.declared.command.WatchesCommand.TheVariants as watches_line
 use Rattle.client_script.specs.declared.line.Line.{Line}
 
 -- commit n is there, and the trees after it
@@ -67,15 +69,22 @@ pub record HasEachCellOnce (J : CellHistory) (s : WatchSet) : Type 0 where
 
 -- ---- lines
 
--- what a line tells of cells: by a watch that has fired, and by a set's new size
-abbrev pub TellsCells : CellHistory → Client → Command → Reply → Client → Type 0
-TellsCells J v (command.Check name) (fired_at n) next = NamedHasMoved J v name n
-TellsCells J v (command.Wait set) (woken_by name n) next = MemberHasMoved J v set name n
-TellsCells J v (command.WaitUntil set until) (woken_by name n) next = MemberHasMoved J v set name n
-TellsCells J v (command.WaitUntil set until) (stopped_at n) next = NamedHasMoved J v until n
-TellsCells J v (command.Add set name) (sized k) next = HasEachCellOnce J (set_for set next)
-TellsCells J v (command.AddLimit set limit name other) (sized k) next =
+-- what a line of watches tells of cells: by a watch that has fired, and by a set's new size
+abbrev pub WatchTellsCells : CellHistory → Client → WatchesCommand → Reply → Client → Type 0
+WatchTellsCells J v (watches_line.Check name) (fired_at n) next = NamedHasMoved J v name n
+WatchTellsCells J v (watches_line.Wait set) (woken_by name n) next = MemberHasMoved J v set name n
+WatchTellsCells J v (watches_line.WaitUntil set until) (woken_by name n) next =
+    MemberHasMoved J v set name n
+WatchTellsCells J v (watches_line.WaitUntil set until) (stopped_at n) next =
+    NamedHasMoved J v until n
+WatchTellsCells J v (watches_line.Add set name) (sized k) next = HasEachCellOnce J (set_for set next)
+WatchTellsCells J v (watches_line.AddLimit set limit name other) (sized k) next =
     HasEachCellOnce J (set_for set next)
+WatchTellsCells J v w r next = ⊤
+
+-- the lines of other groups tell nothing of cells
+abbrev pub TellsCells : CellHistory → Client → Command → Reply → Client → Type 0
+TellsCells J v (command.Watches w) r next = WatchTellsCells J v w r next
 TellsCells J v c r next = ⊤
 
 -- each line has its reply, which answers it, and what it tells of cells is so; from what the client

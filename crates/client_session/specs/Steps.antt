@@ -12,6 +12,9 @@ use Rattle.client_script.specs.Session.{Runs}
 use Rattle.client_script.specs.Watching.{IsQuiet, until_judged, wait_judged}
 use Rattle.client_script.specs.declared.command.Command.{Command}
 use Rattle.client_script.specs.declared.command.Command.TheVariants as command
+use Rattle.client_script.specs.declared.command.TransactionCommand.TheVariants as transaction_line
+use Rattle.client_script.specs.declared.command.WatchesCommand.{WatchesCommand}
+use Rattle.client_script.specs.declared.command.WatchesCommand.TheVariants as watches_line
 use Rattle.client_script.specs.declared.line.Line.{Line}
 use Rattle.client_session.specs.Answered.{HasAnswered, IsLater}
 use Rattle.client_session.specs.Progress.{Progress}
@@ -29,23 +32,24 @@ IsOneLook old new = (new.counts ≡ old.counts) ⊎ LooksOnce old new
 -- A line that is answered has done what may have to wait once, and not again: at `write` no try has
 -- found the turn taken, for there was none, or it found the turn free; at a wait there was one look.
 abbrev pub HasDoneOnce : Command → Caller → Caller → Type 0
-HasDoneOnce command.Write old new = (new.tries ≡ old.tries) ⊎ HasWon old new
-HasDoneOnce (command.Wait set) old new = IsOneLook old new
-HasDoneOnce (command.WaitUntil set until) old new = IsOneLook old new
+HasDoneOnce (command.Transaction transaction_line.Write) old new =
+    (new.tries ≡ old.tries) ⊎ HasWon old new
+HasDoneOnce (command.Watches (watches_line.Wait set)) old new = IsOneLook old new
+HasDoneOnce (command.Watches (watches_line.WaitUntil set until)) old new = IsOneLook old new
 HasDoneOnce c old new = ⊤
 
 -- ---- waits that find nothing
 
 -- the watches that a line waits for, the one that cancels the wait behind the members of the set;
 -- other lines wait for none
-abbrev pub awaited_by : Command → Client → Judged (List Watch)
-awaited_by (command.Wait set) v = do
+abbrev pub awaited_by : WatchesCommand → Client → Judged (List Watch)
+awaited_by (watches_line.Wait set) v = do
   s ← wait_judged v set
   Ok s.members
-awaited_by (command.WaitUntil set until) v = do
+awaited_by (watches_line.WaitUntil set until) v = do
   p ← until_judged v set until
   Ok (p.0.members ++ p.1 ∷ [])
-awaited_by c v = Err []
+awaited_by w v = Err []
 
 -- a watch was quiet at one of the looks of a call: after a count of commits that the pass read in
 -- it
@@ -63,20 +67,20 @@ WereQuiet old new [] = ⊤
 WereQuiet old new (w ∷ ws) = WasQuiet old new w × WereQuiet old new ws
 
 -- each watch that the line waits for was quiet
-pub record HasStayedQuiet (old new : Caller) (v : Client) (c : Command) : Type 0 where
+pub record HasStayedQuiet (old new : Caller) (v : Client) (w : WatchesCommand) : Type 0 where
   pub awaited : List Watch
-  pub judged : awaited_by c v ≡ Ok awaited
+  pub judged : awaited_by w v ≡ Ok awaited
   pub quiet : WereQuiet old new awaited
 
 -- The line is a wait, and one look has found all that it waits for quiet, by what the client knows
 -- after the replies whose text is kept. Nothing else was done.
-pub record Waits (old new : Progress) (c : Command) : Type 0 where
+pub record Waits (old new : Progress) (w : WatchesCommand) : Type 0 where
   pub replies : List Reply
   pub client : Client
   pub runs : let p = old.caller in
       Runs p.schema p.seen p.number at_start (take old.answered old.script) replies client
   pub written : old.text ≡ lines_text (take old.answered old.script) replies
-  pub stayed : HasStayedQuiet old.caller new.caller client c
+  pub stayed : HasStayedQuiet old.caller new.caller client w
   pub look : LooksOnce old.caller new.caller
   pub later : IsLater old.caller new.caller
   pub tries : new.caller.tries ≡ old.caller.tries
@@ -85,8 +89,10 @@ pub record Waits (old new : Progress) (c : Command) : Type 0 where
 -- a line is still to do: `write`, whose one try found the number of another of so many callers, or
 -- a wait that has found nothing
 abbrev pub IsBlocked : ℕ → Progress → Progress → Command → Type 0
-IsBlocked callers old new command.Write = HasLost callers old.caller new.caller
-IsBlocked callers old new c = Waits old new c
+IsBlocked callers old new (command.Transaction transaction_line.Write) =
+    HasLost callers old.caller new.caller
+IsBlocked callers old new (command.Watches w) = Waits old new w
+IsBlocked callers old new c = ⊥
 
 -- The next line is answered. Or it is still to do, and all else is as before. Or no line is left, and
 -- what is open is aborted. After want of memory the answers are as before.

@@ -6,15 +6,17 @@ ghost use Rattle.std.specs.Str.{bytes_eq};
 ghost use Rattle.mdb_datum.specs.Bytes.{Bytes};
 ghost use Rattle.mem_txn.specs.Database.{IsOf};
 ghost use Rattle.client_session.specs.Answered.{IsLater};
-ghost use Rattle.client_script.specs.declared.command.Command.TheVariants as command;
+ghost use Rattle.client_script.specs.declared.command.AskCommand.TheVariants as ask_line;
+ghost use Rattle.client_script.specs.declared.command.Command.TheVariants as commands;
+ghost use Rattle.client_script.specs.declared.command.NameCommand.TheVariants as name_line;
+ghost use Rattle.client_script.specs.declared.command.WatchesCommand.TheVariants as watches_line;
 ghost use Rattle.client_script.specs.Client.{at_start};
-ghost use Rattle.client_session.specs.inner.DeskView.{Follows, IsLook, IsRequest, KeepsOrSizes};
-ghost use Rattle.client_session.specs.inner.DeskView.{AnswersOnce, LooksAndReplies, RepliesTo};
-ghost use Rattle.client_session.specs.inner.DeskView.{StepsTo};
+ghost use Rattle.client_session.specs.inner.DeskView.{AnswersOnce, Follows, LooksAndReplies};
+ghost use Rattle.client_session.specs.inner.DeskView.{RepliesTo, StepsTo};
 ghost use Rattle.client_session.specs.inner.OpenView.{caller_of, is_writing, IsOpen, Stands};
 ghost use Rattle.client_session.specs.inner.KeptView.{seen_in};
 ghost use Rattle.client_session.specs.inner.ReplyOf.{reply_of};
-ghost use Rattle.client_session.specs.inner.WatchingView.{HasLookedOn, Holds, TellsLook, wait_for};
+ghost use Rattle.client_session.specs.inner.WatchingView.{Holds, wait_for};
 
 use crate::kept::Kept;
 use crate::named::Named;
@@ -23,9 +25,9 @@ use crate::refusal::{question_rule, refused};
 use crate::reply::Reply;
 use crate::rule::Rule;
 use crate::watching::Watching;
-use client_script::Command;
+use client_script::{AskCommand, Command, NameCommand, TransactionCommand, WatchesCommand};
 use mdb_datum::Text;
-use mdb_schema::{Query, Schema};
+use mdb_schema::Query;
 use mem_txn::{Db, Pass};
 use std::alloc::{AllocError, Global};
 use std::sync::Wait;
@@ -70,7 +72,7 @@ impl Desk {
             ((caller_of result.0.open).own ≡ (caller_of self.open).own) }
     {
         match command {
-            Command::Read | Command::Write | Command::End | Command::Commit | Command::Abort => {
+            Command::Transaction(command) => {
                 let Desk {
                     open,
                     snapshots,
@@ -84,14 +86,33 @@ impl Desk {
                 };
                 (desk, told)
             }
-            Command::Check { .. } | Command::Wait { .. } | Command::WaitUntil { .. } => {
+            Command::Write(command) => {
                 let mut desk = self;
-                let told = desk.look(rt, alloc, db, command);
+                let told = desk.open.write_rows(db.schema(), command);
                 (desk, told)
             }
-            command => {
+            Command::Defer { text } => {
                 let mut desk = self;
-                let told = desk.request(alloc, db.schema(), command);
+                let told = desk.open.defer(alloc, text);
+                (desk, told)
+            }
+            Command::Ask(command) => {
+                let mut desk = self;
+                let told = desk.ask(command);
+                (desk, told)
+            }
+            Command::Name(command) => {
+                let mut desk = self;
+                let told = desk.name(alloc, command);
+                (desk, told)
+            }
+            Command::Size { set } => {
+                let reply = self.watching.size(set);
+                (self, Ok(reply))
+            }
+            Command::Watches(command) => {
+                let mut desk = self;
+                let told = desk.watches(rt, alloc, db, command);
                 (desk, told)
             }
         }
@@ -116,7 +137,7 @@ impl Desk {
             ((caller_of result.0.open).own ≡ (caller_of self.open).own) }
     {
         match command {
-            Command::Write => {
+            Command::Transaction(TransactionCommand::Write) => {
                 let Desk {
                     open,
                     snapshots,
@@ -130,14 +151,14 @@ impl Desk {
                 };
                 (desk, told)
             }
-            Command::Wait { set } => {
+            Command::Watches(WatchesCommand::Wait { set }) => {
                 let mut desk = self;
-                let told = desk.look_once(rt, alloc, db, set, None);
+                let told = desk.wait_once(rt, alloc, db, set, None);
                 (desk, told)
             }
-            Command::WaitUntil { set, until } => {
+            Command::Watches(WatchesCommand::WaitUntil { set, until }) => {
                 let mut desk = self;
-                let told = desk.look_once(rt, alloc, db, set, Some(until));
+                let told = desk.wait_once(rt, alloc, db, set, Some(until));
                 (desk, told)
             }
             command => {
@@ -147,66 +168,75 @@ impl Desk {
         }
     }
 
-    /// Carries out a command that neither begins nor ends a transaction, and looks at no further
-    /// commits.
-    fn request(
-        &mut self,
-        alloc: Global,
-        schema: &Schema,
-        command: &Command,
-    ) -> Result<Reply, AllocError>
+    /// Carries out a command that asks for rows.
+    fn ask(&mut self, command: &AskCommand) -> Result<Reply, AllocError>
         requires stands { Stands self.old.open }
-        requires schema { schema.now ≡ (caller_of self.old.open).schema }
-        requires request { IsRequest command.now }
-        ensures turn { IfOk result (λ r. RepliesTo command.now self.old self.new
+        ensures turn { IfOk result (λ r. RepliesTo (commands.Ask command.now) self.old self.new
             (reply_of (caller_of self.old.open).schema r)) }
         ensures caller { caller_of self.new.open ≡ caller_of self.old.open }
     {
         match command {
-            Command::Insert { table, row } => self.open.insert(schema, table, row),
-            Command::Delete { table, row } => self.open.delete(schema, table, row),
-            Command::DeleteAll { query } => self.open.delete_all(query),
-            Command::DeletePrefix { query } => self.open.delete_prefix(query),
-            Command::Defer { text } => self.open.defer(alloc, text),
-            Command::Question { query } => self.open.ask(query),
-            Command::InSnapshot { name, query } => self.ask_snapshot(name, query),
-            command => self.keep_or_size(alloc, command),
+            AskCommand::Question { query } => self.open.ask(query),
+            AskCommand::InSnapshot { name, query } => self.ask_snapshot(name, query),
         }
     }
 
-    /// Carries out a command that keeps a snapshot or a watch, adds to a set, or asks for its size.
-    fn keep_or_size(&mut self, alloc: Global, command: &Command) -> Result<Reply, AllocError>
+    /// Carries out a command that keeps a snapshot or a watch.
+    fn name(&mut self, alloc: Global, command: &NameCommand) -> Result<Reply, AllocError>
         requires stands { Stands self.old.open }
-        requires keeps { KeepsOrSizes command.now }
-        ensures turn { IfOk result (λ r. RepliesTo command.now self.old self.new
+        ensures turn { IfOk result (λ r. RepliesTo (commands.Name command.now) self.old self.new
             (reply_of (caller_of self.old.open).schema r)) }
         ensures caller { caller_of self.new.open ≡ caller_of self.old.open }
     {
         match command {
-            Command::Snapshot { name } => self.keep(alloc, name),
-            Command::Watch { name, query } => self.watch(alloc, name, query),
-            Command::WatchIn {
+            NameCommand::Snapshot { name } => self.keep(alloc, name),
+            NameCommand::Watch { name, query } => self.watch(alloc, name, query),
+            NameCommand::WatchIn {
                 name,
                 snapshot,
                 query,
             } => self.watch_in(alloc, name, snapshot, query),
-            Command::Add { set, name } => self.add(alloc, set, name),
-            Command::AddLimit {
+        }
+    }
+
+    /// Carries out a command that looks at watches, or adds them to sets.
+    fn watches<R: Wait>(
+        &mut self,
+        rt: &R,
+        alloc: Global,
+        db: &Db,
+        command: &WatchesCommand,
+    ) -> Result<Reply, AllocError>
+        requires own { IsOf db.now (caller_of self.old.open) }
+        requires stands { Stands self.old.open }
+        requires holds { Holds (caller_of self.old.open) self.old.watching }
+        ensures turn { IfOk result (λ r. LooksAndReplies (commands.Watches command.now) self.old
+            self.new (reply_of (caller_of self.old.open).schema r)) }
+        ensures caller { IsLater (caller_of self.old.open) (caller_of self.new.open) }
+        ensures unmade { (caller_of self.new.open).own ≡ (caller_of self.old.open).own }
+    {
+        match command {
+            WatchesCommand::Check { name } => self.check(rt, db, name),
+            WatchesCommand::Add { set, name } => self.add(alloc, set, name),
+            WatchesCommand::AddLimit {
                 set,
                 limit,
                 name,
                 other,
             } => self.add_limit(alloc, set, *limit, name, other),
-            Command::Size { set } => Ok(self.watching.size(set)),
-            _ => unreachable!(),
+            WatchesCommand::Wait { set } => self.wait(rt, alloc, db, set, None),
+            WatchesCommand::WaitUntil { set, until } => {
+                self.wait(rt, alloc, db, set, Some(until))
+            }
         }
     }
 
     /// Asks the open transaction, and keeps the answer's watch.
     fn watch(&mut self, alloc: Global, name: &Text, query: &Query) -> Result<Reply, AllocError>
         requires stands { Stands self.old.open }
-        ensures turn { IfOk result (λ r. RepliesTo (command.Watch name.now query.now) self.old
-            self.new (reply_of (caller_of self.old.open).schema r)) }
+        ensures turn { IfOk result (λ r. RepliesTo
+            (commands.Name (name_line.Watch name.now query.now)) self.old self.new
+            (reply_of (caller_of self.old.open).schema r)) }
         ensures caller { caller_of self.new.open ≡ caller_of self.old.open }
     {
         match &self.open {
@@ -225,8 +255,9 @@ impl Desk {
         query: &Query,
     ) -> Result<Reply, AllocError>
         requires stands { Stands self.old.open }
-        ensures turn { IfOk result (λ r. RepliesTo (command.WatchIn name.now snapshot.now query.now)
-            self.old self.new (reply_of (caller_of self.old.open).schema r)) }
+        ensures turn { IfOk result (λ r. RepliesTo
+            (commands.Name (name_line.WatchIn name.now snapshot.now query.now)) self.old self.new
+            (reply_of (caller_of self.old.open).schema r)) }
         ensures caller { caller_of self.new.open ≡ caller_of self.old.open }
     {
         match self.snapshots.get(snapshot) {
@@ -239,9 +270,11 @@ impl Desk {
     /// Adds a watch to a set.
     fn add(&mut self, alloc: Global, set: &Text, name: &Text) -> Result<Reply, AllocError>
         requires stands { Stands self.old.open }
-        ensures turn { IfOk result (λ r. RepliesTo (command.Add set.now name.now) self.old self.new
+        ensures turn { IfOk result (λ r. LooksAndReplies
+            (commands.Watches (watches_line.Add set.now name.now)) self.old self.new
             (reply_of (caller_of self.old.open).schema r)) }
-        ensures caller { caller_of self.new.open ≡ caller_of self.old.open }
+        ensures caller { IsLater (caller_of self.old.open) (caller_of self.new.open) }
+        ensures unmade { (caller_of self.new.open).own ≡ (caller_of self.old.open).own }
     {
         self.open.ids_tell_cells();
         self.watching.add(alloc, set, name)
@@ -257,41 +290,61 @@ impl Desk {
         other: &Text,
     ) -> Result<Reply, AllocError>
         requires stands { Stands self.old.open }
-        ensures turn { IfOk result (λ r. RepliesTo
-            (command.AddLimit set.now limit name.now other.now) self.old self.new
+        ensures turn { IfOk result (λ r. LooksAndReplies
+            (commands.Watches (watches_line.AddLimit set.now limit name.now other.now)) self.old self.new
             (reply_of (caller_of self.old.open).schema r)) }
-        ensures caller { caller_of self.new.open ≡ caller_of self.old.open }
+        ensures caller { IsLater (caller_of self.old.open) (caller_of self.new.open) }
+        ensures unmade { (caller_of self.new.open).own ≡ (caller_of self.old.open).own }
     {
         self.open.ids_tell_cells();
         self.watching.add_limit(alloc, set, limit, name, other)
     }
 
-    /// Carries out a check or a wait.
-    fn look<R: Wait>(
-        &mut self,
-        rt: &R,
-        alloc: Global,
-        db: &Db,
-        command: &Command,
-    ) -> Result<Reply, AllocError>
+    /// Looks whether a watch has fired.
+    fn check<R: Wait>(&mut self, rt: &R, db: &Db, name: &Text) -> Result<Reply, AllocError>
         requires own { IsOf db.now (caller_of self.old.open) }
         requires stands { Stands self.old.open }
         requires holds { Holds (caller_of self.old.open) self.old.watching }
-        requires look { IsLook command.now }
-        ensures turn { IfOk result (λ r. LooksAndReplies command.now self.old self.new
+        ensures turn { IfOk result (λ r. LooksAndReplies
+            (commands.Watches (watches_line.Check name.now)) self.old self.new
             (reply_of (caller_of self.old.open).schema r)) }
         ensures caller { IsLater (caller_of self.old.open) (caller_of self.new.open) }
         ensures unmade { (caller_of self.new.open).own ≡ (caller_of self.old.open).own }
     {
         match &mut self.open {
-            Open::Nothing(pass) => look_by(rt, alloc, db, &self.watching, pass, command),
-            Open::Reading(pass, _) => look_by(rt, alloc, db, &self.watching, pass, command),
+            Open::Nothing(pass) => self.watching.check(rt, db, pass, name),
+            Open::Reading(pass, _) => self.watching.check(rt, db, pass, name),
             Open::Writing(_) => Ok(Reply::Refused(Rule::WriteOpen)),
         }
     }
 
-    /// Looks once at what a wait waits for. It gives no reply where all is quiet.
-    fn look_once<R: Wait>(
+    /// Waits till a watch of a set has fired, or the watch that cancels, if there is one.
+    fn wait<R: Wait>(
+        &mut self,
+        rt: &R,
+        alloc: Global,
+        db: &Db,
+        set: &Text,
+        until: Option<&Text>,
+    ) -> Result<Reply, AllocError>
+        requires own { IsOf db.now (caller_of self.old.open) }
+        requires stands { Stands self.old.open }
+        requires holds { Holds (caller_of self.old.open) self.old.watching }
+        ensures turn { IfOk result (λ r. LooksAndReplies
+            (commands.Watches (wait_for set.now (option_copied until.entry))) self.old self.new
+            (reply_of (caller_of self.old.open).schema r)) }
+        ensures caller { IsLater (caller_of self.old.open) (caller_of self.new.open) }
+        ensures unmade { (caller_of self.new.open).own ≡ (caller_of self.old.open).own }
+    {
+        match &mut self.open {
+            Open::Nothing(pass) => self.watching.wait(rt, alloc, db, pass, set, until),
+            Open::Reading(pass, _) => self.watching.wait(rt, alloc, db, pass, set, until),
+            Open::Writing(_) => Ok(Reply::Refused(Rule::WriteOpen)),
+        }
+    }
+
+    /// The same, but for one look at each. It gives no reply where all are quiet.
+    fn wait_once<R: Wait>(
         &mut self,
         rt: &R,
         alloc: Global,
@@ -317,7 +370,8 @@ impl Desk {
     /// Keeps the present state under a name.
     fn keep(&mut self, alloc: Global, name: &Text) -> Result<Reply, AllocError>
         requires stands { Stands self.old.open }
-        ensures turn { IfOk result (λ r. RepliesTo (command.Snapshot name.now) self.old self.new
+        ensures turn { IfOk result (λ r. RepliesTo
+            (commands.Name (name_line.Snapshot name.now)) self.old self.new
             (reply_of (caller_of self.old.open).schema r)) }
         ensures caller { caller_of self.new.open ≡ caller_of self.old.open }
     {
@@ -338,7 +392,8 @@ impl Desk {
         requires stands { Stands self.old.open }
         requires opened { IsOpen self.old.open }
         requires free { is_some (seen_in self.old.snapshots name.now) ≡ false }
-        ensures turn { IfOk result (λ r. RepliesTo (command.Snapshot name.now) self.old self.new
+        ensures turn { IfOk result (λ r. RepliesTo
+            (commands.Name (name_line.Snapshot name.now)) self.old self.new
             (reply_of (caller_of self.old.open).schema r)) }
         ensures caller { caller_of self.new.open ≡ caller_of self.old.open }
     {
@@ -349,8 +404,9 @@ impl Desk {
     /// What a question of a snapshot is answered.
     fn ask_snapshot(&self, name: &Text, query: &Query) -> Result<Reply, AllocError>
         requires stands { Stands self.now.open }
-        ensures { IfOk result (λ r. RepliesTo (command.InSnapshot name.now query.now) self.now
-            self.now (reply_of (caller_of self.now.open).schema r)) }
+        ensures { IfOk result (λ r. RepliesTo
+            (commands.Ask (ask_line.InSnapshot name.now query.now)) self.now self.now
+            (reply_of (caller_of self.now.open).schema r)) }
     {
         let Some(kept) = self.snapshots.get(name) else {
             return Ok(Reply::Refused(Rule::UnknownName));
@@ -383,30 +439,6 @@ impl Desk {
         drop(snapshots);
         drop(watching);
         open.close(db)
-    }
-}
-
-/// Carries out a check or a wait, by a pass with no write transaction open.
-fn look_by<R: Wait>(
-    rt: &R,
-    alloc: Global,
-    db: &Db,
-    watching: &Watching,
-    pass: &mut Pass,
-    command: &Command,
-) -> Result<Reply, AllocError>
-    requires own { IsOf db.now pass.old }
-    requires holds { Holds pass.old watching.now }
-    requires look { IsLook command.now }
-    ensures told { IfOk result (λ r. TellsLook watching.now command.now pass.old pass.new
-        (reply_of pass.old.schema r)) }
-    ensures looked { HasLookedOn pass.old pass.new }
-{
-    match command {
-        Command::Check { name } => watching.check(rt, db, pass, name),
-        Command::Wait { set } => watching.wait(rt, alloc, db, pass, set, None),
-        Command::WaitUntil { set, until } => watching.wait(rt, alloc, db, pass, set, Some(until)),
-        _ => unreachable!(),
     }
 }
 

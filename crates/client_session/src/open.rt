@@ -3,26 +3,24 @@ ghost use Rattle.std.specs.Prelude.{◌≡◌, IfOk, OnErr, Ok, Err, option_map}
 ghost use Rattle.mem_txn.specs.Checked.{IdsTellCells};
 ghost use Rattle.mem_txn.specs.Database.{IsOf};
 ghost use Rattle.client_session.specs.Answered.{IsLater};
-ghost use Rattle.client_script.specs.declared.command.Command.TheVariants as command;
+ghost use Rattle.client_script.specs.declared.command.Command.TheVariants as commands;
+ghost use Rattle.client_script.specs.declared.command.TransactionCommand.TheVariants as transaction_line;
 ghost use Rattle.client_session.specs.declared.open.Open.TheVariants as opens;
 ghost use Rattle.client_session.specs.declared.reply.Reply.TheVariants as replies;
-ghost use Rattle.client_session.specs.inner.OpenView.{caller_of, BeginsOrEnds, LooksAndTurns};
+ghost use Rattle.client_session.specs.inner.OpenView.{caller_of, LooksAndTurns};
 ghost use Rattle.client_session.specs.inner.OpenView.{Stands, TriesWrite, TurnsTo};
 ghost use Rattle.client_session.specs.inner.ReplyOf.{reply_of};
 
 use crate::reply::Reply;
 use crate::rule::Rule;
-use client_script::Command;
-use mdb_datum::{Row, Text};
-use mdb_schema::{Answer, AskError, Query, Schema, WriteError};
+use client_script::TransactionCommand;
+use mdb_datum::Text;
 use mem_txn::pass_laws::{ids_tell_cells, ids_tell_cells_within};
 use mem_txn::{
-    BeginError, BeginRefused, CommitRefused, Committed, Db, Pass, ReadTxn, Tried, TxnAskError,
-    TxnWipeError, TxnWriteError, WriteTxn,
+    BeginError, BeginRefused, CommitRefused, Committed, Db, Pass, ReadTxn, Tried, WriteTxn,
 };
-use std::alloc::{AllocError, Global};
+use std::alloc::AllocError;
 use std::sync::Wait;
-use table_index::WipeError;
 
 /// What is open. It owns the client's pass.
 pub(crate) enum Open {
@@ -48,23 +46,21 @@ impl Open {
         self,
         rt: &R,
         db: &Db,
-        command: &Command,
+        command: &TransactionCommand,
     ) -> (Open, Result<Reply, AllocError>)
         requires own { IsOf db.now (caller_of self) }
         requires stands { Stands self }
-        requires bounds { BeginsOrEnds command.now }
         ensures turn { IfOk result.1 (λ r. LooksAndTurns command.now self result.0
             (reply_of (caller_of self).schema r)) }
         ensures caller { IsLater (caller_of self) (caller_of result.0) }
         ensures unmade { OnErr result.1 ((caller_of result.0).own ≡ (caller_of self).own) }
     {
         match command {
-            Command::Read => self.read(rt, db),
-            Command::Write => self.write(rt, db),
-            Command::End => told(self.end()),
-            Command::Commit => self.commit(rt, db),
-            Command::Abort => told(self.abort(db)),
-            _ => unreachable!(),
+            TransactionCommand::Read => self.read(rt, db),
+            TransactionCommand::Write => self.write(rt, db),
+            TransactionCommand::End => told(self.end()),
+            TransactionCommand::Commit => self.commit(rt, db),
+            TransactionCommand::Abort => told(self.abort(db)),
         }
     }
 
@@ -72,7 +68,7 @@ impl Open {
     pub(crate) fn read<R: Wait>(self, rt: &R, db: &Db) -> (Open, Result<Reply, AllocError>)
         requires own { IsOf db.now (caller_of self) }
         requires stands { Stands self }
-        ensures turn { IfOk result.1 (λ r. LooksAndTurns command.Read self result.0
+        ensures turn { IfOk result.1 (λ r. LooksAndTurns transaction_line.Read self result.0
             (reply_of (caller_of self).schema r)) }
         ensures caller { IsLater (caller_of self) (caller_of result.0) }
         ensures unmade { OnErr result.1 ((caller_of result.0).own ≡ (caller_of self).own) }
@@ -93,7 +89,7 @@ impl Open {
     pub(crate) fn write<R: Wait>(self, rt: &R, db: &Db) -> (Open, Result<Reply, AllocError>)
         requires own { IsOf db.now (caller_of self) }
         requires stands { Stands self }
-        ensures turn { IfOk result.1 (λ r. LooksAndTurns command.Write self result.0
+        ensures turn { IfOk result.1 (λ r. LooksAndTurns transaction_line.Write self result.0
             (reply_of (caller_of self).schema r)) }
         ensures caller { IsLater (caller_of self) (caller_of result.0) }
         ensures unmade { OnErr result.1 ((caller_of result.0).own ≡ (caller_of self).own) }
@@ -164,7 +160,7 @@ impl Open {
     /// Ends the read transaction.
     pub(crate) fn end(self) -> (Open, Reply)
         requires stands { Stands self }
-        ensures turn { TurnsTo command.End self result.0
+        ensures turn { TurnsTo (commands.Transaction transaction_line.End) self result.0
             (reply_of (caller_of self).schema result.1) }
         ensures caller { caller_of result.0 ≡ caller_of self }
     {
@@ -179,7 +175,8 @@ impl Open {
     pub(crate) fn commit<R: Wait>(self, rt: &R, db: &Db) -> (Open, Result<Reply, AllocError>)
         requires own { IsOf db.now (caller_of self) }
         requires stands { Stands self }
-        ensures turn { IfOk result.1 (λ r. TurnsTo command.Commit self result.0
+        ensures turn { IfOk result.1 (λ r. TurnsTo
+            (commands.Transaction transaction_line.Commit) self result.0
             (reply_of (caller_of self).schema r)) }
         ensures caller { IsLater (caller_of self) (caller_of result.0) }
         ensures unmade { OnErr result.1 ((caller_of result.0).own ≡ (caller_of self).own) }
@@ -201,7 +198,7 @@ impl Open {
     pub(crate) fn abort(self, db: &Db) -> (Open, Reply)
         requires own { IsOf db.now (caller_of self) }
         requires stands { Stands self }
-        ensures turn { TurnsTo command.Abort self result.0
+        ensures turn { TurnsTo (commands.Transaction transaction_line.Abort) self result.0
             (reply_of (caller_of self).schema result.1) }
         ensures caller { caller_of result.0 ≡ caller_of self }
     {

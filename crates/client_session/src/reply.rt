@@ -1,9 +1,11 @@
 //! The answers to the lines of a script.
-ghost use Rattle.std.specs.Prelude.{◌≡◌, ◌++◌, OnErr, OnOk, length, decimal, codes, take};
+ghost use Rattle.std.specs.Prelude.{◌≡◌, ◌++◌, ◌∷◌, OnErr, OnOk, length, decimal, codes, map};
+ghost use Rattle.std.specs.Prelude.{option_copied, slice_get, take};
 ghost use Rattle.mdb_datum.specs.Written.{row_text};
 ghost use Rattle.mem_txn.specs.Transactions.{deferred_items};
-ghost use Rattle.client_script.specs.Reply.{answer_text, did_lines, line_text, reply_text};
-ghost use Rattle.client_script.specs.Reply.{further, row_lines};
+ghost use Rattle.client_script.specs.Reply.{answer_text, change_text, changed_lines, did_lines};
+ghost use Rattle.client_script.specs.Reply.{further, line_text, reply_text, row_lines, row_or_none};
+ghost use Rattle.client_script.specs.Turn.{changed_row, name_of};
 ghost use Rattle.mdb_schema.specs.Schema.{DbSchema};
 ghost use Rattle.client_session.specs.inner.Looked.{IsLooked};
 ghost use Rattle.client_session.specs.inner.ReplyOf.{reply_of, IsNumbered, IsWord};
@@ -13,7 +15,7 @@ use crate::asked::write_asked;
 use crate::rule::Rule;
 use mdb_datum::{Row, Text};
 use mdb_schema::{Answer, Query, Rows, Schema};
-use mem_txn::{DeferredList, ReadTxn, Receipt};
+use mem_txn::{Change, ChangeList, DeferredList, ReadTxn, Receipt};
 use std::alloc::AllocError;
 
 /// The answer to one line.
@@ -24,7 +26,7 @@ pub(crate) enum Reply {
     /// A write transaction stands on the commit of this number.
     WriteAt(u64),
     Ended,
-    /// A new commit, and the deferred texts.
+    /// A new commit, what it changed, and the deferred texts.
     Committed(Receipt<Text>),
     Aborted,
     Inserted,
@@ -106,7 +108,7 @@ impl Reply {
             | Reply::Sized(_)
             | Reply::StoppedAt(_) => self.write_numbered(out),
             Reply::WokenBy(name, number) => write_woken(name, *number, out),
-            Reply::Committed(receipt) => write_commit(receipt, out),
+            Reply::Committed(receipt) => write_commit(receipt, schema, out),
             Reply::Answered(answer) => write_rows(answer, out),
             Reply::Asked(txn, query) => write_asked(txn, query, out),
             Reply::Refused(rule) => write_refused(*rule, schema, out),
@@ -223,14 +225,73 @@ fn write_refused(rule: Rule, schema: &Schema, out: &mut Vec<u8>) -> Result<(), A
     rule.write(schema, out)
 }
 
-/// Adds a commit's number, and a line for each deferred text.
-fn write_commit(receipt: &Receipt<Text>, out: &mut Vec<u8>) -> Result<(), AllocError>
+/// Adds a commit's number, a line for each change, and a line for each deferred text.
+fn write_commit(
+    receipt: &Receipt<Text>,
+    schema: &Schema,
+    out: &mut Vec<u8>,
+) -> Result<(), AllocError>
     ensures text { OnOk result (out.new.items ≡ out.old.items ++ (codes "commit @"
-        ++ (decimal receipt.now.number ++ did_lines (deferred_items receipt.now.items)))) }
+        ++ (decimal receipt.now.number
+        ++ (changed_lines (map (changed_row schema.now) receipt.now.changes)
+        ++ did_lines (deferred_items receipt.now.items))))) }
     ensures before { take (length out.old.items) out.new.items ≡ out.old.items }
 {
     write_at(b"commit @", receipt.number, out)?;
+    write_changes(&receipt.changes, schema, out)?;
     write_deferred(&receipt.items, out)
+}
+
+/// Adds a line for each change.
+fn write_changes(changes: &ChangeList, schema: &Schema, out: &mut Vec<u8>) -> Result<(), AllocError>
+    ensures text { OnOk result (out.new.items ≡ out.old.items
+        ++ changed_lines (map (changed_row schema.now) changes.now)) }
+    ensures before { take (length out.old.items) out.new.items ≡ out.old.items }
+{
+    for at in 0..changes.len() {
+        let Some(change) = changes.get(at) else {
+            unreachable!();
+        };
+        write_change(change, schema, out)?;
+    }
+    Ok(())
+}
+
+/// Adds a line for a change.
+fn write_change(change: &Change, schema: &Schema, out: &mut Vec<u8>) -> Result<(), AllocError>
+    ensures text { OnOk result (out.new.items ≡ out.old.items
+        ++ further (change_text (changed_row schema.now change.now))) }
+    ensures before { take (length out.old.items) out.new.items ≡ out.old.items }
+{
+    out.extend_from_slice(b"\n  changed ")?;
+    write_table_name(schema, change.table() as usize, out)?;
+    write_row_or_none(change.before(), out)?;
+    write_row_or_none(change.after(), out)
+}
+
+/// Adds the name of the table at a place in the schema.
+fn write_table_name(schema: &Schema, table: usize, out: &mut Vec<u8>) -> Result<(), AllocError>
+    ensures text { OnOk result
+        (out.new.items ≡ out.old.items ++ name_of (slice_get schema.now table)) }
+    ensures before { take (length out.old.items) out.new.items ≡ out.old.items }
+{
+    match schema.table(table) {
+        Some(def) => out.extend_from_slice(def.name().as_str().as_bytes()),
+        None => Ok(()),
+    }
+}
+
+/// Adds a blank and a row, or that there is none.
+fn write_row_or_none(row: Option<&Row>, out: &mut Vec<u8>) -> Result<(), AllocError>
+    ensures text { OnOk result
+        (out.new.items ≡ out.old.items ++ 32 ∷ row_or_none (option_copied row.entry)) }
+    ensures before { take (length out.old.items) out.new.items ≡ out.old.items }
+{
+    out.push(b' ')?;
+    match row {
+        Some(row) => row.append_doc(out),
+        None => out.extend_from_slice(b"none"),
+    }
 }
 
 /// Adds a line for each deferred text.

@@ -1,6 +1,8 @@
 //! The requests to the open transaction that leave it open.
 ghost use Rattle.std.specs.Prelude.{◌≡◌, IfOk};
-ghost use Rattle.client_script.specs.declared.command.Command.TheVariants as command;
+ghost use Rattle.client_script.specs.declared.command.AskCommand.TheVariants as ask_line;
+ghost use Rattle.client_script.specs.declared.command.Command.TheVariants as commands;
+ghost use Rattle.client_script.specs.declared.command.WriteCommand.TheVariants as write_line;
 ghost use Rattle.client_session.specs.inner.DeskView.{Presents};
 ghost use Rattle.client_session.specs.inner.OpenView.{caller_of, transaction_of, IsOpen, Stands};
 ghost use Rattle.client_session.specs.inner.OpenView.{TurnsTo};
@@ -11,6 +13,7 @@ use crate::open::Open;
 use crate::refusal::{refused, txn_question_rule, wipe_rule, write_rule};
 use crate::reply::Reply;
 use crate::rule::Rule;
+use client_script::WriteCommand;
 use mdb_datum::{Row, Text};
 use mdb_schema::{Query, Schema};
 use mem_txn::SnapError;
@@ -21,7 +24,8 @@ impl Open {
     /// written: the reply owns the transaction's state till then.
     pub(crate) fn ask(&mut self, query: &Query) -> Result<Reply, AllocError>
         requires stands { Stands self.old }
-        ensures turn { IfOk result (λ r. TurnsTo (command.Question query.now) self.old self.new
+        ensures turn { IfOk result (λ r. TurnsTo
+            (commands.Ask (ask_line.Question query.now)) self.old self.new
             (reply_of (caller_of self.old).schema r)) }
         ensures caller { caller_of self.new ≡ caller_of self.old }
     {
@@ -61,17 +65,33 @@ impl Open {
         }
     }
 
-    /// Puts a row.
-    pub(crate) fn insert(
+    /// Carries out a command that writes rows.
+    pub(crate) fn write_rows(
         &mut self,
         schema: &Schema,
-        table: &Text,
-        row: &Row,
+        command: &WriteCommand,
     ) -> Result<Reply, AllocError>
         requires stands { Stands self.old }
         requires schema { schema.now ≡ (caller_of self.old).schema }
-        ensures turn { IfOk result (λ r. TurnsTo (command.Insert table.now row.now) self.old
-            self.new (reply_of schema.now r)) }
+        ensures turn { IfOk result (λ r. TurnsTo (commands.Write command.now) self.old self.new
+            (reply_of schema.now r)) }
+        ensures caller { caller_of self.new ≡ caller_of self.old }
+    {
+        match command {
+            WriteCommand::Insert { table, row } => self.insert(schema, table, row),
+            WriteCommand::Delete { table, row } => self.delete(schema, table, row),
+            WriteCommand::DeleteAll { query } => self.delete_all(query),
+            WriteCommand::DeletePrefix { query } => self.delete_prefix(query),
+        }
+    }
+
+    /// Puts a row.
+    fn insert(&mut self, schema: &Schema, table: &Text, row: &Row) -> Result<Reply, AllocError>
+        requires stands { Stands self.old }
+        requires schema { schema.now ≡ (caller_of self.old).schema }
+        ensures turn { IfOk result (λ r. TurnsTo
+            (commands.Write (write_line.Insert table.now row.now)) self.old self.new
+            (reply_of schema.now r)) }
         ensures caller { caller_of self.new ≡ caller_of self.old }
     {
         match self {
@@ -86,16 +106,12 @@ impl Open {
     }
 
     /// Takes the row of another's `id` key out.
-    pub(crate) fn delete(
-        &mut self,
-        schema: &Schema,
-        table: &Text,
-        row: &Row,
-    ) -> Result<Reply, AllocError>
+    fn delete(&mut self, schema: &Schema, table: &Text, row: &Row) -> Result<Reply, AllocError>
         requires stands { Stands self.old }
         requires schema { schema.now ≡ (caller_of self.old).schema }
-        ensures turn { IfOk result (λ r. TurnsTo (command.Delete table.now row.now) self.old
-            self.new (reply_of schema.now r)) }
+        ensures turn { IfOk result (λ r. TurnsTo
+            (commands.Write (write_line.Delete table.now row.now)) self.old self.new
+            (reply_of schema.now r)) }
         ensures caller { caller_of self.new ≡ caller_of self.old }
     {
         match self {
@@ -109,9 +125,10 @@ impl Open {
     }
 
     /// Takes out the rows that Get lists.
-    pub(crate) fn delete_all(&mut self, query: &Query) -> Result<Reply, AllocError>
+    fn delete_all(&mut self, query: &Query) -> Result<Reply, AllocError>
         requires stands { Stands self.old }
-        ensures turn { IfOk result (λ r. TurnsTo (command.DeleteAll query.now) self.old self.new
+        ensures turn { IfOk result (λ r. TurnsTo
+            (commands.Write (write_line.DeleteAll query.now)) self.old self.new
             (reply_of (caller_of self.old).schema r)) }
         ensures caller { caller_of self.new ≡ caller_of self.old }
     {
@@ -126,9 +143,10 @@ impl Open {
     }
 
     /// The same by an index's name with `_prefix`.
-    pub(crate) fn delete_prefix(&mut self, query: &Query) -> Result<Reply, AllocError>
+    fn delete_prefix(&mut self, query: &Query) -> Result<Reply, AllocError>
         requires stands { Stands self.old }
-        ensures turn { IfOk result (λ r. TurnsTo (command.DeletePrefix query.now) self.old self.new
+        ensures turn { IfOk result (λ r. TurnsTo
+            (commands.Write (write_line.DeletePrefix query.now)) self.old self.new
             (reply_of (caller_of self.old).schema r)) }
         ensures caller { caller_of self.new ≡ caller_of self.old }
     {
@@ -145,7 +163,7 @@ impl Open {
     /// Keeps a text for the commit to hand out.
     pub(crate) fn defer(&mut self, alloc: Global, text: &Text) -> Result<Reply, AllocError>
         requires stands { Stands self.old }
-        ensures turn { IfOk result (λ r. TurnsTo (command.Defer text.now) self.old self.new
+        ensures turn { IfOk result (λ r. TurnsTo (commands.Defer text.now) self.old self.new
             (reply_of (caller_of self.old).schema r)) }
         ensures caller { caller_of self.new ≡ caller_of self.old }
     {

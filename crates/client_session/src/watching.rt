@@ -5,7 +5,8 @@ ghost use Rattle.std.specs.BTreeMap.{get_by_text};
 ghost use Rattle.std.specs.Str.{bytes_eq};
 ghost use Rattle.mdb_datum.specs.Bytes.{Bytes};
 ghost use Rattle.client_script.specs.Client.{Client, Sight, nothing_watched};
-ghost use Rattle.client_script.specs.declared.command.Command.TheVariants as command;
+ghost use Rattle.client_script.specs.Turn.{outcome, size_turn};
+ghost use Rattle.client_script.specs.declared.command.WatchesCommand.TheVariants as watches_line;
 ghost use Rattle.client_session.specs.inner.ReplyOf.{reply_of};
 ghost use Rattle.client_session.specs.inner.SetsKept.{IsThere, PutsBack, RepliesOnce, RepliesWoken};
 ghost use Rattle.client_session.specs.inner.SetsKept.{awaited_in, look_reply, members_in};
@@ -102,7 +103,7 @@ impl Watching {
     ) -> Result<Reply, AllocError>
         ensures { IfOk result (λ r. (p : Caller) (now : ℕ) (v : Client) → IdsTellCells p
             → Knows p self.old v.watching → Holds p self.old
-            → WatchTold p now self.new v (command.Add set.now name.now) (reply_of p.schema r)) }
+            → WatchTold p now self.new v (watches_line.Add set.now name.now) (reply_of p.schema r)) }
     {
         let Some(held) = self.watches.get(name) else {
             return Ok(Reply::Refused(Rule::UnknownName));
@@ -124,8 +125,8 @@ impl Watching {
     ) -> Result<Reply, AllocError>
         ensures { IfOk result (λ r. (p : Caller) (now : ℕ) (v : Client) → IdsTellCells p
             → Knows p self.old v.watching → Holds p self.old
-            → WatchTold p now self.new v (command.AddLimit set.now limit name.now other.now)
-            (reply_of p.schema r)) }
+            → WatchTold p now self.new v
+            (watches_line.AddLimit set.now limit name.now other.now) (reply_of p.schema r)) }
     {
         let (Some(held), Some(alternative)) = (self.watches.get(name), self.watches.get(other))
         else {
@@ -138,9 +139,8 @@ impl Watching {
 
     /// How many members the set of a name has.
     pub(crate) fn size(&self, set: &Text) -> Reply
-        ensures { (p : Caller) (now : ℕ) (v : Client) → Knows p self.now v.watching
-            → Holds p self.now
-            → WatchTold p now self.now v (command.Size set.now) (reply_of p.schema result) }
+        ensures { (p : Caller) (v : Client) → Knows p self.now v.watching
+            → outcome v (size_turn v set.now) ≡ (reply_of p.schema result, v) }
     {
         match self.sets.get(set) {
             Some(members) => Reply::Sized(members.len()),
@@ -158,7 +158,7 @@ impl Watching {
     ) -> Result<Reply, AllocError>
         requires own { IsOf db.now pass.old }
         requires holds { Holds pass.old self.now }
-        ensures told { IfOk result (λ r. TellsLook self.now (command.Check name.now)
+        ensures told { IfOk result (λ r. TellsLook self.now (watches_line.Check name.now)
             pass.old pass.new (reply_of pass.old.schema r)) }
         ensures looked { HasLookedOn pass.old pass.new }
     {

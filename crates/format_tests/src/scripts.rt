@@ -1,6 +1,9 @@
 //! What is read and what is refused, worked from the format of client files.
 
-use client_script::{Command, Line, Script, ScriptError, read_script};
+use client_script::{
+    AskCommand, Command, Line, NameCommand, Script, ScriptError, TransactionCommand,
+    WatchesCommand, WriteCommand, read_script,
+};
 use mdb_datum::{Row, Text};
 use mdb_schema::{Ask, Query};
 use std::alloc::{AllocError, Global};
@@ -106,51 +109,66 @@ fn limited(
 /// A command, with the names that it holds and the number of its arguments.
 fn command_text(alloc: Global, command: &Command) -> Result<String, AllocError> {
     match command {
-        Command::Read => String::from_str(alloc, "read"),
-        Command::Write => String::from_str(alloc, "write"),
-        Command::End => String::from_str(alloc, "end"),
-        Command::Commit => String::from_str(alloc, "commit"),
-        Command::Abort => String::from_str(alloc, "abort"),
+        Command::Transaction(command) => String::from_str(alloc, transaction_word(command)),
+        Command::Write(command) => write_command(alloc, command),
         Command::Defer { text } => one(alloc, "defer", text),
-        Command::Snapshot { name } => one(alloc, "snapshot", name),
-        command => rows_text(alloc, command),
+        Command::Ask(command) => ask_command(alloc, command),
+        Command::Name(command) => name_command(alloc, command),
+        Command::Size { set } => one(alloc, "size", set),
+        Command::Watches(command) => watches_command(alloc, command),
     }
 }
 
-/// A command of rows; any other is one of watches.
-fn rows_text(alloc: Global, command: &Command) -> Result<String, AllocError> {
+fn transaction_word(command: &TransactionCommand) -> &'static str {
     match command {
-        Command::Insert { table, row } => of_row(alloc, "insert", table, row),
-        Command::Delete { table, row } => of_row(alloc, "delete", table, row),
-        Command::DeleteAll { query } => asked(alloc, "delete-all", query),
-        Command::DeletePrefix { query } => asked(alloc, "delete-prefix", query),
-        Command::Question { query } => query_text(alloc, query),
-        Command::InSnapshot { name, query } => named(alloc, "in", name, query),
-        command => watches_text(alloc, command),
+        TransactionCommand::Read => "read",
+        TransactionCommand::Write => "write",
+        TransactionCommand::End => "end",
+        TransactionCommand::Commit => "commit",
+        TransactionCommand::Abort => "abort",
     }
 }
 
-/// A command of watches; any other has no text.
-fn watches_text(alloc: Global, command: &Command) -> Result<String, AllocError> {
+fn write_command(alloc: Global, command: &WriteCommand) -> Result<String, AllocError> {
     match command {
-        Command::Watch { name, query } => named(alloc, "watch", name, query),
-        Command::WatchIn {
+        WriteCommand::Insert { table, row } => of_row(alloc, "insert", table, row),
+        WriteCommand::Delete { table, row } => of_row(alloc, "delete", table, row),
+        WriteCommand::DeleteAll { query } => asked(alloc, "delete-all", query),
+        WriteCommand::DeletePrefix { query } => asked(alloc, "delete-prefix", query),
+    }
+}
+
+fn ask_command(alloc: Global, command: &AskCommand) -> Result<String, AllocError> {
+    match command {
+        AskCommand::Question { query } => query_text(alloc, query),
+        AskCommand::InSnapshot { name, query } => named(alloc, "in", name, query),
+    }
+}
+
+fn name_command(alloc: Global, command: &NameCommand) -> Result<String, AllocError> {
+    match command {
+        NameCommand::Snapshot { name } => one(alloc, "snapshot", name),
+        NameCommand::Watch { name, query } => named(alloc, "watch", name, query),
+        NameCommand::WatchIn {
             name,
             snapshot,
             query,
         } => watched(alloc, name, snapshot, query),
-        Command::Check { name } => one(alloc, "check", name),
-        Command::Add { set, name } => two(alloc, "add", set, name),
-        Command::AddLimit {
+    }
+}
+
+fn watches_command(alloc: Global, command: &WatchesCommand) -> Result<String, AllocError> {
+    match command {
+        WatchesCommand::Check { name } => one(alloc, "check", name),
+        WatchesCommand::Add { set, name } => two(alloc, "add", set, name),
+        WatchesCommand::AddLimit {
             set,
             limit,
             name,
             other,
         } => limited(alloc, set, *limit, name, other),
-        Command::Size { set } => one(alloc, "size", set),
-        Command::Wait { set } => one(alloc, "wait", set),
-        Command::WaitUntil { set, until } => two(alloc, "wait-until", set, until),
-        _ => Ok(String::new(alloc)),
+        WatchesCommand::Wait { set } => one(alloc, "wait", set),
+        WatchesCommand::WaitUntil { set, until } => two(alloc, "wait-until", set, until),
     }
 }
 

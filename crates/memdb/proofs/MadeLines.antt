@@ -14,8 +14,11 @@ use Rattle.client_script.specs.Lines.{is_blank, after_blanks, without_return, tr
 use Rattle.client_script.specs.Parts.{object_in, scalars_in}
 use Rattle.client_script.specs.Refusal.{ScriptRefusal, bad_doc}
 use Rattle.client_script.specs.Script.{at_line, text_in, line_in}
+use Rattle.client_script.specs.declared.command.AskCommand.TheVariants as ask_line
 use Rattle.client_script.specs.declared.command.Command.{Command}
 use Rattle.client_script.specs.declared.command.Command.TheVariants as command
+use Rattle.client_script.specs.declared.command.TransactionCommand.TheVariants as transaction_line
+use Rattle.client_script.specs.declared.command.WriteCommand.TheVariants as write_line
 use Rattle.client_script.specs.declared.line.Line.{Line}
 use Rattle.memdb.specs.Made.{Item}
 use Rattle.memdb.specs.inner.MadeInputs.{row_of, first_of}
@@ -29,16 +32,16 @@ use Rattle.memdb.proofs.PlainTexts.{insert_plain, first_plain}
 abbrev pub one : ℕ → Command → Result (List Line) ScriptRefusal
 one n c = Ok (record { number = n; command = c } ∷ [])
 
-pub word_write : (n : ℕ) → line_in n (codes "write") ≡ one n command.Write
+pub word_write : (n : ℕ) → line_in n (codes "write") ≡ one n (command.Transaction transaction_line.Write)
 word_write n = refl
 
-pub word_commit : (n : ℕ) → line_in n (codes "commit") ≡ one n command.Commit
+pub word_commit : (n : ℕ) → line_in n (codes "commit") ≡ one n (command.Transaction transaction_line.Commit)
 word_commit n = refl
 
-pub word_read : (n : ℕ) → line_in n (codes "read") ≡ one n command.Read
+pub word_read : (n : ℕ) → line_in n (codes "read") ≡ one n (command.Transaction transaction_line.Read)
 word_read n = refl
 
-pub word_end : (n : ℕ) → line_in n (codes "end") ≡ one n command.End
+pub word_end : (n : ℕ) → line_in n (codes "end") ≡ one n (command.Transaction transaction_line.End)
 word_end n = refl
 
 -- ---- a line without blanks and a return at its ends
@@ -62,9 +65,9 @@ kept_whole a z mid dark_a dark_z no_return =
 -- ---- the line that writes a row
 
 -- its command, where nothing is cut off
-insert_command : (x : Item) → IsMade x → command_in (insert_text x) ≡ Ok (command.Insert (codes "items") (row_of x))
+insert_command : (x : Item) → IsMade x → command_in (insert_text x) ≡ Ok (command.Write (write_line.Insert (codes "items") (row_of x)))
 insert_command x h =
-    ap (λ (r : Reading). needed bad_doc (object_in r) >>= (λ row. Ok (command.Insert (codes "items") row)))
+    ap (λ (r : Reading). needed bad_doc (object_in r) >>= (λ row. Ok (command.Write (write_line.Insert (codes "items") row))))
     (reading-compact (object (field_list (row_of x))) (row_canonical x h))
 
 -- its first byte and its last
@@ -83,15 +86,15 @@ insert_kept x h =
     (kept_whole 105 125 (codes "nsert items {\"age\":" ++ (decimal x.age ++ (codes ",\"name\":\"" ++ (x.name ++ codes "\"")))) refl refl (λ e. omega (arith, e)))
 
 -- what the line is read as
-pub insert_read : (n : ℕ) (x : Item) → IsMade x → line_in n (insert_text x) ≡ one n (command.Insert (codes "items") (row_of x))
+pub insert_read : (n : ℕ) (x : Item) → IsMade x → line_in n (insert_text x) ≡ one n (command.Write (write_line.Insert (codes "items") (row_of x)))
 insert_read n x h = ap (text_in n) (insert_kept x h) ∙ ap (at_line n) (insert_command x h)
 
 -- ---- the line that asks for it
 
 -- its command, where nothing is cut off
-first_command : (x : Item) → IsMade x → command_in (first_text x) ≡ Ok (command.Question (first_of x))
+first_command : (x : Item) → IsMade x → command_in (first_text x) ≡ Ok (command.Ask (ask_line.Question (first_of x)))
 first_command x h =
-    ap (λ (r : Reading). (needed bad_doc (scalars_in r) >>= (λ args. Ok (record { ask = First; table = codes "items"; index = codes "id"; args = args }))) >>= (λ query. Ok (command.Question query)))
+    ap (λ (r : Reading). (needed bad_doc (scalars_in r) >>= (λ args. Ok (record { ask = First; table = codes "items"; index = codes "id"; args = args }))) >>= (λ query. Ok (command.Ask (ask_line.Question query))))
     (reading-compact (list (doc_list (text x.name ∷ []))) (name_canonical x h))
 
 -- its first byte and its last
@@ -108,5 +111,5 @@ first_kept x h =
     (kept_whole 102 93 (codes "irst items id [\"" ++ (x.name ++ codes "\"")) refl refl (λ e. omega (arith, e)))
 
 -- what the line is read as
-pub first_read : (n : ℕ) (x : Item) → IsMade x → line_in n (first_text x) ≡ one n (command.Question (first_of x))
+pub first_read : (n : ℕ) (x : Item) → IsMade x → line_in n (first_text x) ≡ one n (command.Ask (ask_line.Question (first_of x)))
 first_read n x h = ap (text_in n) (first_kept x h) ∙ ap (at_line n) (first_command x h)

@@ -1,5 +1,5 @@
 -- What the text of a client is read as.
-use Rattle.std.proofs.Common.{arith, ◌≡◌, refl, ap, ◌∙◌, ℕ, ◌+◌, ◌-◌, ◌*◌, ◌≤◌, List, [], ◌∷◌, ◌++◌, length, true, decimal, length-append}
+use Rattle.std.proofs.Common.{arith, ◌≡◌, refl, ap, ◌∙◌, ℕ, ◌+◌, ◌*◌, ◌≤◌, List, [], ◌∷◌, ◌++◌, length, true, decimal, length-append}
 use Rattle.std.specs.Prelude.{codes, nat_le, Ok}
 use Rattle.std.specs.List.{list_all}
 use Rattle.std.proofs.lemmas.Bool.Decides.{nat_tests}
@@ -9,8 +9,11 @@ use Rattle.client_script.proofs.LineSplits.{lines_in-read}
 use Rattle.client_script.proofs.ScriptAnswered.{script_lines}
 use Rattle.client_script.specs.Script.{line_limit, line_in, lines_in, script_in}
 use Rattle.client_script.specs.inner.FirstLine.{put_before}
+use Rattle.client_script.specs.declared.command.AskCommand.TheVariants as ask_line
 use Rattle.client_script.specs.declared.command.Command.{Command}
 use Rattle.client_script.specs.declared.command.Command.TheVariants as command
+use Rattle.client_script.specs.declared.command.TransactionCommand.TheVariants as transaction_line
+use Rattle.client_script.specs.declared.command.WriteCommand.TheVariants as write_line
 use Rattle.client_script.specs.declared.line.Line.{Line}
 use Rattle.memdb.specs.Made.{Item}
 use Rattle.memdb.specs.inner.MadeInputs.{row_of, first_of, round_lines, rounds_behind}
@@ -75,14 +78,14 @@ round_read at x ls rest h others =
     let reading : List Bytes = codes "read" ∷ asking in
     let committing : List Bytes = codes "commit" ∷ reading in
     let inserting : List Bytes = insert_text x ∷ committing in
-    let insert = command.Insert (codes "items") (row_of x) in
-    let question = command.Question (first_of x) in
-    let six = read_line (at + 6) (at + 6 + 1) (codes "end") ls command.End rest refl (word_end (at + 6)) others in
+    let insert = command.Write (write_line.Insert (codes "items") (row_of x)) in
+    let question = command.Ask (ask_line.Question (first_of x)) in
+    let six = read_line (at + 6) (at + 6 + 1) (codes "end") ls (command.Transaction transaction_line.End) rest refl (word_end (at + 6)) others in
     let five = read_line (at + 5) (at + 6) (first_text x) last question _ (omega arith) (first_read (at + 5) x h) six in
-    let four = read_line (at + 4) (at + 5) (codes "read") asking command.Read _ (omega arith) (word_read (at + 4)) five in
-    let three = read_line (at + 3) (at + 4) (codes "commit") reading command.Commit _ (omega arith) (word_commit (at + 3)) four in
+    let four = read_line (at + 4) (at + 5) (codes "read") asking (command.Transaction transaction_line.Read) _ (omega arith) (word_read (at + 4)) five in
+    let three = read_line (at + 3) (at + 4) (codes "commit") reading (command.Transaction transaction_line.Commit) _ (omega arith) (word_commit (at + 3)) four in
     let two = read_line (at + 2) (at + 3) (insert_text x) committing insert _ (omega arith) (insert_read (at + 2) x h) three in
-    read_line (at + 1) (at + 2) (codes "write") inserting command.Write _ (omega arith) (word_write (at + 1)) two
+    read_line (at + 1) (at + 2) (codes "write") inserting (command.Transaction transaction_line.Write) _ (omega arith) (word_write (at + 1)) two
 
 -- all rounds
 rounds_read : (at : ℕ) (xs : List Item) → AreMade xs → lines_in (at + 1) (rounds_text xs) ≡ Ok (rounds_behind at xs)

@@ -1,8 +1,8 @@
 -- Each round of a made client commits its row: where no transaction is open, its six lines tell one
 -- commit, of this row, and leave no transaction open.
-use Rattle.std.proofs.Common.{arith, ◌≡◌, refl, ap, subst, sym, ◌∙◌, ℕ, ◌+◌, ◌-◌, ◌^◌, ◌<◌, ◌≤◌, List, [], ◌∷◌, ◌++◌, length, map, take, Bool, false, Option, Some, Ok, Err, slice_get}
+use Rattle.std.proofs.Common.{arith, ◌≡◌, refl, ap, subst, sym, ◌∙◌, ℕ, ◌+◌, ◌-◌, ◌^◌, ◌<◌, ◌≤◌, List, [], ◌∷◌, ◌++◌, length, map, take, Bool, Option, Some, Ok, Err, slice_get}
 use Rattle.std.specs.Bool.{⊤}
-use Rattle.std.specs.Prelude.{codes, nat_lt, reverse}
+use Rattle.std.specs.Prelude.{codes, nat_lt}
 use Rattle.std.proofs.lemmas.Bool.{lt-ltb}
 use Rattle.mdb_datum.specs.Row.{Fields}
 use Rattle.mdb_schema.specs.Answer.{ask}
@@ -12,16 +12,18 @@ use Rattle.mdb_schema.specs.Schema.{DbSchema}
 use Rattle.mdb_schema.specs.State.{State}
 use Rattle.mdb_schema.specs.Tests.{◌>>=◌, passed}
 use Rattle.mdb_schema.specs.Write.{Write, Stepped, put, step}
-use Rattle.client_script.proofs.OneClient.{insert_prints, rows_told}
-use Rattle.client_script.proofs.SpentIds.{told_turn}
+use Rattle.client_script.proofs.OneClient.{insert_prints}
 use Rattle.client_script.specs.Client.{Sight, Writing, Transaction, closed, reading, writing, Client, state_seen, none_open, some_open, read_open, write_open, sight_of, Judged}
 use Rattle.client_script.specs.Legal.{number_printed, printed}
-use Rattle.client_script.specs.Reply.{Reply, read_at, write_at, ended, answered, committed}
+use Rattle.client_script.specs.Reply.{Reply, read_at, write_at, ended, answered}
 use Rattle.client_script.specs.Session.{Answers, IsEntry, Runs}
-use Rattle.client_script.specs.Spent.{is_write, IsFull, IsSpent, IsTold, by_turn, without_ids}
-use Rattle.client_script.specs.Turn.{Turn, turn, question_turn, outcome, stepped, asked, indexes_of, with_writes, with_transaction, without_transaction, after_commit, insert_reply, commit_limit, is_of_watches}
-use Rattle.client_script.specs.declared.command.Command.{Command}
+use Rattle.client_script.specs.Spent.{IsFull, IsSpent, IsWriteTold, by_turn, without_ids}
+use Rattle.client_script.specs.Turn.{Turn, after_commit, asked, commit_limit, commit_reply, indexes_of, insert_reply, outcome, question_turn, stepped, transaction_turn, with_transaction, with_writes, without_transaction, write_turn}
+use Rattle.client_script.specs.declared.command.AskCommand.TheVariants as ask_line
 use Rattle.client_script.specs.declared.command.Command.TheVariants as command
+use Rattle.client_script.specs.declared.command.TransactionCommand.TheVariants as transaction_line
+use Rattle.client_script.specs.declared.command.WriteCommand.{WriteCommand}
+use Rattle.client_script.specs.declared.command.WriteCommand.TheVariants as write_line
 use Rattle.client_session.specs.Answered.{commit_at}
 use Rattle.memdb.proofs.SmallHistory.{fewer_writes}
 use Rattle.memdb.specs.Made.{Item}
@@ -31,9 +33,9 @@ use Rattle.memdb.specs.inner.MadeInputs.{commit_of, first_of, rounds_behind, row
 abbrev item_put : Item → Write
 item_put x = put (codes "items") (row_of x)
 
--- the line that puts it
-abbrev item_insert : Item → Command
-item_insert x = command.Insert (codes "items") (row_of x)
+-- the command that puts it
+abbrev item_insert : Item → WriteCommand
+item_insert x = write_line.Insert (codes "items") (row_of x)
 
 -- a write transaction that has just begun
 abbrev begun : ℕ → Writing
@@ -67,17 +69,11 @@ leaves t p r next quiet open_then is = record {
 }
 
 module _ (schema : DbSchema) (H : History) (client : ℕ) where
-  -- ---- the lines that write no rows
-
-  -- they are told their turns
-  its_turn : (v next : Client) (c : Command) (r : Reply) → is_of_watches c ≡ false → is_write c ≡ false
-      → (a : Answers schema H client v c r next) → outcome v (turn schema H a.now v c) ≡ (r, next)
-  its_turn v next c r known other a =
-      told_turn schema H a.now v c r next other (rows_told schema H client a.now v c r next known a.says)
+  -- ---- the lines that begin and end transactions
 
   -- where no transaction is open and commits are left, `write` begins one
   begins_write : (now : ℕ) (v : Client) → now < commit_limit → v.transaction ≡ closed
-      → outcome v (turn schema H now v command.Write)
+      → outcome v (transaction_turn schema H now v transaction_line.Write)
       ≡ (write_at now, with_transaction now (writing (begun now)) v)
   begins_write now v few none =
       ap (λ (t : Transaction). outcome v (none_open t >>= (λ free. of (nat_lt now commit_limit)))) none
@@ -88,19 +84,18 @@ module _ (schema : DbSchema) (H : History) (client : ℕ) where
           >>= (λ few. Ok (write_at now, with_transaction now (writing (begun now)) v))
 
   -- so the line does
-  write_line : (v next : Client) (r : Reply) → length H < commit_limit → v.transaction ≡ closed
-      → Answers schema H client v command.Write r next → (m : ℕ) × Leaves (writing (begun m)) r next
-  write_line v next r few none a =
+  by_write : (v next : Client) (r : Reply) → length H < commit_limit → v.transaction ≡ closed
+      → Answers schema H client v (command.Transaction transaction_line.Write) r next → (m : ℕ) × Leaves (writing (begun m)) r next
+  by_write v next r few none a =
       let begins = begins_write a.now v (let there = a.there in omega arith) none in
-      let told = its_turn v next command.Write r refl refl a in
-      (a.now, leaves (writing (begun a.now)) _ r next refl refl (sym begins ∙ told))
+      (a.now, leaves (writing (begun a.now)) _ r next refl refl (sym begins ∙ a.says))
 
   -- `commit` tells the number of the entry that it is
-  commit_line : (v next : Client) (r : Reply) (t : Writing) → v.transaction ≡ writing t
-      → Answers schema H client v command.Commit r next
+  by_commit : (v next : Client) (r : Reply) (t : Writing) → v.transaction ≡ writing t
+      → Answers schema H client v (command.Transaction transaction_line.Commit) r next
       → (number_printed r ≡ (t.number + 1) ∷ []) × (next.transaction ≡ closed)
       × (slice_get H t.number ≡ Some (record { caller = client; writes = t.writes }))
-  commit_line v next r t is a = (
+  by_commit v next r t is a = (
     sym (ap (λ (p : Reply × Client). number_printed p.0) tells),
     sym (ap (λ (p : Reply × Client). p.1.transaction) tells),
     subst (λ (x : Reply). IsEntry H client (writing t) x) (sym (ap (λ (p : Reply × Client). p.0) tells))
@@ -108,30 +103,28 @@ module _ (schema : DbSchema) (H : History) (client : ℕ) where
   )
     where
       of : Transaction → Turn
-      of o = write_open o >>= (λ x. Ok (committed (x.number + 1) (reverse x.texts), after_commit x v))
+      of o = write_open o >>= (λ x. Ok (commit_reply schema H x, after_commit x v))
 
       tells : outcome v (of (writing t)) ≡ (r, next)
       tells =
-          sym (ap (λ (o : Transaction). outcome v (of o)) is) ∙ its_turn v next command.Commit r refl refl a
+          sym (ap (λ (o : Transaction). outcome v (of o)) is) ∙ a.says
 
   -- where no transaction is open, `read` begins one
-  read_line : (v next : Client) (r : Reply) → v.transaction ≡ closed
-      → Answers schema H client v command.Read r next → (m : ℕ) × Leaves (reading m) r next
-  read_line v next r none a =
+  by_read : (v next : Client) (r : Reply) → v.transaction ≡ closed
+      → Answers schema H client v (command.Transaction transaction_line.Read) r next → (m : ℕ) × Leaves (reading m) r next
+  by_read v next r none a =
       let begins = ap (λ (t : Transaction). outcome v (of t)) none in
-      let told = its_turn v next command.Read r refl refl a in
-      (a.now, leaves (reading a.now) (outcome v (of closed)) r next refl refl (sym begins ∙ told))
+      (a.now, leaves (reading a.now) (outcome v (of closed)) r next refl refl (sym begins ∙ a.says))
     where
       of : Transaction → Turn
       of t = none_open t >>= (λ free. Ok (read_at a.now, with_transaction a.now (reading a.now) v))
 
   -- `end` closes it
-  end_line : (v next : Client) (r : Reply) (m : ℕ) → v.transaction ≡ reading m
-      → Answers schema H client v command.End r next → Leaves closed r next
-  end_line v next r m is a =
+  by_end : (v next : Client) (r : Reply) (m : ℕ) → v.transaction ≡ reading m
+      → Answers schema H client v (command.Transaction transaction_line.End) r next → Leaves closed r next
+  by_end v next r m is a =
       let ends = ap (λ (t : Transaction). outcome v (of t)) is in
-      let told = its_turn v next command.End r refl refl a in
-      leaves closed (outcome v (of (reading m))) r next refl refl (sym ends ∙ told)
+      leaves closed (outcome v (of (reading m))) r next refl refl (sym ends ∙ a.says)
     where
       of : Transaction → Turn
       of t = read_open t >>= (λ n. Ok (ended, without_transaction v))
@@ -158,12 +151,11 @@ module _ (schema : DbSchema) (H : History) (client : ℕ) where
       record { quiet = refl; open_then = refl }))
 
   -- so the line doesn't
-  question_line : (v next : Client) (r : Reply) (q : Query)
-      → Answers schema H client v (command.Question q) r next → Leaves v.transaction r next
+  by_question : (v next : Client) (r : Reply) (q : Query)
+      → Answers schema H client v (command.Ask (ask_line.Question q)) r next → Leaves v.transaction r next
   unfolding Same
-  question_line v next r q a =
-      subst (Same v) (its_turn v next (command.Question q) r refl refl a)
-      (same_question v (some_open v.transaction) q)
+  by_question v next r q a =
+      subst (Same v) a.says (same_question v (some_open v.transaction) q)
 
   -- ---- an insert, in a transaction that has just begun
 
@@ -173,10 +165,10 @@ module _ (schema : DbSchema) (H : History) (client : ℕ) where
     inserted_as m v was = (insert_reply was, with_writes (item_put x ∷ []) (begun m) v)
 
     -- by its turn the row is put
-    insert_turn : (now m : ℕ) (v : Client) → v.transaction ≡ writing (begun m)
-        → (was : Option Fields) × (turn schema H now v (item_insert x) ≡ Ok (inserted_as m v was))
+    insert_turn : (m : ℕ) (v : Client) → v.transaction ≡ writing (begun m)
+        → (was : Option Fields) × (write_turn schema H v (item_insert x) ≡ Ok (inserted_as m v was))
     unfolding inserted_as
-    insert_turn now m v is = (
+    insert_turn m v is = (
       p.0.1,
       ap (λ (o : Transaction). write_open o >>= at) is ∙ ap (λ (s : Stepped). of (begun m) s) p.1,
     )
@@ -205,11 +197,11 @@ module _ (schema : DbSchema) (H : History) (client : ℕ) where
         of many fewer = omega (arith, small)
 
     -- so the line isn't told that there are too few ids
-    not_spent : (now m : ℕ) (v next : Client) (r : Reply) (was : Option Fields)
-        → turn schema H now v (item_insert x) ≡ Ok (inserted_as m v was)
-        → IsSpent schema H now v (item_insert x) r next → ⊥
+    not_spent : (m : ℕ) (v next : Client) (r : Reply) (was : Option Fields)
+        → write_turn schema H v (item_insert x) ≡ Ok (inserted_as m v was)
+        → IsSpent schema H v (item_insert x) r next → ⊥
     unfolding inserted_as
-    not_spent now m v next r was allowed s = not_full m s.opened opened s.full
+    not_spent m v next r was allowed s = not_full m s.opened opened s.full
       where
         after : outcome v (Ok (s.ruled, s.after)) ≡ inserted_as m v was
         after = ap (outcome v) (sym s.allowed ∙ allowed)
@@ -218,23 +210,21 @@ module _ (schema : DbSchema) (H : History) (client : ℕ) where
         opened = sym s.transaction ∙ ap (λ (p : Reply × Client). p.1.transaction) after
 
     -- whatever it is told, the row is put
-    insert_told : (now m : ℕ) (v next : Client) (r : Reply) → v.transaction ≡ writing (begun m)
-        → IsTold schema H now v (item_insert x) r next → Leaves (writing (with_item m x)) r next
+    insert_told : (m : ℕ) (v next : Client) (r : Reply) → v.transaction ≡ writing (begun m)
+        → IsWriteTold schema H v (item_insert x) r next → Leaves (writing (with_item m x)) r next
     unfolding inserted_as
-    insert_told now m v next r is (by_turn told) =
-        let allowed = insert_turn now m v is in
+    insert_told m v next r is (by_turn told) =
+        let allowed = insert_turn m v is in
         leaves (writing (with_item m x)) (inserted_as m v allowed.0) r next (insert_prints allowed.0) refl
         (sym (ap (outcome v) allowed.1) ∙ told)
-    insert_told now m v next r is (without_ids s) =
-        let allowed = insert_turn now m v is in
-        absurd (not_spent now m v next r allowed.0 allowed.1 s)
+    insert_told m v next r is (without_ids s) =
+        let allowed = insert_turn m v is in
+        absurd (not_spent m v next r allowed.0 allowed.1 s)
 
     -- so it is by the line
-    insert_line : (v next : Client) (r : Reply) (m : ℕ) → v.transaction ≡ writing (begun m)
-        → Answers schema H client v (item_insert x) r next → Leaves (writing (with_item m x)) r next
-    insert_line v next r m is a =
-        insert_told a.now m v next r is
-        (rows_told schema H client a.now v (item_insert x) r next refl a.says)
+    by_insert : (v next : Client) (r : Reply) (m : ℕ) → v.transaction ≡ writing (begun m)
+        → Answers schema H client v (command.Write (item_insert x)) r next → Leaves (writing (with_item m x)) r next
+    by_insert v next r m is a = insert_told m v next r is a.says
 
 -- ---- all rounds
 
@@ -271,12 +261,12 @@ module _ (schema : DbSchema) (H : History) (client : ℕ) where
         (v1, a1, (v2, a2, (v3, a3, (v4, a4, (v5, a5, runs))))) = absurd runs
     rounds_told at (x ∷ xs) (r1 ∷ r2 ∷ r3 ∷ r4 ∷ r5 ∷ r6 ∷ rs) v end puts none
         (v1, a1, (v2, a2, (v3, a3, (v4, a4, (v5, a5, (v6, a6, runs)))))) =
-        let w = write_line schema H client v v1 r1 few none a1 in
-        let i = insert_line schema H client x small puts.0 v1 v2 r2 w.0 w.1.open_then a2 in
-        let c = commit_line schema H client v2 v3 r3 (with_item w.0 x) i.open_then a3 in
-        let b = read_line schema H client v3 v4 r4 c.1 a4 in
-        let q = question_line schema H client v4 v5 r5 (first_of x) a5 in
-        let e = end_line schema H client v5 v6 r6 b.0 (q.open_then ∙ b.1.open_then) a6 in
+        let w = by_write schema H client v v1 r1 few none a1 in
+        let i = by_insert schema H client x small puts.0 v1 v2 r2 w.0 w.1.open_then a2 in
+        let c = by_commit schema H client v2 v3 r3 (with_item w.0 x) i.open_then a3 in
+        let b = by_read schema H client v3 v4 r4 c.1 a4 in
+        let q = by_question schema H client v4 v5 r5 (first_of x) a5 in
+        let e = by_end schema H client v5 v6 r6 b.0 (q.open_then ∙ b.1.open_then) a6 in
         let rest = rounds_told (at + 6) xs rs v6 end puts.1 e.open_then runs in
         let quiet = one_number _ _ _ _ _ _ (printed rs) (w.0 + 1) w.1.quiet i.quiet c.0 b.1.quiet q.quiet e.quiet in
         ap (map (commit_at H)) quiet ∙ first_commit x w.0 (printed rs) (map (commit_of client) xs) c.2 rest

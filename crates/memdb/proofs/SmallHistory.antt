@@ -1,8 +1,8 @@
 -- A history of made clients is small: its commits and their writes are together at most one for
 -- each line.
-use Rattle.std.proofs.Common.{arith, ◌≡◌, refl, ap, subst, ◌∙◌, ℕ, zero, suc, ◌+◌, ◌-◌, ◌*◌, ◌<◌, ◌≤◌, ◌==◌, inl, inr, List, [], ◌∷◌, ◌++◌, length, map, take, Bool, true, false, Option, Some, None, Ok, Err, slice_get, eq-eqb}
+use Rattle.std.proofs.Common.{arith, ◌≡◌, refl, ap, subst, sym, ◌∙◌, ℕ, zero, suc, ◌+◌, ◌-◌, ◌*◌, ◌<◌, ◌≤◌, ◌==◌, inl, inr, List, [], ◌∷◌, ◌++◌, length, map, take, Bool, true, false, Option, Some, None, Ok, Err, slice_get, eq-eqb}
 use Rattle.std.specs.Bool.{⊤}
-use Rattle.std.specs.Prelude.{codes, if◌then◌else◌, nat_lt, reverse}
+use Rattle.std.specs.Prelude.{codes, if◌then◌else◌, nat_lt}
 use Rattle.std.proofs.lemmas.Bool.{cases_lt}
 use Rattle.std.proofs.lemmas.List.{length-append}
 use Rattle.mdb_datum.specs.Bytes.{Bytes}
@@ -13,15 +13,20 @@ use Rattle.mdb_schema.specs.Query.{Query}
 use Rattle.mdb_schema.specs.Schema.{DbSchema}
 use Rattle.mdb_schema.specs.Tests.{◌>>=◌, passed}
 use Rattle.mdb_schema.specs.Write.{Write, put, step}
-use Rattle.client_script.proofs.OneClient.{insert_prints, rows_told, writing_is}
-use Rattle.client_script.proofs.SpentIds.{told_so}
+use Rattle.client_script.proofs.EachTurn.{writing_is}
+use Rattle.client_script.proofs.OneClient.{insert_prints}
 use Rattle.client_script.specs.Client.{Sight, Writing, Transaction, closed, reading, writing, Client, at_start, state_seen, none_open, some_open, read_open, write_open, sight_of, Judged}
 use Rattle.client_script.specs.Legal.{number_printed, printed}
-use Rattle.client_script.specs.Reply.{Reply, answered, committed, refused}
-use Rattle.client_script.specs.Session.{Answers, IsEntry, Runs, Session}
-use Rattle.client_script.specs.Turn.{Turn, after_commit, turn, write_turn, question_turn, outcome, stepped, asked, indexes_of, with_writes, insert_reply, commit_limit, is_of_watches}
+use Rattle.client_script.specs.Reply.{Reply, answered, refused}
+use Rattle.client_script.specs.Session.{Answers, IsAnswered, IsEntry, Runs, Session}
+use Rattle.client_script.specs.Spent.{IsWriteTold, by_turn, without_ids, ids_spent}
+use Rattle.client_script.specs.Turn.{Turn, after_commit, asked, commit_limit, commit_reply, indexes_of, insert_reply, outcome, question_turn, stepped, transaction_turn, with_writes, write_turn}
+use Rattle.client_script.specs.declared.command.AskCommand.TheVariants as ask_line
 use Rattle.client_script.specs.declared.command.Command.{Command}
 use Rattle.client_script.specs.declared.command.Command.TheVariants as command
+use Rattle.client_script.specs.declared.command.TransactionCommand.{TransactionCommand}
+use Rattle.client_script.specs.declared.command.TransactionCommand.TheVariants as transaction_line
+use Rattle.client_script.specs.declared.command.WriteCommand.TheVariants as write_line
 use Rattle.client_script.specs.declared.line.Line.{Line}
 use Rattle.mem_txn.specs.Database.{AreNamed, commits_by}
 use Rattle.client_session.specs.Answered.{commit_at}
@@ -70,30 +75,17 @@ fewer_writes (c ∷ H) (suc n) = let rest = fewer_writes H n in omega (arith, re
 
 -- ---- a line
 
--- a line of a made script
+-- a line of a made script: it begins or ends a transaction, puts a row or asks a question
 abbrev pub IsMadeLine : Command → Type 0
-IsMadeLine command.Write = ⊤
-IsMadeLine (command.Insert table row) = ⊤
-IsMadeLine command.Commit = ⊤
-IsMadeLine command.Read = ⊤
-IsMadeLine (command.Question q) = ⊤
-IsMadeLine command.End = ⊤
+IsMadeLine (command.Transaction t) = ⊤
+IsMadeLine (command.Write (write_line.Insert table row)) = ⊤
+IsMadeLine (command.Ask (ask_line.Question q)) = ⊤
 IsMadeLine c = ⊥
 
 -- all lines are
 abbrev pub AreMadeLines : List Line → Type 0
 AreMadeLines [] = ⊤
 AreMadeLines (l ∷ ls) = IsMadeLine l.command × AreMadeLines ls
-
--- it is none of the lines of watches
-made_of_rows : (c : Command) → IsMadeLine c → is_of_watches c ≡ false
-made_of_rows command.Write made = refl
-made_of_rows (command.Insert table row) made = refl
-made_of_rows command.Commit made = refl
-made_of_rows command.Read made = refl
-made_of_rows (command.Question q) made = refl
-made_of_rows command.End made = refl
-made_of_rows c made = absurd made
 
 -- the writes of the open transaction
 abbrev pub open_writes : Transaction → ℕ
@@ -121,23 +113,23 @@ module _ (schema : DbSchema) (H : History) (client : ℕ) (v : Client) where
   grows_then (Err rule) f each = grows_refused rule
 
   -- a transaction that is committed is the entry of its number
-  entry_weighs : (x : Writing) (texts : List Bytes) → v.transaction ≡ writing x
-      → IsEntry H client v.transaction (committed (x.number + 1) texts)
+  entry_weighs : (x : Writing) → v.transaction ≡ writing x
+      → IsEntry H client v.transaction (commit_reply schema H x)
       → weight (commit_at H (x.number + 1)) ≡ length x.writes + 1
-  entry_weighs x texts is entry = ap (λ (m : ℕ). weight (slice_get H m)) place ∙ ap weight there
+  entry_weighs x is entry = ap (λ (m : ℕ). weight (slice_get H m)) place ∙ ap weight there
     where
       place : x.number + 1 - 1 ≡ x.number
       place = omega arith
 
       there : slice_get H x.number ≡ Some (record { caller = client; writes = x.writes })
-      there = subst (λ (t : Transaction). IsEntry H client t (committed (x.number + 1) texts)) is entry
+      there = subst (λ (t : Transaction). IsEntry H client t (commit_reply schema H x)) is entry
 
   -- its commit is told, and it is closed
   grows_commit : (x : Writing) → v.transaction ≡ writing x
-      → Grows (committed (x.number + 1) (reverse x.texts), after_commit x v)
+      → Grows (commit_reply schema H x, after_commit x v)
   unfolding Grows
   grows_commit x is entry =
-      let found = entry_weighs x (reverse x.texts) is entry in
+      let found = entry_weighs x is entry in
       let before = ap open_writes is in
       omega (arith, found, before)
 
@@ -153,7 +145,7 @@ module _ (schema : DbSchema) (H : History) (client : ℕ) (v : Client) where
 
   -- by the turn of an insert
   grows_insert : (table : Bytes) (row : Fields)
-      → Grows (outcome v (write_turn schema H v (put table row) table insert_reply))
+      → Grows (outcome v (write_turn schema H v (write_line.Insert table row)))
   grows_insert table row = grows_then (write_open v.transaction) _ (λ x e.
       grows_then (stepped (indexes_of schema table) (step schema (state_seen schema H (sight_of x)) (put table row)))
       (λ was. Ok (insert_reply was, with_writes (put table row ∷ []) x v)) (λ was e'.
@@ -165,28 +157,41 @@ module _ (schema : DbSchema) (H : History) (client : ℕ) (v : Client) where
   grows_question sight q = grows_then sight _ (λ s e.
       grows_then (asked (ask schema (state_seen schema H s) q)) (λ a. Ok (answered a, v)) (λ a e' entry. omega arith))
 
-  -- each turn of a made line
-  grows : (now : ℕ) (c : Command) → IsMadeLine c → Grows (outcome v (turn schema H now v c))
+  -- a line that begins or ends a transaction makes no writes
+  grows_transaction : (now : ℕ) (t : TransactionCommand) → Grows (outcome v (transaction_turn schema H now v t))
   unfolding Grows
-  grows now command.Read made = grows_then (none_open v.transaction) _ (λ u e entry. omega arith)
-  grows now command.Write made = grows_then (none_open v.transaction) _ (λ u e.
+  grows_transaction now transaction_line.Read = grows_then (none_open v.transaction) _ (λ u e entry. omega arith)
+  grows_transaction now transaction_line.Write = grows_then (none_open v.transaction) _ (λ u e.
       grows_then (passed (codes "commits-spent") (nat_lt now commit_limit)) _ (λ u' e' entry. omega arith))
-  grows now command.End made = grows_then (read_open v.transaction) _ (λ m e entry. omega arith)
-  grows now command.Commit made =
+  grows_transaction now transaction_line.End = grows_then (read_open v.transaction) _ (λ m e entry. omega arith)
+  grows_transaction now transaction_line.Commit =
       grows_then (write_open v.transaction) _ (λ x e. grows_commit x (writing_is v.transaction x e))
-  grows now (command.Insert table row) made = grows_insert table row
-  grows now (command.Question q) made = grows_question (some_open v.transaction) q
-  grows now c made = absurd made
+  grows_transaction now transaction_line.Abort =
+      grows_then (write_open v.transaction) _ (λ x e entry. omega arith)
 
-  -- and so each made line, whatever it is told
+  -- an insert is told its turn, or is refused for want of ids
+  grows_told : (table : Bytes) (row : Fields) (r : Reply) (next : Client)
+      → IsWriteTold schema H v (write_line.Insert table row) r next → Grows (r, next)
+  grows_told table row r next (by_turn told) = subst Grows told (grows_insert table row)
+  grows_told table row r next (without_ids s) =
+      subst (λ (x : Reply). Grows (x, next)) (sym s.reply)
+      (subst (λ (x : Client). Grows (ids_spent, x)) (sym s.same) (grows_refused (codes "ids-spent")))
+
+  -- so does each made line
+  grows : (now : ℕ) (c : Command) (r : Reply) (next : Client) → IsMadeLine c
+      → IsAnswered schema H client now v c r next → Grows (r, next)
+  grows now (command.Transaction t) r next made told = subst Grows told (grows_transaction now t)
+  grows now (command.Write (write_line.Insert table row)) r next made told = grows_told table row r next told
+  grows now (command.Ask (ask_line.Question q)) r next made told =
+      subst Grows told (grows_question (some_open v.transaction) q)
+  grows now c r next made told = absurd made
+
+  -- whatever it is told
   line_grows : (c : Command) (r : Reply) (next : Client) → IsMadeLine c → Answers schema H client v c r next
       → weigh (map (commit_at H) (number_printed r)) + open_writes next.transaction
       ≤ open_writes v.transaction + 1
   unfolding Grows
-  line_grows c r next made a =
-      told_so Grows schema H a.now v c r next
-      (rows_told schema H client a.now v c r next (made_of_rows c made) a.says)
-      (grows a.now c made) grows_refused a.entry
+  line_grows c r next made a = grows a.now c r next made a.says a.entry
 
 -- ---- a script
 

@@ -14,6 +14,7 @@ mod clients;
 mod held;
 mod made;
 mod sessions;
+mod tracked;
 mod watches;
 
 /// A text, and how often it stands.

@@ -12,6 +12,7 @@ use Rattle.client_script.specs.Parts.{Question, next_word, something, nothing, n
 use Rattle.client_script.specs.Refusal.{Ruled, bad_shape}
 use Rattle.client_script.specs.declared.command.Command.{Command}
 use Rattle.client_script.specs.declared.command.Command.TheVariants as command
+use Rattle.client_script.specs.declared.command.NameCommand.TheVariants as name_line
 
 -- `TABLE DOC`
 abbrev pub table_and_row : Bytes → Ruled (Bytes × Fields)
@@ -42,7 +43,7 @@ watch_kept word kept q = do
   name ← name_in word
   snapshot ← name_in kept
   query ← query_in q
-  Ok (command.WatchIn name snapshot query)
+  Ok (command.Name (name_line.WatchIn name snapshot query))
 
 -- `watch NAME QUESTION` or `watch NAME in NAME QUESTION`, behind the name and the next word
 abbrev pub watch_by : Word → Word → Ruled Command

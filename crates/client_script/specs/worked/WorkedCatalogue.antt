@@ -108,7 +108,7 @@ pub services_told : replies_over catalogue services ≡
     ∷ inserted
     ∷ deferred
     ∷ deferred
-    ∷ committed 1 (codes "told the ring" ∷ codes "registered web-1" ∷ [])
+    ∷ committed 1 [] (codes "told the ring" ∷ codes "registered web-1" ∷ [])
     ∷ read_at 1
     ∷ answered (One (Some web_1))
     ∷ answered (Many (web_1 ∷ []))
@@ -117,11 +117,11 @@ pub services_told : replies_over catalogue services ≡
     ∷ ended
     ∷ write_at 1
     ∷ replaced
-    ∷ committed 2 []
+    ∷ committed 2 [] []
     ∷ write_at 2
     ∷ wiped 2
     ∷ wiped 1
-    ∷ committed 3 []
+    ∷ committed 3 [] []
     ∷ read_at 3
     ∷ answered (Many [])
     ∷ []

@@ -5,7 +5,20 @@ use Rattle.std.proofs.lemmas.Fmt.{decimal_digit}
 use Rattle.mdb_datum.proofs.OnLiterals.{reading_on_literals}
 use Rattle.mdb_schema.specs.declared.answer.Answer.TheVariants.{One, Many}
 use Rattle.mdb_schema.specs.worked.Sample.{user}
-use Rattle.client_script.specs.Reply.{line_text, heading, reply_text, read_at, write_at, committed, wiped, answered, kept_at, kept_within, refused}
+use Rattle.client_script.specs.Reply.{Changed, line_text, heading, reply_text, read_at, write_at, committed, wiped, answered, kept_at, kept_within, refused}
+
+abbrev came : Changed
+came = record { table = codes "t"; before = None; after = Some (user (codes "ann") 3) }
+
+abbrev went : Changed
+went = record { table = codes "t"; before = Some (user (codes "bob") 2); after = None }
+
+abbrev became : Changed
+became = record {
+  table = codes "u";
+  before = Some (user (codes "cy") 2);
+  after = Some (user (codes "cy") 3);
+}
 
 pub read_text : line_text 7 (read_at 3) ≡ codes "7: read @3\n"
 read_text = rw (decimal_digit 7 (lit< tt), decimal_digit 3 (lit< tt)) refl
@@ -14,9 +27,15 @@ pub write_text : line_text 7 (write_at 3) ≡ codes "7: write @3\n"
 write_text = rw (decimal_digit 7 (lit< tt), decimal_digit 3 (lit< tt)) refl
 
 -- a line of its own for each deferred text
-pub commit_text : line_text 7 (committed 3 (codes "b" ∷ codes "a" ∷ []))
+pub commit_text : line_text 7 (committed 3 [] (codes "b" ∷ codes "a" ∷ []))
     ≡ codes "7: commit @3\n  did b\n  did a\n"
 commit_text = rw (decimal_digit 7 (lit< tt), decimal_digit 3 (lit< tt)) refl
+
+-- and for each change, before them
+pub changes_text : line_text 7 (committed 3 (came ∷ went ∷ became ∷ []) (codes "x" ∷ []))
+    ≡ codes "7: commit @3\n  changed t none {\"age\":3,\"name\":\"ann\"}\n  changed t {\"age\":2,\"name\":\"bob\"} none\n  changed u {\"age\":2,\"name\":\"cy\"} {\"age\":3,\"name\":\"cy\"}\n  did x\n"
+unfolding reading_on_literals
+changes_text = rw (decimal_digit 7 (lit< tt), decimal_digit 2 (lit< tt), decimal_digit 3 (lit< tt)) refl
 
 pub wipe_text : reply_text (wiped 2) ≡ codes "deleted 2"
 wipe_text = rw (decimal_digit 2 (lit< tt)) refl

@@ -29,13 +29,13 @@ own_commit =
 pub own_commit_told : replies_to own_commit ≡
     write_at 0
     ∷ inserted
-    ∷ committed 1 []
+    ∷ committed 1 [] []
     ∷ read_at 1
     ∷ answered (One (Some (user (codes "ann") 3)))
     ∷ ended
     ∷ write_at 1
     ∷ replaced
-    ∷ committed 2 []
+    ∷ committed 2 [] []
     ∷ read_at 2
     ∷ answered (Many [])
     ∷ answered (Many ((user (codes "ann") 4) ∷ []))
@@ -44,7 +44,7 @@ unfolding reading_on_literals
 own_commit_told = refl
 
 -- a commit tells its own number, and not that of the one before
-pub commit_tells_its_own_number : slice_get (replies_to own_commit) 2 ≢ Some (committed 0 [])
+pub commit_tells_its_own_number : slice_get (replies_to own_commit) 2 ≢ Some (committed 0 [] [])
 commit_tells_its_own_number = rw own_commit_told (apart reply_code tt refl)
 
 -- a row with the `id` of another takes its place
@@ -91,7 +91,7 @@ pub own_writes_told : replies_to own_writes ≡
     ∷ answered (Many ((user (codes "ann") 3) ∷ (user (codes "bob") 2) ∷ (user (codes "cy") 1) ∷ []))
     ∷ answered (One (Some (user (codes "cy") 1)))
     ∷ answered (Many [])
-    ∷ committed 1 []
+    ∷ committed 1 [] []
     ∷ answered (Many [])
     ∷ []
 unfolding reading_on_literals
@@ -122,7 +122,7 @@ pub taken_key_told : replies_to taken_key ≡
     ∷ refused (codes "key-taken mail")
     ∷ inserted
     ∷ answered (Many ((mailed (codes "ann") 1 (codes "m")) ∷ []))
-    ∷ committed 1 []
+    ∷ committed 1 [] []
     ∷ []
 unfolding reading_on_literals
 taken_key_told = refl
@@ -189,7 +189,7 @@ pub repeated_told : replies_to repeated ≡
     ∷ inserted
     ∷ deleted
     ∷ refused (codes "not-found")
-    ∷ committed 1 []
+    ∷ committed 1 [] []
     ∷ read_at 1
     ∷ []
 unfolding reading_on_literals
@@ -358,19 +358,19 @@ pub wipes_told : replies_to wipes ≡
     ∷ wiped 2
     ∷ wiped 1
     ∷ answered (Many [])
-    ∷ committed 1 ((codes "the second") ∷ (codes "the first") ∷ [])
+    ∷ committed 1 [] ((codes "the second") ∷ (codes "the first") ∷ [])
     ∷ write_at 1
-    ∷ committed 2 []
+    ∷ committed 2 [] []
     ∷ []
 unfolding reading_on_literals
 wipes_told = refl
 
 -- deferred texts do not come in the order of deferral
-pub last_deferred_is_first : slice_get (replies_to wipes) 9 ≢ Some (committed 1 ((codes "the first") ∷ (codes "the second") ∷ []))
+pub last_deferred_is_first : slice_get (replies_to wipes) 9 ≢ Some (committed 1 [] ((codes "the first") ∷ (codes "the second") ∷ []))
 last_deferred_is_first = rw wipes_told (apart reply_code tt refl)
 
 -- they are handed out once
-pub texts_are_handed_out_once : slice_get (replies_to wipes) 11 ≢ Some (committed 2 ((codes "the second") ∷ (codes "the first") ∷ []))
+pub texts_are_handed_out_once : slice_get (replies_to wipes) 11 ≢ Some (committed 2 [] ((codes "the second") ∷ (codes "the first") ∷ []))
 texts_are_handed_out_once = rw wipes_told (apart reply_code tt refl)
 
 -- a wipe counts rows

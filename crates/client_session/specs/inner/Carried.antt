@@ -12,6 +12,7 @@ use Rattle.client_script.specs.Legal.{printed}
 use Rattle.client_script.specs.Reply.{Reply, line_text, lines_text}
 use Rattle.client_script.specs.declared.command.Command.{Command}
 use Rattle.client_script.specs.declared.command.Command.TheVariants as command
+use Rattle.client_script.specs.declared.command.TransactionCommand.TheVariants as transaction_line
 use Rattle.client_script.specs.declared.line.Line.{Line}
 use Rattle.client_session.specs.Answered.{AreRising, IsLater, IsUntold, commit_at}
 use Rattle.client_session.specs.declared.desk.Desk.{Desk}
@@ -36,7 +37,7 @@ StepsLine callers l old new before after (Err e) = ⊤
 -- the commits that one line makes: at most one, and one only where it is `commit`
 abbrev pub IsOfCommit : Command → List Commit → Type 0
 IsOfCommit c [] = ⊤
-IsOfCommit c (x ∷ []) = c ≡ command.Commit
+IsOfCommit c (x ∷ []) = c ≡ command.Transaction transaction_line.Commit
 IsOfCommit c (x ∷ y ∷ cs) = ⊥
 
 -- a line has made them, whether they are told or not

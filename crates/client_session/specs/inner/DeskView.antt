@@ -14,6 +14,8 @@ use Rattle.client_script.specs.Session.{Answers}
 use Rattle.client_script.specs.Turn.{snapshot_reply}
 use Rattle.client_script.specs.declared.command.Command.{Command}
 use Rattle.client_script.specs.declared.command.Command.TheVariants as command
+use Rattle.client_script.specs.declared.command.TransactionCommand.TheVariants as transaction_line
+use Rattle.client_script.specs.declared.command.WatchesCommand.{WatchesCommand}
 use Rattle.client_session.specs.Steps.{HasDoneOnce, HasStayedQuiet, IsOneLook}
 use Rattle.client_session.specs.declared.desk.Desk.{Desk}
 use Rattle.client_session.specs.declared.kept.Kept.{Kept}
@@ -84,27 +86,29 @@ pub record LooksAndReplies (c : Command) (old new : Desk) (r : Reply) : Type 0 w
   pub loads : (v : Client) → Follows at v → AreAmong (count_told r) looks.read
 
 -- a wait has found all quiet in one look, and nothing else was done
-pub record IsWaiting (c : Command) (old new : Desk) : Type 0 where
+pub record IsWaiting (w : WatchesCommand) (old new : Desk) : Type 0 where
   pub looks : Looks old.open new.open
   pub look : LooksOnce (caller_of old.open) (caller_of new.open)
   pub tries : (caller_of new.open).tries ≡ (caller_of old.open).tries
   pub snapshots : new.snapshots ≡ old.snapshots
   pub watching : new.watching ≡ old.watching
   pub quiet : (v : Client) → Follows old v
-      → HasStayedQuiet (caller_of old.open) (caller_of new.open) v c
+      → HasStayedQuiet (caller_of old.open) (caller_of new.open) v w
 
 -- one look at what a line waits for; it gives no reply where all is quiet
-abbrev pub AnswersOnce : Command → Desk → Desk → Option Reply → Type 0
-AnswersOnce c old new (Some r) =
-    LooksAndReplies c old new r × IsOneLook (caller_of old.open) (caller_of new.open)
-AnswersOnce c old new None = IsWaiting c old new
+abbrev pub AnswersOnce : WatchesCommand → Desk → Desk → Option Reply → Type 0
+AnswersOnce w old new (Some r) =
+    LooksAndReplies (command.Watches w) old new r
+    × IsOneLook (caller_of old.open) (caller_of new.open)
+AnswersOnce w old new None = IsWaiting w old new
 
 -- why a line is held up: at `write` another has the writer's turn, as its one try has found; else a
 -- wait has found all quiet
 abbrev pub HoldsUp : ℕ → Command → Desk → Desk → Type 0
-HoldsUp callers command.Write old new =
+HoldsUp callers (command.Transaction transaction_line.Write) old new =
     HasLost callers (caller_of old.open) (caller_of new.open)
-HoldsUp callers c old new = IsWaiting c old new
+HoldsUp callers (command.Watches w) old new = IsWaiting w old new
+HoldsUp callers c old new = ⊥
 
 -- a line is still to do, and nothing else was done
 pub record IsHeldUp (callers : ℕ) (c : Command) (old new : Desk) : Type 0 where
@@ -118,32 +122,3 @@ abbrev pub StepsTo : ℕ → Command → Desk → Desk → Option Reply → Type
 StepsTo callers c old new (Some r) =
     LooksAndReplies c old new r × HasDoneOnce c (caller_of old.open) (caller_of new.open)
 StepsTo callers c old new None = IsHeldUp callers c old new
-
--- a command that looks at the commits that there are by then: a check or a wait
-abbrev pub IsLook : Command → Type 0
-IsLook (command.Check name) = ⊤
-IsLook (command.Wait set) = ⊤
-IsLook (command.WaitUntil set until) = ⊤
-IsLook c = ⊥
-
--- a command that neither begins nor ends a transaction, and doesn't look at further commits
-abbrev pub IsRequest : Command → Type 0
-IsRequest command.Read = ⊥
-IsRequest command.Write = ⊥
-IsRequest command.End = ⊥
-IsRequest command.Commit = ⊥
-IsRequest command.Abort = ⊥
-IsRequest (command.Check name) = ⊥
-IsRequest (command.Wait set) = ⊥
-IsRequest (command.WaitUntil set until) = ⊥
-IsRequest c = ⊤
-
--- a command that keeps a snapshot or a watch, or one of a set that doesn't look at further commits
-abbrev pub KeepsOrSizes : Command → Type 0
-KeepsOrSizes (command.Snapshot name) = ⊤
-KeepsOrSizes (command.Watch name query) = ⊤
-KeepsOrSizes (command.WatchIn name snapshot query) = ⊤
-KeepsOrSizes (command.Add set name) = ⊤
-KeepsOrSizes (command.AddLimit set limit name other) = ⊤
-KeepsOrSizes (command.Size set) = ⊤
-KeepsOrSizes c = ⊥

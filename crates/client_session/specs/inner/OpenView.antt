@@ -11,9 +11,11 @@ use Rattle.mem_txn.specs.Transactions.{HasLost, changes_of, items_of}
 use Rattle.mdb_schema.specs.History.{state_at}
 use Rattle.client_script.specs.Client.{Transaction, closed, reading, writing, Client}
 use Rattle.client_script.specs.Reply.{Reply, committed}
-use Rattle.client_script.specs.Spent.{IsTold}
+use Rattle.client_script.specs.Session.{IsAnswered}
 use Rattle.client_script.specs.declared.command.Command.{Command}
 use Rattle.client_script.specs.declared.command.Command.TheVariants as command
+use Rattle.client_script.specs.declared.command.TransactionCommand.{TransactionCommand}
+use Rattle.client_script.specs.declared.command.TransactionCommand.TheVariants as transaction_line
 use Rattle.watch_word.specs.Logs as logs
 use Rattle.client_session.specs.Answered.{IsLater}
 use Rattle.client_session.specs.Steps.{HasDoneOnce}
@@ -62,7 +64,7 @@ Stands (opens.Writing txn) = (changes_of txn).spoiled ≡ false
 
 -- the commit that a reply tells
 abbrev pub made : ℕ → Transaction → Reply → History
-made caller (writing t) (committed m texts) =
+made caller (writing t) (committed m changed texts) =
     record { caller = caller; writes = t.writes } ∷ []
 made caller t r = []
 
@@ -86,8 +88,8 @@ IsNumbered old t r = map (λ m. (m, old.number)) (number_printed r)
 -- what a line is told over what is open: the reply, and what the client then knows
 pub record Turns (c : Command) (old new : Open) (r : Reply) (v : Client) : Type 0 where
   pub next : Client
-  pub says : IsTold (caller_of old).schema (caller_of old).seen (length (caller_of old).seen) v c r
-      next
+  pub says : let p = caller_of old in
+      IsAnswered p.schema p.seen p.number (length p.seen) v c r next
   pub transaction : next.transaction ≡ transaction_of new
   pub snapshots : next.snapshots ≡ v.snapshots
   pub watching : next.watching ≡ v.watching
@@ -107,15 +109,6 @@ IsOpen (opens.Nothing pass) = ⊥
 IsOpen (opens.Reading pass txn) = ⊤
 IsOpen (opens.Writing txn) = ⊤
 
--- a command that begins or ends a transaction
-abbrev pub BeginsOrEnds : Command → Type 0
-BeginsOrEnds command.Read = ⊤
-BeginsOrEnds command.Write = ⊤
-BeginsOrEnds command.End = ⊤
-BeginsOrEnds command.Commit = ⊤
-BeginsOrEnds command.Abort = ⊤
-BeginsOrEnds c = ⊥
-
 -- the caller has seen more commits, of others, and read these counts; it may have made tries
 pub record Looks (old new : Open) : Type 0 where
   pub later : IsLater (caller_of old) (caller_of new)
@@ -125,17 +118,18 @@ pub record Looks (old new : Open) : Type 0 where
   pub transaction : transaction_of new ≡ transaction_of old
   pub stands : Stands new
 
--- a line's turn, once the caller has seen the commits that there are by then; the number of a
--- transaction that begins is a count that it has read
-pub record LooksAndTurns (c : Command) (old new : Open) (r : Reply) : Type 0 where
+-- the turn of a line that begins or ends a transaction, once the caller has seen the commits that
+-- there are by then; the number of a transaction that begins is a count that it has read
+pub record LooksAndTurns (t : TransactionCommand) (old new : Open) (r : Reply) : Type 0 where
   pub at : Open
   pub looks : Looks old at
-  pub turns : TurnsTo c at new r
+  pub turns : TurnsTo (command.Transaction t) at new r
   pub loads : (v : Client) → v.transaction ≡ transaction_of at → v.last ≤ length (caller_of at).seen
       → AreAmong (count_told r) looks.read
 
 -- a `write` that makes one try; it gives no reply where that found another's number
 abbrev pub TriesWrite : ℕ → Open → Open → Option Reply → Type 0
 TriesWrite callers old new (Some r) =
-    LooksAndTurns command.Write old new r × HasDoneOnce command.Write (caller_of old) (caller_of new)
+    LooksAndTurns transaction_line.Write old new r
+    × HasDoneOnce (command.Transaction transaction_line.Write) (caller_of old) (caller_of new)
 TriesWrite callers old new None = Looks old new × HasLost callers (caller_of old) (caller_of new)

@@ -1,9 +1,10 @@
 -- Replies, as the definitions of sessions see them.
-use Rattle.std.specs.Prelude.{⊤}
+use Rattle.std.specs.Prelude.{map, ⊤}
 use Rattle.mdb_schema.specs.Answer.{ask}
 use Rattle.mdb_schema.specs.Schema.{DbSchema}
 use Rattle.mem_txn.specs.Transactions.{deferred_items}
 use Rattle.client_script.specs.Reply as said
+use Rattle.client_script.specs.Turn.{changed_row}
 use Rattle.client_session.specs.declared.reply.Reply.{Reply}
 use Rattle.client_session.specs.declared.reply.Reply.TheVariants as reply
 use Rattle.client_session.specs.inner.Asking.{asked_reply}
@@ -13,7 +14,8 @@ abbrev pub reply_of : DbSchema → Reply → said.Reply
 reply_of schema (reply.ReadAt n) = said.read_at n
 reply_of schema (reply.WriteAt n) = said.write_at n
 reply_of schema reply.Ended = said.ended
-reply_of schema (reply.Committed r) = said.committed r.number (deferred_items r.items)
+reply_of schema (reply.Committed r) =
+    said.committed r.number (map (changed_row schema) r.changes) (deferred_items r.items)
 reply_of schema reply.Aborted = said.aborted
 reply_of schema reply.Inserted = said.inserted
 reply_of schema reply.Replaced = said.replaced

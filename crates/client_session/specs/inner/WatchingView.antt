@@ -11,12 +11,12 @@ use Rattle.watch_set.specs.Members.{AreDistinct, AreHeldBy, Member, cell_id, has
 use Rattle.client_script.specs.Client as client
 use Rattle.client_script.specs.Client.{Client, Sight, Watch, WatchSet, no_write_open, set_named, watch_named}
 use Rattle.client_script.specs.Reply.{Reply}
-use Rattle.client_script.specs.Turn.{outcome}
-use Rattle.client_script.specs.Watching.{IsWatchTold, watch_turn}
-use Rattle.client_script.specs.declared.command.Command.{Command}
-use Rattle.client_script.specs.declared.command.Command.TheVariants as command
+use Rattle.client_script.specs.Turn.{outcome, watch_turn}
+use Rattle.client_script.specs.Watching.{IsWatchTold}
+use Rattle.client_script.specs.declared.command.WatchesCommand.{WatchesCommand}
+use Rattle.client_script.specs.declared.command.WatchesCommand.TheVariants as watches_line
 use Rattle.client_session.specs.Answered.{IsLater}
-use Rattle.client_session.specs.Cells.{TellsCells}
+use Rattle.client_session.specs.Cells.{WatchTellsCells}
 use Rattle.client_session.specs.Counts.{AreAmong, count_told}
 use Rattle.client_session.specs.Steps.{HasStayedQuiet, IsOneLook}
 use Rattle.client_session.specs.declared.watching.Watching.{Watching}
@@ -96,11 +96,11 @@ pub record AsksWatch (p : Caller) (new : Watching) (v : Client) (s : Sight) (nam
 
 -- A line of watches is told so by one who sees the commits that the caller has seen, after so many
 -- of them.
-pub record WatchTold (p : Caller) (now : ℕ) (new : Watching) (v : Client) (c : Command) (r : Reply)
-    : Type 0 where
+pub record WatchTold (p : Caller) (now : ℕ) (new : Watching) (v : Client) (w : WatchesCommand)
+    (r : Reply) : Type 0 where
   pub next : Client
-  pub says : IsWatchTold p.schema p.seen p.number now v c r next
-  pub cells : TellsCells (cells_seen p) v c r next
+  pub says : IsWatchTold p.schema p.seen p.number now v w r next
+  pub cells : WatchTellsCells (cells_seen p) v w r next
   pub knows : Knows p new next.watching
   pub holds : Holds p new
 
@@ -125,17 +125,18 @@ pub record MayLook (p : Caller) (g : Watching) (v : Client) : Type 0 where
   pub free : no_write_open v.transaction ≡ Ok tt
 
 -- a check, or a wait, is told so of all commits that the caller then has seen
-pub record TellsLook (g : Watching) (c : Command) (old new : Caller) (r : Reply) : Type 0 where
-  pub prints : PrintsRead old new r
-  pub told : (v : Client) → MayLook old g v → WatchTold new (length new.seen) g v c r
+pub record TellsLook (g : Watching) (w : WatchesCommand) (old new : Caller) (r : Reply) : Type 0
+  where
+    pub prints : PrintsRead old new r
+    pub told : (v : Client) → MayLook old g v → WatchTold new (length new.seen) g v w r
 
 -- the line that waits for a set, until a watch fires or without one
-abbrev pub wait_for : Bytes → Option Bytes → Command
-wait_for set None = command.Wait set
-wait_for set (Some until) = command.WaitUntil set until
+abbrev pub wait_for : Bytes → Option Bytes → WatchesCommand
+wait_for set None = watches_line.Wait set
+wait_for set (Some until) = watches_line.WaitUntil set until
 
 -- one look at all that a line waits for, if it is looked at: it is told so, or all were quiet
-abbrev pub TellsOnce : Watching → Command → Caller → Caller → Option Reply → Type 0
-TellsOnce g c old new (Some r) = IsOneLook old new × TellsLook g c old new r
-TellsOnce g c old new None =
-    LooksOnce old new × ((v : Client) → MayLook old g v → HasStayedQuiet old new v c)
+abbrev pub TellsOnce : Watching → WatchesCommand → Caller → Caller → Option Reply → Type 0
+TellsOnce g w old new (Some r) = IsOneLook old new × TellsLook g w old new r
+TellsOnce g w old new None =
+    LooksOnce old new × ((v : Client) → MayLook old g v → HasStayedQuiet old new v w)

@@ -8,7 +8,10 @@ use Rattle.mdb_schema.specs.Query.{Query}
 use Rattle.mdb_schema.specs.Schema.{DbSchema}
 use Rattle.mdb_schema.specs.Write.{put}
 use Rattle.mdb_schema.specs.declared.ask.Ask.TheVariants.{First, Get}
+use Rattle.client_script.specs.declared.command.AskCommand.TheVariants as ask_line
 use Rattle.client_script.specs.declared.command.Command.TheVariants as command
+use Rattle.client_script.specs.declared.command.TransactionCommand.TheVariants as transaction_line
+use Rattle.client_script.specs.declared.command.WriteCommand.TheVariants as write_line
 use Rattle.client_script.specs.declared.line.Line.{Line}
 use Rattle.mem_txn.specs.Database.{commits_by}
 use Rattle.memdb.specs.Made.{Item, Numbers, items_by}
@@ -53,12 +56,12 @@ first_of x = record {
 -- the six lines of a round, behind so many lines
 abbrev pub round_lines : ℕ → Item → List Line
 round_lines at x =
-    record { number = at + 1; command = command.Write }
-    ∷ record { number = at + 2; command = command.Insert (codes "items") (row_of x) }
-    ∷ record { number = at + 3; command = command.Commit }
-    ∷ record { number = at + 4; command = command.Read }
-    ∷ record { number = at + 5; command = command.Question (first_of x) }
-    ∷ record { number = at + 6; command = command.End }
+    record { number = at + 1; command = command.Transaction transaction_line.Write }
+    ∷ record { number = at + 2; command = command.Write (write_line.Insert (codes "items") (row_of x)) }
+    ∷ record { number = at + 3; command = command.Transaction transaction_line.Commit }
+    ∷ record { number = at + 4; command = command.Transaction transaction_line.Read }
+    ∷ record { number = at + 5; command = command.Ask (ask_line.Question (first_of x)) }
+    ∷ record { number = at + 6; command = command.Transaction transaction_line.End }
     ∷ []
 
 abbrev pub rounds_behind : ℕ → List Item → List Line

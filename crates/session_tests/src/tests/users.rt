@@ -4,8 +4,8 @@ use std::alloc::Global;
 use std::sync::Wait;
 use std::test::Fail;
 
-pub(super) const SCHEMA: &str = r#"{"memdb":1,"tables":{
-"keys":{"indexes":{"id":{"unique":true,"indexer":{"kind":"uuid","field":"key"}}}},
+pub(super) const SCHEMA: &str = r#"{"memdb":2,"tables":{
+"keys":{"tracked":true,"indexes":{"id":{"unique":true,"indexer":{"kind":"uuid","field":"key"}}}},
 "notes":{"indexes":{"id":{"unique":true,"indexer":{"kind":"text","field":"name"}}}},
 "rules":{"indexes":{"id":{"unique":true,"indexer":{"kind":"text","field":"name"}},
 "path":{"unique":true,"indexer":{"kind":"compound","allow_missing":true,"parts":[
@@ -197,10 +197,53 @@ const SILENT_LINES: Case = (
     "3: write @0\n5: inserted\n7: rows 1\n  {\"name\":\"n\"}\n",
 );
 
-pub(super) static CASES: [Case; 6] = [
+/// A commit tells its changes of the one tracked table by their keys, before its texts: no row that
+/// an equal one has replaced, none that came and went, and none of another table.
+const TRACKED_CHANGES: Case = (
+    r#"write
+insert keys {"key":"00000000-0000-0000-0000-00000000000b","of":"b"}
+insert keys {"key":"00000000-0000-0000-0000-00000000000a"}
+insert notes {"name":"n"}
+defer told
+commit
+write
+insert keys {"key":"00000000-0000-0000-0000-00000000000a"}
+insert keys {"key":"00000000-0000-0000-0000-00000000000b","of":"c"}
+insert keys {"key":"00000000-0000-0000-0000-00000000000c"}
+delete keys {"key":"00000000-0000-0000-0000-00000000000c"}
+commit
+write
+delete keys {"key":"00000000-0000-0000-0000-00000000000a"}
+commit
+"#,
+    r#"1: write @0
+2: inserted
+3: inserted
+4: inserted
+5: deferred
+6: commit @1
+  changed keys none {"key":"00000000-0000-0000-0000-00000000000a"}
+  changed keys none {"key":"00000000-0000-0000-0000-00000000000b","of":"b"}
+  did told
+7: write @1
+8: replaced
+9: replaced
+10: inserted
+11: deleted
+12: commit @2
+  changed keys {"key":"00000000-0000-0000-0000-00000000000b","of":"b"} {"key":"00000000-0000-0000-0000-00000000000b","of":"c"}
+13: write @2
+14: deleted
+15: commit @3
+  changed keys {"key":"00000000-0000-0000-0000-00000000000a"} none
+"#,
+);
+
+pub(super) static CASES: [Case; 7] = [
     EACH_QUESTION,
     EACH_RULE,
     UNCOMMITTED_SNAPSHOT,
+    TRACKED_CHANGES,
     WIPES,
     SILENT_LINES,
     ("", ""),

@@ -5,6 +5,7 @@ use Rattle.client_script.specs.declared.line.Line.{Line}
 use Rattle.client_session.specs.inner.Carried.{AddsSome, CarriedOn}
 use Rattle.client_session.specs.inner.OpenView.{caller_of}
 use Rattle.client_script.specs.declared.command.Command.TheVariants as command
+use Rattle.client_script.specs.declared.command.TransactionCommand.TheVariants as transaction_line
 use Rattle.client_session.proofs.OneMoreLine.{from_here, next, holds_now, kept_some, own_later, stops_here, was_err, was_ok}
 use Rattle.client_session.proofs.OpenTurns.{later_self, on_err}
 use Rattle.client_session.proofs.run.answer_lines.Goals as goal
@@ -17,7 +18,7 @@ unreachable-requires g c =
     let none : None ≡ slice_get c.args.script.now c.loop-at.at = sym (ap option_copied c.in_default.is) ∙ c.get.ensures in
     let lt = c.loop-at-test.true in
     let len = c.len-at-end.ensures in
-    let d : Line = record { number = 0; command = command.Read } in
+    let d : Line = record { number = 0; command = command.Transaction transaction_line.Read } in
     let some = slice_get-get_or c.args.script.now c.loop-at.at d (search (arith, lt, len)) in
     cc
 

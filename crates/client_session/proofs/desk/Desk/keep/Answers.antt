@@ -1,5 +1,6 @@
 use Rattle.std.proofs.Common.{IfOk, rules, subst}
 use Rattle.client_script.specs.declared.command.Command.TheVariants as command
+use Rattle.client_script.specs.declared.command.NameCommand.TheVariants as name_line
 use Rattle.client_session.specs.declared.desk.Desk.{Desk}
 use Rattle.client_session.specs.inner.DeskView.{RepliesTo}
 use Rattle.client_session.specs.inner.OpenView.{caller_of}
@@ -8,5 +9,5 @@ use Rattle.client_session.proofs.desk.Desk.keep.Goals as goal
 
 pub returns-else-has-clause-turn : goal.returns-else-has-clause-turn
 returns-else-has-clause-turn c =
-    subst (λ (d : Desk). IfOk c.keep_new.result (λ r. RepliesTo (command.Snapshot c.args.name.now) d c.keep_new.new.self (reply_of (caller_of d.«open»).schema r)))
+    subst (λ (d : Desk). IfOk c.keep_new.result (λ r. RepliesTo (command.Name (name_line.Snapshot c.args.name.now)) d c.keep_new.new.self (reply_of (caller_of d.«open»).schema r)))
     (search rules) c.keep_new.ensures.turn

@@ -1,7 +1,7 @@
 use Rattle.std.proofs.Common.{◌≡◌, ◌⊎◌, inl, inr, None, refl, subst, sym}
 use Rattle.std.specs.BTreeMap.{get_by_text}
 use Rattle.client_script.specs.Reply.{refused}
-use Rattle.client_script.specs.declared.command.Command.TheVariants as command
+use Rattle.client_script.specs.declared.command.WatchesCommand.TheVariants as watches_line
 use Rattle.client_session.specs.declared.watching.Watching.{Watching}
 use Rattle.client_session.specs.inner.WatchingView.{WatchTold}
 use Rattle.client_session.proofs.LooksTold.{unknown}
@@ -17,10 +17,10 @@ returns-in_default c p now v ids knows holds =
     let set = c.args.set.now in
     let name = c.args.name.now in
     let other = c.args.other.now in
-    let told : (get_by_text g.watches.kept name ≡ None) ⊎ (get_by_text g.watches.kept other ≡ None) → WatchTold p now g v (command.AddLimit set c.args.limit name other) (refused unknown) =
+    let told : (get_by_text g.watches.kept name ≡ None) ⊎ (get_by_text g.watches.kept other ≡ None) → WatchTold p now g v (watches_line.AddLimit set c.args.limit name other) (refused unknown) =
     limit_unknown p now g g v ids knows holds set c.args.limit name other in
-    let same : (h : Watching) → h ≡ g → WatchTold p now g v (command.AddLimit set c.args.limit name other) (refused unknown) → WatchTold p now h v (command.AddLimit set c.args.limit name other) (refused unknown) =
-    λ h is. subst (λ (x : Watching). WatchTold p now x v (command.AddLimit set c.args.limit name other) (refused unknown)) (sym is) in
+    let same : (h : Watching) → h ≡ g → WatchTold p now g v (watches_line.AddLimit set c.args.limit name other) (refused unknown) → WatchTold p now h v (watches_line.AddLimit set c.args.limit name other) (refused unknown) =
+    λ h is. subst (λ (x : Watching). WatchTold p now x v (watches_line.AddLimit set c.args.limit name other) (refused unknown)) (sym is) in
     elim c.in_default.branch [
       | in_default-via-in-Some+in_default w ↦ same c.in_default.self w.self-is (told (inr (sym w.in_default.ensures')))
       | in_default-via-in_default w ↦ same c.in_default.self w.self-is (told (inl (sym w.in_default.ensures)))
