@@ -256,6 +256,34 @@ fn the_first_and_the_last_row_under_a_prefix_are_lent(rt: HostRuntime) -> Result
     Ok(())
 }
 
+/// A text, and the number of the row under the longest key that begins it.
+const BEGUN: &[(&[u8], Option<i128>)] = &[
+    (b"east\x00db", Some(6)),
+    (b"east\x00web", Some(6)),
+    (b"east\x00web\x00", Some(7)),
+    (b"east\x00web\x00x", Some(7)),
+    (b"east", None),
+    (b"west", None),
+    (b"\x00\xffx\x00\xff", Some(0)),
+];
+
+/// The place of the first text for which another row is found.
+fn first_wrong_begun(alloc: Global) -> Result<Option<usize>, AllocError> {
+    let tree = tree_of_keys(alloc, STORED)?;
+    Ok(
+        BEGUN
+            .iter()
+            .position(|(text, number)| number_of(tree.longest(text)) != *number),
+    )
+}
+
+#[test]
+fn the_longest_key_that_begins_a_text_is_found(rt: HostRuntime) -> Result<(), Fail> {
+    let wrong = first_wrong_begun(rt.alloc())?;
+    assert!(rt; wrong.is_none(), "{wrong:?}");
+    Ok(())
+}
+
 /// Whether a key is one that a walk gives.
 fn is_asked(kind: Kind, asked: &[u8], key: &[u8]) -> bool {
     match kind {

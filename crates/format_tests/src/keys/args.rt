@@ -7,7 +7,7 @@ use std::alloc::{AllocError, Global};
 use std::test::Fail;
 
 /// Arguments, and their exact key in hexadecimal or the refusal.
-const EXACT: [(Sample, &str, &str); 27] = [
+const EXACT: [(Sample, &str, &str); 28] = [
     (Sample::Str(true), "[\"Ann\"]", "616e6e00"),
     (Sample::Str(false), "[\"\"]", "00"),
     (Sample::Str(false), "[]", "ArgCount"),
@@ -34,6 +34,11 @@ const EXACT: [(Sample, &str, &str); 27] = [
         "123456789abcdef0123456789abcdef0",
     ),
     (Sample::Uuid, "[\"\"]", "BadUuid"),
+    (
+        Sample::Uuid,
+        "[\"12345678-9abc-def0-1234-56789abcdef\"]",
+        "BadUuid",
+    ),
     (Sample::Pair(true), "[\"a\",\"b\"]", "61006200"),
     (Sample::Pair(true), "[\"a\"]", "ArgCount"),
     (Sample::Mixed, "[\"a\",7]", "610007"),
@@ -42,7 +47,7 @@ const EXACT: [(Sample, &str, &str); 27] = [
 ];
 
 /// Arguments, and their key in the prefix form, in hexadecimal, or the refusal.
-const PREFIXES: [(Sample, &str, &str); 22] = [
+const PREFIXES: [(Sample, &str, &str); 23] = [
     (Sample::Str(false), "[\"ann\"]", "616e6e"),
     (Sample::Str(false), "[\"\"]", ""),
     (Sample::Str(false), "[1]", "ArgKind"),
@@ -55,6 +60,7 @@ const PREFIXES: [(Sample, &str, &str); 22] = [
     (Sample::Uuid, "[\"-1-2-aB-\"]", "12ab"),
     (Sample::Uuid, "[\"\"]", ""),
     (Sample::Uuid, "[\"12-3\"]", "BadUuid"),
+    (Sample::Uuid, "[\"123\"]", "BadUuid"),
     (Sample::Uuid, "[\"-----\"]", "BadUuid"),
     (Sample::Uuid, "[\"1g\"]", "BadUuid"),
     (

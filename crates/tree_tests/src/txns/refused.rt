@@ -5,6 +5,9 @@ use mdb_datum::Row;
 use std::alloc::{AllocError, Global};
 use std::test::Fail;
 
+/// What is told where a write was refused, and left what it should.
+pub(super) const REFUSED: &str = "a write was refused, and all is kept";
+
 /// One write of a mixed run: an insert, a delete or a delete by prefix of a key of few letters.
 fn write(work: &mut Work, row: &Row, step: u8) -> Result<(), AllocError> {
     let long: [u8; 40] = [step % 3; 40];
@@ -25,35 +28,35 @@ fn is_left(work: &mut Work, row: &Row, step: u8) -> bool {
     refused == work.txn().spoiled() && (!refused || work.txn().len() == before)
 }
 
-/// Makes writes until one is refused, and tells whether each left what it should.
-fn are_left(work: &mut Work, row: &Row) -> bool {
+/// Makes writes, and tells whether each left what it should. The first refused one is the last, and
+/// an error.
+fn are_left(work: &mut Work, row: &Row) -> Result<bool, Fail> {
     for step in 0..60u8 {
         if !is_left(work, row, step) {
-            return false;
+            return Ok(false);
         }
         if work.txn().spoiled() {
-            return true;
+            return Err(Fail::new(REFUSED));
         }
     }
-    true
+    Ok(true)
 }
 
 /// The same on an empty tree.
-fn mixed_run(alloc: Global, row: &Row) -> Result<bool, AllocError> {
+fn mixed_run(alloc: Global, row: &Row) -> Result<bool, Fail> {
     let mut work = Work::new(alloc)?;
-    Ok(are_left(&mut work, row))
+    are_left(&mut work, row)
 }
 
 /// A run with a row without members.
-fn bare_run(alloc: Global) -> Result<bool, AllocError> {
+fn bare_run(alloc: Global) -> Result<bool, Fail> {
     let row = row_of(alloc, "{}")?;
     mixed_run(alloc, &row)
 }
 
-// It passes whichever allocation fails, also before the first write.
+// Where an allocation fails it ends in an error, which tells a refused write.
 #[test]
 fn a_refused_write_leaves_the_pairs(rt: HostRuntime) -> Result<(), Fail> {
-    let told = bare_run(rt.alloc());
-    assert!(rt; told.unwrap_or(true));
+    assert!(rt; bare_run(rt.alloc())?);
     Ok(())
 }

@@ -1,6 +1,7 @@
 //! Each allocation may fail: a write that is refused, of a transaction that changes its own nodes in
 //! place, leaves the pairs that were there, and each tree that was given before as it was.
 use super::drawn::{Given, are_kept, give, is_tree_of};
+use super::refused::REFUSED;
 use super::run::{Plain, put_both, take_all_both, take_both};
 use super::written::Work;
 use std::alloc::{AllocError, Global};
@@ -82,29 +83,35 @@ fn end_at(
     Ok(end_with(alloc, work, plain, line, &before))
 }
 
-/// Makes the writes, of which the first refused one is the last, and gives a tree before each fifth.
-/// Tells whether all are kept.
-fn writes_leave(
+/// Makes the writes up to the first that is refused or answered otherwise, and gives a tree before
+/// each fifth. Tells what the last one left, where it isn't the last of all.
+fn end_of(
     alloc: Global,
     work: &mut Work,
     plain: &mut Plain,
     trees: &mut Vec<Given>,
-) -> Result<bool, AllocError> {
+) -> Result<Option<bool>, AllocError> {
     for (place, line) in WRITES.iter().enumerate() {
         if place % 5 == 0 {
             give(work, plain, trees)?;
         }
-        if let Some(told) = end_at(alloc, work, plain, *line).transpose() {
-            return Ok(told? && are_kept(trees));
+        let told = end_at(alloc, work, plain, *line)?;
+        if told.is_some() {
+            return Ok(told);
         }
     }
-    Ok(are_kept(trees))
+    Ok(None)
 }
 
-/// The same with no tree given before.
-fn own_writes_leave(alloc: Global, work: &mut Work, plain: &mut Plain) -> Result<bool, AllocError> {
+/// The same with no tree given before. Tells whether all is kept; where a write was refused, that is
+/// an error.
+fn own_writes_leave(alloc: Global, work: &mut Work, plain: &mut Plain) -> Result<bool, Fail> {
     let mut trees = Vec::new(alloc);
-    writes_leave(alloc, work, plain, &mut trees)
+    let told = end_of(alloc, work, plain, &mut trees)?;
+    match (told, are_kept(&trees)) {
+        (Some(true), true) => Err(Fail::new(REFUSED)),
+        (told, kept) => Ok(told.is_none() && kept),
+    }
 }
 
 /// Makes the writes of the base, and tells whether each was answered alike.
@@ -118,28 +125,27 @@ fn is_begun(alloc: Global, work: &mut Work, plain: &mut Plain) -> Result<bool, A
 }
 
 /// The same in a new transaction on the tree of the base.
-fn base_leaves(alloc: Global, work: &mut Work, plain: &mut Plain) -> Result<bool, AllocError> {
+fn base_leaves(alloc: Global, work: &mut Work, plain: &mut Plain) -> Result<bool, Fail> {
     let begun = is_begun(alloc, work, plain)?;
     work.renew()?;
     Ok(begun && own_writes_leave(alloc, work, plain)?)
 }
 
 /// The same from an empty map on.
-fn run_with(alloc: Global, work: &mut Work) -> Result<bool, AllocError> {
+fn run_with(alloc: Global, work: &mut Work) -> Result<bool, Fail> {
     let mut plain = BTreeMap::new(alloc);
     base_leaves(alloc, work, &mut plain)
 }
 
 /// The same from an empty tree on.
-fn run(alloc: Global) -> Result<bool, AllocError> {
+fn run(alloc: Global) -> Result<bool, Fail> {
     let mut work = Work::new(alloc)?;
     run_with(alloc, &mut work)
 }
 
-// It passes whichever allocation fails, also before the first write.
+// Where an allocation fails it ends in an error, which tells a refused write.
 #[test]
 fn a_refused_write_leaves_the_given_trees(rt: HostRuntime) -> Result<(), Fail> {
-    let told = run(rt.alloc());
-    assert!(rt; told.unwrap_or(true));
+    assert!(rt; run(rt.alloc())?);
     Ok(())
 }
