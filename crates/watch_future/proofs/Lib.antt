@@ -1,3 +1,4 @@
+pub mod Ended
 pub mod Moving
 pub mod Noted
 pub mod PollsAgain

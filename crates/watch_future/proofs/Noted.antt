@@ -1,5 +1,5 @@
 -- One more note of a list, and one more watch of a set.
-use Rattle.std.proofs.Common.{◌≡◌, ◌∙◌, ◌<◌, ◌++◌, ℕ, zero, suc, List, [], ◌∷◌, take, length, Option, Some, None, Result, Ok, Err, OnErr, option_map, slice_get, append_assoc, append-nil, refl, sym, ap, subst, add-one, ◌+◌, arith}
+use Rattle.std.proofs.Common.{◌≡◌, ◌∙◌, ◌<◌, ◌++◌, ℕ, zero, suc, List, [], ◌∷◌, take, length, Option, Some, None, Result, Ok, Err, OnErr, option_map, slice_get, append_assoc, append-nil, refl, sym, ap, add-one, ◌+◌, arith}
 use Rattle.mem_txn.specs.Held.{HeldWatch}
 use mathlib.Core.List.{IsPrefix}
 use Rattle.watch_future.specs.Cells.{ArePartlyNoted, cell_of, cells_awaited, cells_of, with_cells}

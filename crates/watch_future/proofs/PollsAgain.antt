@@ -1,5 +1,5 @@
 -- Polls of a set, one after the other.
-use Rattle.std.proofs.Common.{◌≡◌, ◌∙◌, ◌<◌, ◌⊎◌, inl, inr, ◌++◌, ℕ, zero, suc, List, [], ◌∷◌, length, Option, Some, None, option_copied, Result, Ok, Err, IfOk, IfSome, Bor, MutBor, refl, sym, ap, subst, arith}
+use Rattle.std.proofs.Common.{◌≡◌, ◌∙◌, ◌<◌, inl, inr, ℕ, zero, suc, List, [], ◌∷◌, length, Option, Some, None, option_copied, Result, Ok, Err, IfOk, IfSome, Bor, MutBor, refl, sym, ap, subst, arith}
 use Rattle.std.specs.Prelude.{IsSomeAnd}
 use Rattle.std.specs.declared.alloc.AllocError.{AllocError}
 use Rattle.futures.specs.Poll.{OnPending}
@@ -9,7 +9,7 @@ use Rattle.logbook.specs.Pages.{Book}
 use Rattle.mem_txn.specs.Checked.{IsHeldBy}
 use Rattle.mem_txn.specs.Database.{Caller, Database}
 use Rattle.mem_txn.specs.Held.{HeldWatch}
-use Rattle.watch_set.specs.Checks.{AnswersLook, AnswersWait, AreQuietLooks, IsQuietLook, KeepsHeld, OnlyLooks, with_until}
+use Rattle.watch_set.specs.Checks.{AnswersWait, AreQuietLooks, IsQuietLook, KeepsHeld, OnlyLooks, with_until}
 use Rattle.watch_set.specs.Members.{AreHeldBy, Member, watches_of}
 use Rattle.watch_set.specs.declared.woken.Woken.{Woken}
 use Rattle.watch_set.proofs.ChecksInTurn.{all_kept, looks_after, same_database}
@@ -18,7 +18,6 @@ use Rattle.watch_future.specs.Futures.{GivesBack, HasWaited}
 use Rattle.watch_future.specs.Kept.{cells_kept}
 use Rattle.watch_future.specs.Polls.{AnswersPoll, CanPoll, MayHaveLooked}
 use Rattle.watch_future.specs.declared.kept.Kept.{Kept}
-use Rattle.watch_word.specs.Logs.{Cell}
 
 -- a set that has members has cells to note
 pub some_awaited : (ms : List Member) (until : Option HeldWatch) → 0 < length ms → 0 < length (cells_awaited ms until)

@@ -1,10 +1,9 @@
 -- Sources that a poll has registered at.
-use Rattle.std.proofs.Common.{◌≡◌, ◌∙◌, ◌<◌, ◌++◌, ◌⊎◌, inl, inr, ℕ, List, [], ◌∷◌, length, Option, Some, Result, refl, sym, ap, subst, arith}
-use Rattle.std.proofs.lemmas.List.{length-append}
+use Rattle.std.proofs.Common.{◌≡◌, ◌∙◌, ◌<◌, ◌++◌, inl, inr, ℕ, List, [], ◌∷◌, length, Option, Some, Result, sym, ap, subst, arith}
 use Rattle.futures.specs.Poll.{OnPending}
 use Rattle.futures.specs.declared.task.Poll.{Poll}
 use Rattle.futures.specs.declared.task.Poll.TheVariants.{Ready, Pending}
-use Rattle.futures.specs.Task.{Covers, Hears, Holds, IsArmed, Keeps, Lasting}
+use Rattle.futures.specs.Task.{Covers, Hears, IsArmed, Keeps, Lasting}
 use Rattle.futures.specs.declared.task.context.Context.{Context}
 use Rattle.watch_future.specs.inner.AtContext.{AreHeard, IsInOrder, Noting, lasts_at}
 use Rattle.watch_future.specs.Cells.{with_cells}

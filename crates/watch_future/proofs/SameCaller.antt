@@ -1,5 +1,5 @@
 -- A pass that has looked is the same caller's.
-use Rattle.std.proofs.Common.{◌≡◌, ◌∙◌, ◌⊎◌, inl, inr, ℕ, sym, ap, subst}
+use Rattle.std.proofs.Common.{◌∙◌, inl, inr, ℕ, sym, ap, subst}
 use Rattle.mem_txn.specs.CallerOf.{IsCaller}
 use Rattle.mem_txn.specs.Database.{Caller, Database}
 use Rattle.watch_set.proofs.ChecksInTurn.{same_database}

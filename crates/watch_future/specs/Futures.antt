@@ -48,6 +48,7 @@ pub record Waits {R : Type 0} (old new : WatchFuture R) : Type 0 where
   pub until : new.until ≡ old.until
 
 -- behind a ready poll the pass is gone
-abbrev pub GoesOn : {R : Type 0} → WatchFuture R → WatchFuture R → Poll (MutBor Caller × Result Woken AllocError) → Type 0
+abbrev pub GoesOn : {R : Type 0} → WatchFuture R → WatchFuture R → Poll (MutBor Caller × Result Woken AllocError)
+    → Type 0
 GoesOn old new Pending = Waits old new
 GoesOn old new (Ready r) = new.pass ≡ None

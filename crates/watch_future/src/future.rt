@@ -17,7 +17,10 @@ use watch_set::{WatchSet, Woken};
 
 /// Waits until a watch of a set has fired, or what cancels has. Each poll is a [`crate::poll_watch`]
 /// that registers at its context. It gives the pass back with what it found, so that whoever ran it
-/// can read what has changed. To drop it withdraws what it has registered.
+/// can read what has changed. One that isn't polled any more is ended by [`WatchFuture::end`], which
+/// gives the pass back too: a drop also withdraws what was registered, but nothing is known of the
+/// pass behind it, and a database is closed with all of its passes. It can't be polled again once a
+/// poll was ready, and may be moved between polls.
 #[derive(Drop)]
 pub struct WatchFuture<'a, R> {
     rt: &'a R,
@@ -59,7 +62,8 @@ impl<'a, R: Wait> WatchFuture<'a, R> {
         }
     }
 
-    /// Ends the future and gives the pass back, which is there until a poll is ready.
+    /// Ends the future, withdraws what it has registered, and gives the pass back, which is there
+    /// until a poll is ready.
     pub fn end(self) -> Option<&'a mut Pass>
         ensures { result ≡ self.entry.pass }
     {

@@ -17,8 +17,6 @@ mod note_list;
 mod noting;
 mod poll;
 pub mod poll_laws;
-#[cfg(test)]
-mod tests;
 
 pub use future::WatchFuture;
 pub use note_list::NoteList;

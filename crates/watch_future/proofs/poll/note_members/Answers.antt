@@ -1,4 +1,3 @@
-use Rattle.std.proofs.Common.{rules}
 use Rattle.watch_future.proofs.Noted.{one_noted, part_noted}
 use Rattle.watch_future.proofs.poll.note_members.Goals as goal
 
