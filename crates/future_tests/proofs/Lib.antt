@@ -1,0 +1,2 @@
+pub mod StillCan
+pub mod ThreeBack
