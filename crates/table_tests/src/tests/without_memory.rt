@@ -3,11 +3,14 @@
 use super::drawn::{NAMES, Random, SCHEMA, Write, whole};
 use super::mixed::told;
 use super::work::{Base, Work};
-use super::{Told, begun, right};
+use super::{Told, begun};
 use mdb_schema::WriteError;
 use std::alloc::{AllocError, Global};
 use std::test::Fail;
 use table_index::WipeError;
+
+/// What is told where a write was refused, and left what it should.
+const REFUSED: &str = "a write was refused, and all is kept";
 
 /// The texts of the rows of an index.
 fn rows_of(alloc: Global, table: &Base, name: &'static str) -> Result<Vec<u8>, AllocError> {
@@ -58,41 +61,53 @@ fn one_spoils(alloc: Global, random: &mut Random, txn: &mut Work) -> Told {
     Ok(true)
 }
 
-/// The same of a new change of a table.
-fn one_spoils_anew(alloc: Global, random: &mut Random, table: &Base) -> Told {
+/// The same of a new change of a table, and whether it is spoiled then.
+fn one_spoils_anew(
+    alloc: Global,
+    random: &mut Random,
+    table: &Base,
+) -> Result<(bool, bool), AllocError> {
     let mut txn = table.txn()?;
-    one_spoils(alloc, random, &mut txn)
+    let right = one_spoils(alloc, random, &mut txn)?;
+    Ok((right, txn.spoiled()))
 }
 
-/// The same, and whether each index of the table lists the same rows as before.
-fn is_kept(alloc: Global, random: &mut Random, table: &Base) -> Told {
+/// The same, and whether each index of the table lists the same rows as before. Where a write was
+/// refused, and they do, it is an error.
+fn is_kept(alloc: Global, random: &mut Random, table: &Base) -> Result<bool, Fail> {
     let before = listed(alloc, table)?;
-    let spoils = one_spoils_anew(alloc, random, table)?;
-    Ok(spoils && listed(alloc, table)? == before)
+    let (right, spoiled) = one_spoils_anew(alloc, random, table)?;
+    let kept = right && listed(alloc, table)? == before;
+    if kept && spoiled {
+        return Err(Fail::new(REFUSED));
+    }
+    Ok(kept)
 }
 
-/// The same of the table of a change, where that isn't spoiled.
-fn is_kept_by(alloc: Global, random: &mut Random, txn: &mut Work) -> Told {
+/// The same of the table of a change. Where that is spoiled, it is an error.
+fn is_kept_by(alloc: Global, random: &mut Random, txn: &mut Work) -> Result<bool, Fail> {
     if txn.spoiled() {
-        return Ok(true);
+        return Err(Fail::new(REFUSED));
     }
     let table = txn.stand()?;
     is_kept(alloc, random, &table)
 }
 
 /// The same after drawn writes in the change, of which one alone may spoil it.
-fn is_kept_after(alloc: Global, txn: &mut Work) -> Told {
+fn is_kept_after(alloc: Global, txn: &mut Work) -> Result<bool, Fail> {
     let mut random = Random(0x2545_f491_4f6c_dd1d);
     Ok(one_spoils(alloc, &mut random, txn)? && is_kept_by(alloc, &mut random, txn)?)
 }
 
-/// The same on a new table. It is so whichever allocation of a write fails.
-fn is_always_kept(alloc: Global) -> Told {
+/// The same on a new table.
+fn is_always_kept(alloc: Global) -> Result<bool, Fail> {
     let mut txn = begun(alloc, SCHEMA)?;
-    Ok(is_kept_after(alloc, &mut txn).unwrap_or(true))
+    is_kept_after(alloc, &mut txn)
 }
 
+// Where an allocation fails it ends in an error, which tells a refused write.
 #[test]
 fn a_refused_write_leaves_the_table(rt: HostRuntime) -> Result<(), Fail> {
-    right(is_always_kept(rt.alloc())?, "another table")
+    assert!(rt; is_always_kept(rt.alloc())?);
+    Ok(())
 }
