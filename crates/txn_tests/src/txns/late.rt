@@ -21,7 +21,7 @@ const NOBODY: Question = (Ask::First, "users", "id", r#"["foo"]"#);
 const FOO: &[Step] = &[Step::Insert(("users", r#"{"name":"foo","age":1}"#, "inserted"))];
 
 /// Whether a watch has fired, asked by a front of its database.
-fn has_moved(db: &Db, pass: &Pass, held: &Held) -> bool
+pub(super) fn has_moved(db: &Db, pass: &Pass, held: &Held) -> bool
     requires own { IsOf db.now pass.now }
     requires held { IsHeldBy pass.now held.now }
 {

@@ -6,6 +6,7 @@ ghost use Rattle.mem_txn.specs.Checked.{IsBeginning, IsHeldBy};
 ghost use Rattle.mem_txn.specs.CallerOf.{IsCaller};
 ghost use Rattle.mem_txn.specs.Held.{IsHeldOf};
 
+use super::late::has_moved;
 use super::worked::{Asked, Step, Steps};
 use super::{Told, closed, is_made, is_told, pair, query_of, transact};
 use mdb_schema::{Answer, Ask, Query};
@@ -129,20 +130,20 @@ fn hold<R: Wait>(
 }
 
 /// Whether a question has another cell than its watch.
-fn has_moved(held: &Held, read: &ReadTxn) -> Told {
+fn has_another(held: &Held, read: &ReadTxn) -> Told {
     let (_, again) = watched_of(read, held.query())?;
     Ok(again.id() != held.id())
 }
 
-/// Whether a check after the second commit tells so, and the question has another cell exactly
-/// where the watch fires.
-fn is_look(look: Look, moved: Told, fires: bool) -> Told {
+/// Whether a check after the second commit tells so, and exactly where the watch fires it has moved
+/// and the question has another cell.
+fn is_look(look: Look, moved: bool, other: Told, fires: bool) -> Told {
     let expected = if fires {
         Look::Fired { at: 2 }
     } else {
         Look::Quiet { at: 2 }
     };
-    Ok(look == expected && moved? == fires)
+    Ok(look == expected && moved == fires && other? == fires)
 }
 
 /// Whether a watch is found so.
@@ -151,9 +152,10 @@ fn is_found<R: Wait>(rt: &R, db: &Db, pass: &mut Pass, held: &Held, fires: bool)
     requires held { IsHeldBy pass.old held.now }
     ensures { IsCaller db.now 1 pass.new }
 {
+    let moved = has_moved(db, pass, held);
     let look = db.check(rt, pass, held)?;
     let read = db.read(rt, pass)?;
-    is_look(look, has_moved(held, &read), fires)
+    is_look(look, moved, has_another(held, &read), fires)
 }
 
 /// The second commit, of the first of two callers or of the other one.
