@@ -12,6 +12,8 @@ mod arguments;
 mod catalogue;
 mod clients;
 mod held;
+mod hostile;
+mod limits;
 mod made;
 mod sessions;
 mod tracked;
@@ -28,8 +30,10 @@ type File = (&'static str, &'static [Part]);
 enum Want {
     /// This text under this status.
     Ends(u8, &'static str),
-    /// Under status 6 the front of `ANN_OUT`: so many pieces of 7 bytes.
-    Cut(u8),
+    /// Under status 6 the front of this text: so many pieces of 7 bytes.
+    Front(&'static str, u8),
+    /// Under status 0 so many lines, the last of which are these.
+    Lines(usize, &'static str),
     /// One of these texts under status 0.
     OneOf(&'static [&'static str]),
     /// Nothing under status 4, or else one of these texts under 0.
@@ -256,7 +260,7 @@ fn failing(alloc: Global, call: u64) -> Result<CallList, AllocError> {
 
 /// A sink that takes 7 bytes a call, of which one may fail.
 fn sink(alloc: Global, call: u64) -> Result<MemSink, AllocError> {
-    MemSink::of(alloc, 65_536, 7, failing(alloc, call)?)
+    MemSink::of(alloc, 1_048_576, 7, failing(alloc, call)?)
 }
 
 /// Whether these are the bytes of one of the texts.
@@ -264,9 +268,14 @@ fn is_one_of(bytes: &[u8], texts: &[&str]) -> bool {
     texts.iter().any(|text| text.as_bytes() == bytes)
 }
 
-/// Whether these are the first bytes of `ANN_OUT`, in so many pieces, under status 6.
-fn is_front(status: u8, bytes: &[u8], pieces: u8) -> bool {
-    status == 6 && ANN_OUT.as_bytes().get(..usize::from(pieces) * 7) == Some(bytes)
+/// Whether these are the first bytes of a text, in so many pieces, under status 6.
+fn is_front(status: u8, bytes: &[u8], text: &str, pieces: u8) -> bool {
+    status == 6 && text.as_bytes().get(..usize::from(pieces) * 7) == Some(bytes)
+}
+
+/// Whether these are so many lines, the last of which are those of a text.
+fn are_lines(bytes: &[u8], count: usize, last: &str) -> bool {
+    bytes.iter().filter(|byte| **byte == b'\n').count() == count && bytes.ends_with(last.as_bytes())
 }
 
 /// Whether what a run wrote under a status is all of one of the texts, or nothing for want of
@@ -287,7 +296,8 @@ fn is_wanted(alloc: Global, status: u8, bytes: &[u8], want: Want) -> Result<bool
         _ if status == 4 && bytes.is_empty() => Err(AllocError),
         Want::OneOf(texts) => Ok(is_all_or_nothing(status, bytes, texts)),
         Want::Ends(wanted, text) => Ok(status == wanted && bytes == text.as_bytes()),
-        Want::Cut(pieces) => Ok(is_front(status, bytes, pieces)),
+        Want::Front(text, pieces) => Ok(is_front(status, bytes, text, pieces)),
+        Want::Lines(count, last) => Ok(status == 0 && are_lines(bytes, count, last)),
         Want::TwoHundred => are_two_hundred(alloc, bytes),
         Want::SixtyFour => are_sixty_four(alloc, bytes),
     }
@@ -459,44 +469,6 @@ static FILES: [Run; 6] = [
 #[test]
 fn absent_files_and_files_past_a_limit_are_told(rt: HostRuntime) -> Result<(), Fail> {
     all_hold(&rt, rt.alloc(), &FILES)
-}
-
-/// Each file takes two calls: its bytes, and its end.
-static FILE_CALLS: [Run; 5] = [
-    ("run S c1", LAWFUL, (1, 0), UNREAD_S),
-    ("run S c1", LAWFUL, (2, 0), UNREAD_S),
-    ("run S c1", LAWFUL, (3, 0), UNREAD_C1),
-    ("run S c1", LAWFUL, (4, 0), UNREAD_C1),
-    ("run S c1", LAWFUL, (5, 0), Want::Ends(0, ANN_OUT)),
-];
-
-#[test]
-fn a_call_of_the_files_that_fails_is_told(rt: HostRuntime) -> Result<(), Fail> {
-    all_hold(&rt, rt.alloc(), &FILE_CALLS)
-}
-
-/// Whether a run whose call of the sink fails after so many has written their pieces alone.
-fn is_cut<R: Threads + Wait + Sync>(rt: &R, alloc: Global, taken: u8) -> Result<bool, AllocError> {
-    let calls = (0, u64::from(taken) + 1);
-    is_held(rt, alloc, &("run S c1", LAWFUL, calls, Want::Cut(taken)))
-}
-
-/// After how many calls the run is cut so, up to the first after which it isn't.
-fn count_cut<R: Threads + Wait + Sync>(rt: &R, alloc: Global, calls: u8) -> Result<u8, AllocError> {
-    for taken in 0..calls {
-        if !is_cut(rt, alloc, taken)? {
-            return Ok(taken);
-        }
-    }
-    Ok(calls)
-}
-
-// The text of 98 bytes takes 14 calls.
-#[test]
-fn a_call_of_the_sink_that_fails_leaves_the_front(rt: HostRuntime) -> Result<(), Fail> {
-    let count = count_cut(&rt, rt.alloc(), 14)?;
-    assert!(rt; count == 14, "after {count}");
-    Ok(())
 }
 
 static ALL_OR_NOTHING: [Run; 1] = [("run S c1", LAWFUL, (0, 0), Want::AllOrNothing(&[ANN_OUT]))];

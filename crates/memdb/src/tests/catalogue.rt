@@ -1,6 +1,6 @@
 //! A session over a catalogue of nodes and services: keys in lower case, of two parts, of each
 //! member of a map, and of a test.
-use super::{Row, all_answered};
+use super::{File, Row, all_answered};
 use std::test::Fail;
 
 const SCHEMA: &str = r#"{"memdb":1,"tables":{
@@ -37,7 +37,9 @@ read
 get services service ["API"]
 "#;
 
-const OUT: &str = r#"client 1 c1
+pub(super) const FILES: &[File] = &[("S", &[(SCHEMA, 1)]), ("c1", &[(CATALOGUE, 1)])];
+
+pub(super) const OUT: &str = r#"client 1 c1
 1: write @0
 2: inserted
 3: inserted

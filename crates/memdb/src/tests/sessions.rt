@@ -190,7 +190,7 @@ first keys id ["12345678-9abc-def0-1234-56789abcdef"]
 "#,
 );
 
-/// A row can be deleted once.
+/// A row can be deleted once, and a watch that was refused isn't there.
 const REPEATED: Row = (
     SCHEMA,
     r#"write
@@ -199,9 +199,20 @@ delete users {"name":"bob"}
 delete users {"name":"bob"}
 commit
 read
+watch w lower users age [1]
+check w
 "#,
     0,
-    "client 1 c1\n1: write @0\n2: inserted\n3: deleted\n4: refused not-found\n5: commit @1\n6: read @1\n",
+    r#"client 1 c1
+1: write @0
+2: inserted
+3: deleted
+4: refused not-found
+5: commit @1
+6: read @1
+7: refused unwatchable
+8: refused unknown-name
+"#,
 );
 
 const EACH_RULE: Row = (

@@ -274,7 +274,7 @@ wait r until c
 "#,
 );
 
-/// What isn't committed can't be watched, nor a question for bounds.
+/// What isn't committed can't be watched.
 const UNCOMMITTED: Row = (
     SCHEMA,
     r#"write
@@ -288,8 +288,6 @@ in s first users id ["a"]
 watch w in s first users id ["a"]
 read
 get users id
-watch w lower users age [1]
-check w
 "#,
     0,
     r#"client 1 c1
@@ -305,8 +303,6 @@ check w
 9: refused uncommitted
 10: read @0
 11: rows 0
-12: refused unwatchable
-13: refused unknown-name
 "#,
 );
 
