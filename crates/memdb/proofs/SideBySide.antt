@@ -2,7 +2,9 @@
 use Rattle.std.proofs.Common.{arith, ap, refl, ◌∙◌, ◌≡◌, subst, sym, ℕ, ◌+◌, ◌≤◌, length, List, [], ◌∷◌, ◌++◌, None, Result, Ok, Err, OnOk, slice_get}
 use Rattle.std.proofs.lemmas.List.{append-nil, append_assoc, length-append}
 use Rattle.client_script.specs.declared.line.Line.{Line}
+use Rattle.client_session.specs.Answered.{IsLater}
 use Rattle.client_session.specs.Progress.{Progress}
+use Rattle.mem_txn.proofs.OneHistory.{later_itself}
 use Rattle.mem_txn.specs.Database.{AreOf, Caller, Callers, Database, IsOf}
 use Rattle.memdb.specs.inner.Sessions.{AreLater, AreReady, HaveAnswered, begun, callers_back}
 
@@ -33,6 +35,28 @@ later_in all ss ts us vs is a b = subst (λ (xs : List Progress). AreLater xs (u
 pub answered_in : {E : Type 0} (r : Result (Unit {0}) E) (all ss ts us vs : List Progress) → all ≡ ss ++ ts → OnOk r (HaveAnswered ss us) → OnOk r (HaveAnswered ts vs) → OnOk r (HaveAnswered all (us ++ vs))
 answered_in (Ok x) all ss ts us vs is a b = subst (λ (xs : List Progress). HaveAnswered xs (us ++ vs)) (sym is) (answered_both ss ts us vs a b)
 answered_in (Err e) all ss ts us vs is a b = tt
+
+-- ---- sessions that aren't begun are as before
+
+later_self : (p : Caller) → IsLater p p
+later_self p = record {
+  number = refl;
+  database = refl;
+  schema = refl;
+  book = refl;
+  seen = ([], append-nil p.seen);
+  trees = ([], append-nil p.trees);
+  counts = ([], append-nil p.counts);
+  tries = ([], append-nil p.tries);
+  log = later_itself p.log;
+}
+
+later_selves : (ss : List Progress) → AreLater ss ss
+later_selves [] = tt
+later_selves (s ∷ ss) = (later_self s.caller, later_selves ss)
+
+pub later_same : (ss ts : List Progress) → ts ≡ ss → AreLater ss ts
+later_same ss ts same = subst (AreLater ss) (sym same) (later_selves ss)
 
 -- ---- the beginning: no script is left, and so no pass
 

@@ -4,8 +4,9 @@
 //! hold, an answer of 0 says that the bytes written are answers in one history, and every other
 //! answer has its cause. The modules below it read the words, run the clients' sessions on a
 //! database (`client_session`), and say what is written; `run_io` loads the files and writes the
-//! text. `main` hands it the host's arguments, the real files and the real output. Of these files
-//! and this output nothing is claimed but counts and causes.
+//! text. `main` hands it the host's arguments, the real files and the real output, on a thread whose
+//! stack is large enough (`deep_thread`). Of these files and this output nothing is claimed but
+//! counts and causes.
 #![tactic(auto)]
 
 mod answers;
@@ -29,6 +30,8 @@ ghost use Rattle.memdb.specs.Outcome.{HasEnded};
 ghost use Rattle.run_io.specs.Observed.{observed};
 
 use crate::arguments::words_of;
+use crate::sessions::STACK;
+use deep_thread::call_deep;
 use mdb_ports::{DirFiles, Files, OpenGate, OutSink, Sink};
 use std::alloc::{AllocError, Global};
 use std::process::ExitCode;
@@ -37,12 +40,15 @@ use std::thread::Threads;
 use std::{env, io};
 
 /// Carries out the command of the host's arguments, over the real files and the real output, and
-/// ends with its status.
+/// ends with its status. All of it is done on a thread with a large stack, for the first thread has
+/// as much as the host's limit says. Where that thread can't be had the status is 4.
 fn main(rt: HostRuntime) -> ExitCode {
-    let mut files = DirFiles::new(&rt);
-    let mut out = OutSink::new(&rt);
-    let args = env::args(&rt);
-    ExitCode::from(run_arguments(&rt, rt.alloc(), args, &mut files, &mut out))
+    let status = call_deep(&rt, STACK, || {
+        let mut files = DirFiles::new(&rt);
+        let mut out = OutSink::new(&rt);
+        run_arguments(&rt, rt.alloc(), env::args(&rt), &mut files, &mut out)
+    });
+    ExitCode::from(status.unwrap_or(4))
 }
 
 /// Carries out the command that the arguments behind the first are, and answers its status, as

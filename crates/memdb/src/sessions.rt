@@ -1,16 +1,18 @@
 //! The sessions of all clients: their beginning, their run side by side, and their end.
-ghost use Rattle.std.specs.Prelude.{◌≡◌, ◌+◌, ◌++◌, ◌≤◌, ◌∷◌, [], OnOk, length, vec_capacity};
+ghost use Rattle.std.specs.Prelude.{◌≡◌, ◌+◌, ◌++◌, ◌≤◌, ◌∷◌, [], IsErr, OnOk, length};
+ghost use Rattle.std.specs.Prelude.{vec_capacity};
 ghost use Rattle.std.specs.Thread.{IsSync};
 ghost use Rattle.mem_txn.specs.Database.{AreOf};
 ghost use Rattle.memdb.specs.inner.Sessions.{AreLater, AreReady, HaveAnswered, begun, callers_back};
 
 use client_script::Scripts;
 use client_session::Session;
+use deep_thread::join_deep;
 use mdb_ports::Gate;
 use mem_txn::{Db, Passes};
 use std::alloc::{AllocError, Global};
 use std::sync::Wait;
-use std::thread::{Threads, join_mut};
+use std::thread::Threads;
 
 /// A session for each script, the first with the first pass, put into the room that there is.
 pub fn begin_all(
@@ -36,6 +38,11 @@ pub fn begin_all(
     }
     sessions
 }
+
+/// The bytes of the stack of each thread that has trees in hand, whatever the host's own limit says.
+/// The deepest tree has a level for each byte of a key, 2,048 at most. It takes a little less than
+/// 1 MiB in the proved program, and several times as much where a program is run unproved.
+pub(crate) const STACK: usize = 8 * 1024 * 1024;
 
 /// Carries out every session, each on a thread of its own but the last, which this one has.
 #[cycle(run_all)]
@@ -79,8 +86,10 @@ fn run_one<R: Wait, G: Gate>(
     told
 }
 
-/// Carries out two lists of sessions side by side.
+/// Carries out two lists of sessions side by side, the first on a new thread. Where that can't be had,
+/// which is want of memory, neither is begun, and the waits of all sessions are ended.
 #[cycle(run_all)]
+#[tactic(auto, using(crate::proofs::SideBySide::later_same))]
 fn run_both<R: Threads + Wait + Sync, G: Gate + Sync>(
     rt: &R,
     db: &Db,
@@ -97,8 +106,9 @@ fn run_both<R: Threads + Wait + Sync, G: Gate + Sync>(
     ensures later_front { AreLater front.old front.new }
     ensures later_back { AreLater back.old back.new }
 {
-    let (first, second) = join_mut(
+    let (first, second) = join_deep(
         rt,
+        STACK,
         &mut || -> Result<(), AllocError>
             requires { IsSync R.row × IsSync G.row × AreReady db.now front.now }
             ensures { OnOk result (HaveAnswered front.entry.now front.exit.now)
@@ -110,7 +120,21 @@ fn run_both<R: Threads + Wait + Sync, G: Gate + Sync>(
                 × AreLater back.entry.now back.exit.now }
         { run_all(rt, db, gate, back) },
     );
-    first.and(second)
+    // Each case by itself, for what it leaves of the sessions is shown of each.
+    match (first, second) {
+        (Some(first), Some(second)) => first.and(second),
+        (Some(_), None) => without_thread(db),
+        (None, Some(_)) => without_thread(db),
+        (None, None) => without_thread(db),
+    }
+}
+
+/// Ends the waits of all sessions, where there is no thread for one.
+fn without_thread(db: &Db) -> Result<(), AllocError>
+    ensures { IsErr result }
+{
+    db.end_waits();
+    Err(AllocError)
 }
 
 /// Ends every session, and gives its pass back, the last first. It takes no memory.

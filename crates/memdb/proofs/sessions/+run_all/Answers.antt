@@ -20,5 +20,5 @@ pub run_all-returns-in_default-clause-later : goal.run_all-returns-in_default-cl
 run_all-returns-in_default-clause-later g t c =
     later_in c.args.sessions.now c.split_at_mut-front.result.0.now c.split_at_mut-front.result.1.now c.run_both.new.front c.run_both.new.back c.split_at_mut-front.ensures.value c.run_both.ensures.later_front c.run_both.ensures.later_back
 
-pub run_both-join_mut-first-requires-send-F : goal.run_both-join_mut-first-requires-send-F
-run_both-join_mut-first-requires-send-F g t c κs within = search (sendable, session_send, db_sync, c.requires.sync) depth 30 fits 20000
+pub run_both-join_deep-first-requires-send-F : goal.run_both-join_deep-first-requires-send-F
+run_both-join_deep-first-requires-send-F g t c κs within = search (sendable, session_send, db_sync, c.requires.sync) depth 30 fits 20000

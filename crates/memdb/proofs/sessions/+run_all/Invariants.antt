@@ -7,8 +7,8 @@ decreases-run_all g l = 4 * length l.sessions.now
 abbrev pub decreases-run_both : goal.decreases-run_both
 decreases-run_both g l = 4 * (length l.front.now + length l.back.now) - 1
 
-abbrev pub decreases-run_both-join_mut+arg2 : goal.decreases-run_both-join_mut+arg2
-decreases-run_both-join_mut+arg2 g l = 4 * length l.front.now + 1
+abbrev pub decreases-run_both-join_deep+arg3 : goal.decreases-run_both-join_deep+arg3
+decreases-run_both-join_deep+arg3 g l = 4 * length l.front.now + 1
 
-abbrev pub decreases-run_both-join_mut+arg3 : goal.decreases-run_both-join_mut+arg3
-decreases-run_both-join_mut+arg3 g l = 4 * length l.back.now + 1
+abbrev pub decreases-run_both-join_deep+arg4 : goal.decreases-run_both-join_deep+arg4
+decreases-run_both-join_deep+arg4 g l = 4 * length l.back.now + 1
