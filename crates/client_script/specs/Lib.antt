@@ -13,6 +13,7 @@ pub mod Reply
 pub mod Script
 pub mod Session
 pub mod Spent
+pub mod Stuck
 pub mod Turn
 pub mod Watching
 pub mod worked

@@ -92,6 +92,17 @@ until_judged v set until = do
   w ← watch_called until v
   Ok (s, w)
 
+-- the watches that a line waits for, the one that cancels the wait behind the members of the set;
+-- other lines wait for none
+abbrev pub awaited_by : WatchesCommand → Client → Judged (List Watch)
+awaited_by (watches_line.Wait set) v = do
+  s ← wait_judged v set
+  Ok s.members
+awaited_by (watches_line.WaitUntil set until) v = do
+  p ← until_judged v set until
+  Ok (p.0.members ++ p.1 ∷ [])
+awaited_by w v = Err []
+
 -- a line that breaks a rule is answered with its name and changes nothing; else it is told as said
 abbrev pub IsJudged : {A : Type 0} → Client → Judged A → Reply → Client → (A → Type 0) → Type 0
 IsJudged v (Err rule) r next said = (r ≡ refused rule) × (next ≡ v)

@@ -4,5 +4,6 @@ pub mod WorkedClients
 pub mod WorkedNames
 pub mod WorkedReplies
 pub mod WorkedSessions
+pub mod WorkedStuck
 pub mod WorkedTracked
 pub mod WorkedWatches

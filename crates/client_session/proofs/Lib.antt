@@ -8,7 +8,7 @@ mod IndexPlaces
 mod KeptSteps
 mod LooksTold
 mod OneMoreLine
-mod OpenTurns
+pub mod OpenTurns
 mod QuietBefore
 mod QuietMembers
 mod ReplyLines

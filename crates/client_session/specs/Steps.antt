@@ -2,14 +2,13 @@
 use Rattle.std.specs.Prelude.{◌≡◌, ◌⊎◌, ◌≤◌, ◌+◌, ◌++◌, ℕ, List, [], ◌∷◌}
 use Rattle.std.specs.Prelude.{Some, Result, Ok, Err, false, length, slice_get, take, ⊤}
 use Rattle.std.specs.declared.alloc.AllocError.{AllocError}
-use Rattle.mdb_schema.specs.Tests.{◌>>=◌}
 use Rattle.mem_txn.specs.Checked.{LooksOnce}
 use Rattle.mem_txn.specs.Database.{Caller}
 use Rattle.mem_txn.specs.Transactions.{HasLost, HasWon}
-use Rattle.client_script.specs.Client.{Client, Judged, Watch, at_start}
+use Rattle.client_script.specs.Client.{Client, Watch, at_start}
 use Rattle.client_script.specs.Reply.{Reply, lines_text}
 use Rattle.client_script.specs.Session.{Runs}
-use Rattle.client_script.specs.Watching.{IsQuiet, until_judged, wait_judged}
+use Rattle.client_script.specs.Watching.{IsQuiet, awaited_by}
 use Rattle.client_script.specs.declared.command.Command.{Command}
 use Rattle.client_script.specs.declared.command.Command.TheVariants as command
 use Rattle.client_script.specs.declared.command.TransactionCommand.TheVariants as transaction_line
@@ -39,17 +38,6 @@ HasDoneOnce (command.Watches (watches_line.WaitUntil set until)) old new = IsOne
 HasDoneOnce c old new = ⊤
 
 -- ---- waits that find nothing
-
--- the watches that a line waits for, the one that cancels the wait behind the members of the set;
--- other lines wait for none
-abbrev pub awaited_by : WatchesCommand → Client → Judged (List Watch)
-awaited_by (watches_line.Wait set) v = do
-  s ← wait_judged v set
-  Ok s.members
-awaited_by (watches_line.WaitUntil set until) v = do
-  p ← until_judged v set until
-  Ok (p.0.members ++ p.1 ∷ [])
-awaited_by w v = Err []
 
 -- a watch was quiet at one of the looks of a call: after a count of commits that the pass read in
 -- it
