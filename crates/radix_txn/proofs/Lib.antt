@@ -8,6 +8,7 @@ pub mod ChildShape
 pub mod EdgePlaces
 pub mod EditPlaces
 pub mod EditStays
+pub mod FewKeys
 pub mod InsertPairs
 pub mod InsertShape
 pub mod InsertSteps

@@ -15,7 +15,7 @@ use Rattle.radix_txn.proofs.Steps.{at, drawn_before, drawn_between, drawn_after,
 
 -- ---- membership and counts
 
-some_count : (i : ℕ) (c : Cell) → c.id ≡ i → count i (c ∷ []) ≡ 1
+pub some_count : (i : ℕ) (c : Cell) → c.id ≡ i → count i (c ∷ []) ≡ 1
 some_count i c e = ap (λ b. cond b 1 0 + 0) (eq-eqb c.id i e)
 
 pub counted : (c : Cell) (cs : List Cell) → Has c cs → 1 ≤ count c.id cs

@@ -42,8 +42,7 @@ pub struct Put {
 }
 
 /// The tree with a row under a key. It is changed in place as far as its nodes are the write's own
-/// and have no other owner. Beside want of memory it is refused where there are 2^64 - 1 keys
-/// already.
+/// and have no other owner. Its keys are fewer than the ids that were drawn for its cells.
 pub fn tree_with(tree: Tree, key: &[u8], row: &Row, cells: &mut Cells) -> Put
     requires left { cells.old.next + length key.now + 3 ≤ 2 ^ 63 }
     requires below { AreBelow cells.old.next tree }
@@ -95,25 +94,26 @@ fn put_root(
 ) -> Result<Placed, AllocError>
     requires shape { let n = bare (cell_ref root.old) in IsShapedBelow n.under }
     requires left { cells.old.next + length key.now + 3 ≤ 2 ^ 63 }
+    requires few { len < cells.old.next }
     ensures put { IfOk result (λ p. IsPut (key.now, row.now) key.now
         (cell_ref root.old) (cell_ref root.new) p.old cells.old cells.new) }
     ensures len { IfOk result (λ p. p.len ≡ (if is_some p.old then len else len + 1)) }
     ensures unchanged { OnErr result (cell_ref root.new ≡ cell_ref root.old) }
 {
-    let more = len.checked_add(1).ok_or(AllocError)?;
     let old = put_at(root, key, key, row, cells)?;
     Ok(Placed {
-        len: len_after(len, more, &old),
+        len: len_after(len, &old),
         old,
     })
 }
 
 /// How many keys there are after a put.
-fn len_after(len: u64, more: u64, old: &Option<Row>) -> u64
-    ensures { result ≡ (if is_some old.now then len else more) }
+fn len_after(len: u64, old: &Option<Row>) -> u64
+    requires { len < 2 ^ 63 }
+    ensures { result ≡ (if is_some old.now then len else len + 1) }
 {
     match old {
-        None => more,
+        None => len + 1,
         Some(_) => len,
     }
 }

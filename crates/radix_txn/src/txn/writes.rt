@@ -31,8 +31,8 @@ impl TreeTxn {
     /// Puts a row under a key, and gives the old row, if there was one. It takes memory for a copy
     /// of each shared node on the key's path and for what is new there, each with a new cell; the
     /// transaction's own nodes are changed in place, and a leaf of its own gets the row. It is
-    /// refused for want of memory, of room to count one more owner of a node or row, or where there
-    /// are 2^64 - 1 keys already, and then it spoils the transaction.
+    /// refused only for want of memory, or of room to count one more owner of a node or row; that
+    /// spoils the transaction.
     pub fn insert(
         &mut self,
         front: &Front,

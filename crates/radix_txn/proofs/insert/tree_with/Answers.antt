@@ -1,13 +1,20 @@
 -- The new root is the tree with the pair put.
-use Rattle.std.proofs.Common.{◌≡◌, ◌+◌, ◌∙◌, is_some, cond, length, refl, sym, ap, subst}
+use Rattle.std.proofs.Common.{arith, ◌≡◌, ◌+◌, ◌∙◌, is_some, cond, length, refl, sym, ap, subst}
 use Rattle.radix_node.specs.CellNode.{cell_ref, tree_at}
 use Rattle.radix_node.specs.Node.{PlainNode, below, node_of}
 use Rattle.radix_node.specs.Nodes.{Plain, pairs_of}
 use Rattle.radix_node.specs.Shape.{HasShape}
 use Rattle.radix_node.specs.inner.Siblings.{bare}
 use Rattle.radix_node.proofs.CellLevels.{bare_ref}
+use Rattle.radix_txn.proofs.FewKeys.{few_keys}
 use Rattle.radix_txn.proofs.PutTree.{put_apart, put_count, put_found, put_pairs, put_shape, put_stays, put_steps}
 use Rattle.radix_txn.proofs.insert.tree_with.Goals as goal
+
+pub put_root-requires-clause-few : goal.put_root-requires-clause-few
+put_root-requires-clause-few c =
+    let keys = few_keys c.args.cells.now.next c.args.tree c.into_root-root.ensures.apart c.requires.below in
+    let len = c.len-len.ensures in
+    omega (arith, keys, len)
 
 pub of_root-requires-clause-shape : goal.of_root-requires-clause-shape
 of_root-requires-clause-shape c =
