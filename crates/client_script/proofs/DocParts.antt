@@ -4,17 +4,18 @@ use Rattle.std.specs.Prelude.{◌&&◌}
 use Rattle.std.specs.List.{list_all, slice_get}
 use Rattle.std.proofs.lemmas.List.{drop_more}
 use Rattle.std.proofs.lemmas.Option.{slice_get_within, get_or_from_slice_get}
-use Rattle.mdb_datum.specs.Datum.{doc_of, members_of}
+use Rattle.mdb_datum.specs.Datum.{doc_of}
 use Rattle.mdb_datum.specs.Doc.{Doc}
 use Rattle.mdb_datum.specs.Reading.{read_as}
-use Rattle.mdb_datum.specs.declared.datum.Datum as datum
-use Rattle.mdb_datum.specs.declared.datum.Members.{Members}
+use Rattle.mdb_datum.specs.Row.{Fields}
+use Rattle.mdb_datum.specs.declared.datum.Datum.{Datum}
+use Rattle.mdb_datum.specs.declared.datum.Datum.TheVariants as datum
 use Rattle.mdb_datum.proofs.Variants.{doc_of_members, fields_there_and_back}
 use Rattle.client_script.specs.Parts.{object_in, is_scalar}
 
-pub object_found : (d : datum.Datum) (m : Members) → d ≡ datum.Members m → Some (members_of m) ≡ object_in (read_as (doc_of d))
+pub object_found : (d : Datum) (m : Fields) → d ≡ datum.Members m → Some m ≡ object_in (read_as (doc_of d))
 object_found d m is =
-    sym (ap (λ x. object_in (read_as x)) (ap doc_of is ∙ doc_of_members m) ∙ ap Some (fields_there_and_back (members_of m)))
+    sym (ap (λ x. object_in (read_as x)) (ap doc_of is ∙ doc_of_members m) ∙ ap Some (fields_there_and_back m))
 
 -- a test of each item from a place on
 pub scalars_from : (ds : List Doc) (at : ℕ) (d : Doc) (b : Bool) → Some d ≡ slice_get ds at → b ≡ is_scalar d → list_all is_scalar (drop at ds) ≡ (b && list_all is_scalar (drop (at + 1) ds))

@@ -1,11 +1,9 @@
 //! The parts of a line: words, names, documents, lists and limits.
-ghost use Rattle.std.specs.Prelude.{◌≡◌, IfOk, IfSome, option_map};
+ghost use Rattle.std.specs.Prelude.{◌≡◌};
 ghost use Rattle.std.specs.List.{list_all};
 ghost use Rattle.std.specs.Result.{result_map_both};
-ghost use Rattle.mdb_datum.specs.Canonical.{IsCanonical};
-ghost use Rattle.mdb_datum.specs.Datum.{doc_of, items_of, members_of};
+ghost use Rattle.mdb_datum.specs.Datum.{doc_of};
 ghost use Rattle.mdb_datum.specs.Reading.{reading, read_as};
-ghost use Rattle.mdb_datum.specs.Row.{IsCanonicalRow};
 ghost use Rattle.mdb_schema.specs.Names.{is_name_byte};
 ghost use Rattle.mdb_schema.specs.Shapes.{list_in};
 ghost use Rattle.client_script.specs.Parts.{next_word, something, nothing, name_in, is_index_word};
@@ -98,8 +96,7 @@ pub(crate) fn index_name_in(alloc: Global, word: &str) -> Result<Text, LineError
 
 /// The document that the rest of a line is.
 fn doc_in(alloc: Global, rest: &str) -> Result<Datum, LineError>
-    ensures answer { Answers doc_of (doc_in (reading rest.now)) result }
-    ensures canonical { IfOk result (λ d. IsCanonical (doc_of d)) }
+    ensures { Answers doc_of (doc_in (reading rest.now)) result }
 {
     match read_doc(alloc, rest.as_bytes()) {
         Ok(document) => Ok(document),
@@ -111,9 +108,7 @@ fn doc_in(alloc: Global, rest: &str) -> Result<Datum, LineError>
 /// The members of an object.
 #[tactic(auto, using(crate::proofs::DocParts::object_found))]
 fn object_in(document: Datum) -> Option<Members>
-    requires { IsCanonical (doc_of document) }
-    ensures found { option_map members_of result ≡ object_in (read_as (doc_of document)) }
-    ensures canonical { IfSome result (λ m. IsCanonicalRow (members_of m)) }
+    ensures { result ≡ object_in (read_as (doc_of document)) }
 {
     match document {
         Datum::Members(members) => Some(members),
@@ -141,7 +136,7 @@ fn is_scalar(document: &Datum) -> bool
 
 /// Whether each item is no list and no object.
 fn all_scalars(items: &Items) -> bool
-    ensures { result ≡ list_all is_scalar (items_of items.now) }
+    ensures { result ≡ list_all is_scalar items.now }
 {
     for at in 0..items.len() {
         let Some(item) = items.get(at) else {
@@ -157,7 +152,7 @@ fn all_scalars(items: &Items) -> bool
 /// The items of a list.
 #[tactic(auto, using(mdb_schema::proofs::ShapeLemmas::list_found))]
 fn list_in(document: Datum) -> Option<Items>
-    ensures { option_map items_of result ≡ list_in (doc_of document) }
+    ensures { result ≡ list_in (doc_of document) }
 {
     match document {
         Datum::Items(items) => Some(items),
@@ -167,7 +162,7 @@ fn list_in(document: Datum) -> Option<Items>
 
 /// The items of a list of scalars.
 fn scalars_in(document: Datum) -> Option<Items>
-    ensures { option_map items_of result ≡ scalars_in (read_as (doc_of document)) }
+    ensures { result ≡ scalars_in (read_as (doc_of document)) }
 {
     let items = list_in(document)?;
     if all_scalars(&items) {
@@ -179,7 +174,7 @@ fn scalars_in(document: Datum) -> Option<Items>
 
 /// The arguments that the rest of a line is: a list of scalars, empty where nothing is left.
 pub(crate) fn args_in(alloc: Global, rest: &str) -> Result<Items, LineError>
-    ensures { Answers items_of (args_in rest.now) result }
+    ensures { Answers (λ p. p) (args_in rest.now) result }
 {
     if rest.is_empty() {
         return Ok(Items::new(alloc));

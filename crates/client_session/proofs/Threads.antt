@@ -2,8 +2,8 @@
 use denote.Param.Send.{IsSend, IsSync, sendable}
 use Rattle.std.proofs.Crossing.{crosses}
 use Rattle.std.proofs.MapsCrossing as maps
-use Rattle.mdb_datum.proofs.datum.Datum.TheLaws.TheKnot as datum
-use Rattle.mdb_datum.specs.contracts.row.Row
+use Rattle.mdb_datum.proofs.Threads.{row_send}
+use Rattle.mdb_datum.proofs.datum.Items.TheLaws.TheKnot as datum
 use Rattle.mdb_datum.specs.contracts.text.Text
 use Rattle.mdb_encode.specs.contracts.key.Key
 use Rattle.mdb_schema.specs.contracts.query.Parts
@@ -40,14 +40,11 @@ text-send = search (sendable, crosses) depth 20
 text-sync : IsSync (Text.the_field).row
 text-sync = search (sendable, crosses) depth 20
 
-row-send : IsSend (Row.the_field).row
-row-send = search (sendable, crosses, datum.crosses_both) depth 20
-
 parts-send : IsSend Parts.the_row
-parts-send = search (sendable, crosses, datum.crosses_both, text-send) depth 20
+parts-send = search (sendable, crosses, datum.crosses, text-send) depth 20
 
 parts-sync : IsSync Parts.the_row
-parts-sync = search (sendable, crosses, datum.crosses_both, text-sync) depth 20
+parts-sync = search (sendable, crosses, datum.crosses, text-sync) depth 20
 
 query-send : IsSend Query.the_row
 query-send = search (sendable, crosses, parts-send, parts-sync) depth 20
@@ -60,7 +57,7 @@ transaction-send : IsSend (TransactionCommand.the_field).row
 transaction-send = search (sendable, crosses) depth 20
 
 write_rows-send : IsSend (WriteCommand.the_field).row
-write_rows-send = search (sendable, crosses, text-send, row-send, query-send) depth 100 fits 100000
+write_rows-send = search (sendable, crosses, text-send, row_send, query-send) depth 100 fits 100000
 
 ask-send : IsSend (AskCommand.the_field).row
 ask-send = search (sendable, crosses, text-send, query-send) depth 100 fits 100000

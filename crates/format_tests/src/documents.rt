@@ -1,7 +1,4 @@
 //! Texts and what they read as are those of RFC 8259 and of the documentation of `serde_json`.
-ghost use Rattle.std.specs.Prelude.{IfOk};
-ghost use Rattle.mdb_datum.specs.Datum as of;
-ghost use Rattle.mdb_datum.specs.Row.{IsCanonicalRow};
 
 use mdb_datum::{Datum, DocError, Items, Members, Row, Text, read_doc, write_doc};
 use std::alloc::{AllocError, AllocFailed, Global};
@@ -34,10 +31,7 @@ fn is_refused(alloc: Global, bytes: &[u8], cause: Option<DocError>) -> Result<bo
 }
 
 /// The object that a text is.
-#[tactic(auto, using(mdb_datum::proofs::Variants::doc_of_members))]
-fn object_of(alloc: Global, text: &str) -> Result<Members, Fail>
-    ensures { IfOk result (λ m. IsCanonicalRow (of.members_of m)) }
-{
+fn object_of(alloc: Global, text: &str) -> Result<Members, Fail> {
     match read_doc(alloc, text.as_bytes())? {
         Datum::Members(members) => Ok(members),
         _ => Err(Fail::from("no object")),

@@ -4,6 +4,7 @@
 mod answers;
 mod args;
 mod limits;
+mod made;
 mod rows;
 mod samples;
 mod worked;

@@ -1,6 +1,7 @@
 mod MemberSearch
 pub mod ByteOrder
 pub mod Levels
+pub mod MembersRead
 pub mod Numbers
 pub mod OnLiterals
 pub mod Readings
@@ -8,5 +9,6 @@ pub mod Regular
 pub mod RoundTrip
 pub mod SameDocs
 pub mod SamePlaces
+pub mod Threads
 pub mod Variants
 pub mod TokenText

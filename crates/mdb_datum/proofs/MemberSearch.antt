@@ -12,13 +12,11 @@ use Rattle.std.proofs.lemmas.List.Sorted.{searchable_from_sorted}
 use Rattle.std.proofs.lemmas.Map.Keys.{Less-from_sorted}
 use Rattle.std.proofs.lemmas.Map.Text.{is_eq-slice_cmp}
 use Rattle.std.proofs.lemmas.Slice.Eq.{bytes_eq-Decides}
-use Rattle.mdb_datum.specs.Canonical.{names_in}
-use Rattle.mdb_datum.specs.Datum.{field_of, doc_of, members_of}
+use Rattle.mdb_datum.specs.Canonical.{names_in, NamesRise}
+use Rattle.mdb_datum.specs.Datum.{field_of, doc_of}
 use Rattle.mdb_datum.specs.Doc.{Field, field_list, member}
 use Rattle.mdb_datum.specs.declared.datum.Datum.{Datum}
-use Rattle.mdb_datum.specs.declared.datum.Members.{Members, out-Members}
 use Rattle.mdb_datum.specs.declared.text.Text.{Text}
-use Rattle.mdb_datum.proofs.Levels.{members_level}
 
 abbrev Pair : Type 0
 Pair = Text × Datum
@@ -63,26 +61,23 @@ comparisons name xs rising =
     searchable_from_sorted nat_list_cmp_total name_of xs name (λ k d ge lt.
     ap is_lt (nat_list_cmp_total.antisymm (get_or xs (k + 1) d).0 (get_or xs k d).0 ∙ ap ordering_reverse (below xs rising k (k + 1) d (omega arith) lt)))
 
-module _ (m : Members) (name : List ℕ) (rising : IsStrictlySortedBy order (names_in (field_list (members_of m)))) where
-  abbrev pairs : List Pair
-  pairs = (out-Members m).pairs.items
-
+module _ (pairs : List Pair) (fields : List Field) (level : map field_of pairs ≡ fields) (name : List ℕ) (rising : NamesRise (field_list (map field_of pairs))) where
   rise : IsStrictlySortedBy order (map name_of pairs)
-  rise = subst (λ ns. IsStrictlySortedBy order ns) (ap (λ (fs : List Field). names_in (field_list fs)) (members_level m) ∙ names_are pairs) rising
+  rise = subst (λ ns. IsStrictlySortedBy order ns) (names_are pairs) rising
 
-  pub found : (at : ℕ) (p : Pair) → at < length pairs → IsBinarySearchResult (λ x. order (name_of x) name) pairs (Ok at) → p ≡ get_or pairs at p → Some (doc_of p.1) ≡ member name (members_of m)
+  pub found : (at : ℕ) (p : Pair) → at < length pairs → IsBinarySearchResult (λ x. order (name_of x) name) pairs (Ok at) → p ≡ get_or pairs at p → Some (doc_of p.1) ≡ member name fields
   found at p within equal read =
       let here : bytes_eq (get_or pairs at p).0 name ≡ true = sym (is_eq-slice_cmp (get_or pairs at p).0 name) ∙ ap is_eq (equal p) in
       let is : (get_or pairs at p).0 ≡ name = (bytes_eq-Decides (get_or pairs at p).0 name).0 here in
       ap (λ (x : Pair). Some (doc_of x.1)) read
       ∙ sym (there name pairs at p within here (λ k lt. other (get_or pairs k p).0 name Less (subst (λ n. order (get_or pairs k p).0 n ≡ Less) is (below pairs rise k at p lt within)) refl))
-      ∙ ap (member name) (sym (members_level m))
+      ∙ ap (member name) level
 
-  pub missing : (at : ℕ) → IsBinarySearchResult (λ x. order (name_of x) name) pairs (Err at) → None ≡ member name (members_of m)
+  pub missing : (at : ℕ) → IsBinarySearchResult (λ x. order (name_of x) name) pairs (Err at) → None ≡ member name fields
   missing at parted =
       let parts = parted (comparisons name pairs rise) in
       sym (nowhere name pairs (λ k d lt. elim (cases_lt k at) [
         | inl lower ↦ other (get_or pairs k d).0 name Less (parts.0 k d (omega arith) lower) refl
         | inr upper ↦ other (get_or pairs k d).0 name Greater (parts.1 k d upper lt) refl
       ]))
-      ∙ ap (member name) (sym (members_level m))
+      ∙ ap (member name) level

@@ -1,10 +1,11 @@
 -- What a text reads as, from what `serde_json` says of it, and the walks over its value.
-use Rattle.std.proofs.Common.{◌≡◌, ℕ, max, nat_lt, if◌then◌else◌, List, [], ◌∷◌, ◌++◌, map, Bool, true, false, Option, Some, None, option_map, IsUtf8, refl, ap, ◌∙◌}
+use Rattle.std.proofs.Common.{arith, subst, ◌≤◌, ◌<◌, ◌≡◌, ℕ, max, nat_lt, if◌then◌else◌, List, [], ◌∷◌, ◌++◌, map, Bool, true, false, Option, Some, None, option_map, IsUtf8, refl, ap, ◌∙◌}
 use Rattle.std.specs.Str.{is_utf8}
 use Rattle.std.proofs.lemmas.Str.{IsUtf8-from_is_utf8, is_utf8-from_IsUtf8}
 use Rattle.serde_json.specs.Data as json
 use Rattle.serde_json.specs.Read.{read}
 use Rattle.serde_json.specs.View.{view, items_view, members_view}
+use Rattle.serde_json.specs.declared.value.Value.{Value}
 use Rattle.serde_json.proofs.Views.{Entry}
 use Rattle.mdb_datum.specs.Doc.{Doc, DocList, no_docs, doc, FieldList, no_fields, field, Field, doc_list, field_list}
 use Rattle.mdb_datum.specs.Reading.{no_json, too_deep, or_not_whole, value_reading, whole_doc, whole_docs, whole_fields, reading}
@@ -34,6 +35,18 @@ reading-shallow bytes d h shallow = reading-value bytes d h ∙ rw shallow
 pub values_depth : (es : List Entry) → json.items_depth (items_view (map (λ e. e.1) es)) ≡ json.members_depth (members_view es)
 values_depth [] = refl
 values_depth (e ∷ es) = ap (λ n. max (json.depth (view e.1)) n) (values_depth es)
+
+-- the first value and the rest of a list that nests less deep than a limit
+pub items_shallow : (limit : ℕ) (v : Value) (vs rest : List Value) → vs ≡ v ∷ rest → json.items_depth (items_view vs) < limit → (json.depth (view v) ≤ limit) × (json.items_depth (items_view rest) < limit)
+items_shallow limit v vs rest is shallow =
+    let all : max (json.depth (view v)) (json.items_depth (items_view rest)) < limit = subst (λ xs. json.items_depth (items_view xs) < limit) is shallow in
+    (omega (arith, all), omega (arith, all))
+
+-- the first member and the rest of an object that does
+pub members_shallow : (limit : ℕ) (e : Entry) (es rest : List Entry) → es ≡ e ∷ rest → json.members_depth (members_view es) < limit → (json.depth (view e.1) ≤ limit) × (json.members_depth (members_view rest) < limit)
+members_shallow limit e es rest is shallow =
+    let all : max (json.depth (view e.1)) (json.members_depth (members_view rest)) < limit = subst (λ xs. json.members_depth (members_view xs) < limit) is shallow in
+    (omega (arith, all), omega (arith, all))
 
 -- ---- documents that were made so far, before those of the rest
 

@@ -87,13 +87,13 @@ mutual
       let w = found_both doc (whole_doc x) (whole_docs xs) ds e in
       ap list_nesting w.4 ∙ ap₂ max (nesting-whole_doc x w.0 w.2) (nesting-whole_docs xs w.1 w.3)
 
-  nesting-whole_fields : (ms : json.Members) (fs : FieldList) → whole_fields ms ≡ Some fs → members_nesting fs ≡ json.members_depth ms
+  pub nesting-whole_fields : (ms : json.Members) (fs : FieldList) → whole_fields ms ≡ Some fs → members_nesting fs ≡ json.members_depth ms
   nesting-whole_fields json.no_members fs e = ap members_nesting (the_same _ fs e)
   nesting-whole_fields (json.member k x ms) fs e =
       let w = found_both (field k) (whole_doc x) (whole_fields ms) fs e in
       ap members_nesting w.4 ∙ ap₂ max (nesting-whole_doc x w.0 w.2) (nesting-whole_fields ms w.1 w.3)
 
-not_deeper : (n : ℕ) → nat_lt 100 n ≡ false → n ≤ 100
+pub not_deeper : (n : ℕ) → nat_lt 100 n ≡ false → n ≤ 100
 not_deeper n h = grind (arith, nat_tests)
 
 pub IsCanonical-whole_doc : (x : json.Data) (d : Doc) → whole_doc x ≡ Some d → nat_lt 100 (json.depth x) ≡ false → IsRegular d → IsCanonical d

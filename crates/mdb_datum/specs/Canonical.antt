@@ -4,7 +4,7 @@ use Rattle.std.specs.Prelude.{ℕ, suc, ◌^◌, ◌<◌, ◌≤◌, max, ℤ, p
 use Rattle.std.specs.List.Sorted.{IsStrictlySortedBy}
 use Rattle.std.specs.Str.{IsUtf8}
 use Rattle.mdb_datum.specs.Bytes.{byte_order}
-use Rattle.mdb_datum.specs.Doc.{Doc, nil, flag, whole, text, list, object, DocList, no_docs, doc, FieldList, no_fields, field}
+use Rattle.mdb_datum.specs.Doc.{Doc, nil, flag, whole, text, list, object, DocList, no_docs, doc, FieldList, no_fields, field, Field, doc_list, field_list}
 use Rattle.mdb_datum.specs.Reading.{nesting_limit}
 
 -- the number is a `u64` or an `i64`
@@ -57,6 +57,14 @@ abbrev mutual
   pub members_nesting : FieldList → ℕ
   members_nesting no_fields = 0
   members_nesting (field name d fs) = max (nesting d) (members_nesting fs)
+
+-- how deep the documents of a list nest
+abbrev pub docs_nesting : List Doc → ℕ
+docs_nesting ds = list_nesting (doc_list ds)
+
+-- how deep the values of an object's members nest
+abbrev pub fields_nesting : List Field → ℕ
+fields_nesting fs = members_nesting (field_list fs)
 
 -- regular, and nested no deeper than a document may be
 pub record IsCanonical (d : Doc) : Type 0 where

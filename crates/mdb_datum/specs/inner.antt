@@ -1,3 +1,4 @@
+pub mod Falls
 pub mod Gains
 pub mod RowView
 pub mod Stored

@@ -2,12 +2,12 @@
 ghost use Rattle.std.specs.Prelude.{◌≡◌, ◌++◌, ◌∷◌, [], length, is_ok, if◌then◌else◌, slice_get};
 ghost use Rattle.std.specs.Prelude.{option_map, map};
 ghost use Rattle.std.specs.Slice.Iter.{iter_rest};
-ghost use Rattle.mdb_datum.specs.Canonical.{NamesRise};
-ghost use Rattle.mdb_datum.specs.Datum.{doc_of, field_of, items_of, members_of};
-ghost use Rattle.mdb_datum.specs.Doc.{field_list, member};
+ghost use Rattle.mdb_datum.specs.Datum.{doc_of, field_of};
+ghost use Rattle.mdb_datum.specs.Doc.{member};
 
 use crate::Text;
 use std::alloc::{AllocError, Global};
+use std::marker::Model;
 use std::slice;
 
 /// A JSON value whose numbers are whole.
@@ -28,24 +28,68 @@ pub enum Datum {
     Members(Members),
 }
 
-/// The items of a list, in order.
+/// The items of a list, in order, seen as their documents.
 #[cycle(datum)]
 #[derive(Drop)]
 pub struct Items {
     pub(crate) items: Vec<Datum>,
 }
 
-/// The members of an object. What is read from a text rises by the bytes of the names.
+/// The members of an object in canonical form, in the order of their names' bytes.
 #[cycle(datum)]
 #[derive(Drop)]
 pub struct Members {
     pub(crate) pairs: Vec<(Text, Datum)>,
 }
 
+impl Model for Items {
+    ghost use Rattle.std.specs.Prelude.{List, map};
+    ghost use Rattle.mdb_datum.specs.Doc.{Doc};
+    ghost use Rattle.mdb_datum.specs.Canonical.{docs_nesting};
+    ghost use Rattle.mdb_datum.specs.inner.Stored.{docs_code};
+
+    ghost Value = { List Doc };
+
+    ghost coded = { docs_code };
+
+    ghost use Rattle.mdb_datum.specs.Datum.{doc_of};
+
+    ghost view = { λ l. map doc_of l.items.items };
+
+    ghost size = { docs_nesting };
+
+    ghost use Rattle.mdb_datum.specs.inner.Falls.{items_fall};
+
+    ghost size_decreases = { λ l h. items_fall l.items.items };
+}
+
+impl Model for Members {
+    ghost use Rattle.std.specs.Prelude.{map};
+    ghost use Rattle.mdb_datum.specs.Canonical.{fields_nesting};
+    ghost use Rattle.mdb_datum.specs.Row.{Fields, IsCanonicalRow};
+    ghost use Rattle.mdb_datum.specs.inner.Stored.{fields_code};
+
+    ghost Value = { Fields };
+
+    ghost coded = { fields_code };
+
+    ghost use Rattle.mdb_datum.specs.Datum.{field_of};
+
+    ghost view = { λ m. map field_of m.pairs.items };
+
+    ghost invariant = { λ m. IsCanonicalRow (map field_of m.pairs.items) };
+
+    ghost size = { fields_nesting };
+
+    ghost use Rattle.mdb_datum.specs.inner.Falls.{members_fall};
+
+    ghost size_decreases = { λ m canonical. members_fall m.pairs.items };
+}
+
 impl Items {
     /// No items. It takes no memory.
     pub fn new(alloc: Global) -> Items
-        ensures { items_of result ≡ [] }
+        ensures { result ≡ [] }
     {
         Items {
             items: Vec::new(alloc),
@@ -53,25 +97,26 @@ impl Items {
     }
 
     /// How many there are.
+    #[tactic(auto, using(crate::proofs::Levels::seen_length))]
     pub fn len(&self) -> usize
-        ensures { result ≡ length (items_of self.now) }
+        ensures { result ≡ length self.now }
     {
         self.items.len()
     }
 
     /// Adds an item at the end. After want of memory the list is unchanged.
     pub fn push(&mut self, item: Datum) -> Result<(), AllocError>
-        ensures { items_of self.new ≡ (if is_ok result then items_of self.old ++ doc_of item ∷ []
-            else items_of self.old) }
+        ensures { self.new ≡ (if is_ok result then self.old ++ doc_of item ∷ []
+            else self.old) }
     {
         self.items.push(item)?;
         Ok(())
     }
 
     /// The item at a place, counted from 0.
-    #[tactic(auto, using(crate::proofs::Levels::item_there, crate::proofs::Levels::item_past))]
+    #[tactic(auto, using(crate::proofs::Levels::seen_there, crate::proofs::Levels::seen_past))]
     pub fn get(&self, at: usize) -> Option<&Datum>
-        ensures { option_map (λ d. doc_of d.now) result ≡ slice_get (items_of self.now) at }
+        ensures { option_map (λ d. doc_of d.now) result ≡ slice_get self.now at }
     {
         if at < self.items.len() {
             Some(&self.items[at])
@@ -81,58 +126,25 @@ impl Items {
     }
 
     /// The items, in order.
-    #[tactic(auto, using(crate::proofs::Levels::items_level))]
     pub fn iter(&self) -> slice::Iter<'_, Datum>
-        ensures { map doc_of (iter_rest result) ≡ items_of self.now }
+        ensures { map doc_of (iter_rest result) ≡ self.now }
     {
         self.items.iter()
     }
 }
 
 impl Members {
-    /// No members. It takes no memory.
-    pub(crate) fn new(alloc: Global) -> Members
-        ensures { members_of result ≡ [] }
-    {
-        Members {
-            pairs: Vec::new(alloc),
-        }
-    }
-
-    /// Adds a member at the end.
-    pub(crate) fn push(&mut self, name: Text, value: Datum) -> Result<(), AllocError>
-        ensures { members_of self.new ≡ (if is_ok result
-            then members_of self.old ++ (name, doc_of value) ∷ [] else members_of self.old) }
-    {
-        self.pairs.push((name, value))?;
-        Ok(())
-    }
-
     /// How many there are.
+    #[tactic(auto, using(crate::proofs::Levels::seen_length))]
     pub fn len(&self) -> usize
-        ensures { result ≡ length (members_of self.now) }
+        ensures { result ≡ length self.now }
     {
         self.pairs.len()
     }
 
-    /// The value under a name, the first where the name comes more than once. It walks over the
-    /// members from the front, since rows have few.
+    /// The value under a name. It takes time in the logarithm of the number of members.
     pub fn get(&self, name: &str) -> Option<&Datum>
-        ensures { option_map (λ d. doc_of d.now) result ≡ member name.now (members_of self.now) }
-    {
-        for (own, value) in &self.pairs {
-            if own.as_str() == name {
-                return Some(value);
-            }
-        }
-        None
-    }
-
-    /// The value under a name, where the names rise. It takes time in the logarithm of the number
-    /// of members.
-    pub(crate) fn find(&self, name: &str) -> Option<&Datum>
-        requires { NamesRise (field_list (members_of self.now)) }
-        ensures { option_map (λ d. doc_of d.now) result ≡ member name.now (members_of self.now) }
+        ensures { option_map (λ d. doc_of d.now) result ≡ member name.now self.now }
     {
         let name = name.as_bytes();
         match self
@@ -145,10 +157,10 @@ impl Members {
     }
 
     /// The member at a place, counted from 0.
-    #[tactic(auto, using(crate::proofs::Levels::pair_there, crate::proofs::Levels::pair_past))]
+    #[tactic(auto, using(crate::proofs::Levels::seen_there, crate::proofs::Levels::seen_past))]
     pub fn pair(&self, at: usize) -> Option<(&Text, &Datum)>
         ensures { option_map (λ p. (p.0.now, doc_of p.1.now)) result
-            ≡ slice_get (members_of self.now) at }
+            ≡ slice_get self.now at }
     {
         if at < self.pairs.len() {
             let (name, value) = &self.pairs[at];
@@ -159,9 +171,8 @@ impl Members {
     }
 
     /// The members, in order: each a name and its value.
-    #[tactic(auto, using(crate::proofs::Levels::members_level))]
     pub fn iter(&self) -> slice::Iter<'_, (Text, Datum)>
-        ensures { map field_of (iter_rest result) ≡ members_of self.now }
+        ensures { map field_of (iter_rest result) ≡ self.now }
     {
         self.pairs.iter()
     }

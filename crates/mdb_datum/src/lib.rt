@@ -3,11 +3,12 @@
 //!
 //! The layer above may use `read_doc` and `write_doc`, a `Datum` with its lists and objects, and
 //! `Row`, an object that is shared between threads and never changes. What was read is in canonical
-//! form, and the text of a canonical document reads as that document.
+//! form, and the text of a canonical document reads as that document. Every object that exists is
+//! canonical, by its type.
 //!
 //! Reading and writing take time and memory in proportion to the text. A look-up by place takes
-//! constant time. A member of a row is found in the logarithm of their number, and one of an object
-//! inside a row by a walk from the front. Sharing a row takes no memory, and so does comparing two.
+//! constant time. A member of an object is found in the logarithm of their number. Sharing a row
+//! takes no memory, and so does comparing two.
 #![tactic(auto)]
 
 mod datum;

@@ -1,5 +1,5 @@
 //! From a text to a document: `serde_json` reads the value, and what it owns is moved out of it.
-ghost use Rattle.std.specs.Prelude.{◌≡◌, ◌⊎◌, ◌++◌, ◌∷◌, [], Some, None, option_map, IfSome, IfOk};
+ghost use Rattle.std.specs.Prelude.{◌≡◌, ◌≤◌, ◌<◌, ◌⊎◌, ◌++◌, ◌∷◌, [], Some, None, option_map, IfSome, IfOk, map};
 ghost use Rattle.std.specs.Prelude.{IfErr, IsErr, IsErrOf, IsUtf8, OnOk, is_ok, if◌then◌else◌, nat_lt};
 ghost use Rattle.std.specs.Prelude.{string_bytes};
 ghost use Rattle.serde_json.specs.Data.{depth, items_depth, members_depth};
@@ -7,8 +7,8 @@ ghost use Rattle.serde_json.specs.Read.{read};
 ghost use Rattle.serde_json.specs.View.{view, number_view, items_view, members_view};
 ghost use Rattle.mdb_datum.specs.Doc.{whole, object, doc_list, field_list};
 ghost use Rattle.mdb_datum.specs.Canonical.{FitsWord, IsRegular, AreRegular, IsCanonical};
-ghost use Rattle.mdb_datum.specs.Datum.{doc_of, items_of, members_of};
-ghost use Rattle.mdb_datum.specs.Reading.{reading, read_as, no_json, too_deep, not_whole};
+ghost use Rattle.mdb_datum.specs.Datum.{doc_of, field_of};
+ghost use Rattle.mdb_datum.specs.Reading.{reading, read_as, no_json, too_deep, not_whole, nesting_limit};
 ghost use Rattle.mdb_datum.specs.Reading.{whole_number, whole_doc, whole_docs, whole_fields};
 ghost use Rattle.mdb_datum.specs.inner.Gains.{GainsMember};
 
@@ -116,8 +116,8 @@ fn number_from(number: &Number) -> Result<Datum, DocError>
 
 /// Adds an item at the end.
 fn push_item(items: &mut Items, item: Datum) -> Result<(), DocError>
-    ensures pushed { items_of items.new
-        ≡ (if is_ok result then items_of items.old ++ doc_of item ∷ [] else items_of items.old) }
+    ensures pushed { items.new
+        ≡ (if is_ok result then items.old ++ doc_of item ∷ [] else items.old) }
     ensures only { IfErr result (λ e. e ≡ DocError.Memory) }
 {
     Ok(items.push(item)?)
@@ -126,6 +126,7 @@ fn push_item(items: &mut Items, item: Datum) -> Result<(), DocError>
 /// The document that a value is, whose texts it takes over.
 #[cycle(datum_from)]
 fn datum_from(alloc: Global, value: Value) -> Result<Datum, DocError>
+    requires { depth (view value) ≤ nesting_limit }
     ensures ok { IfOk result (λ d. whole_doc (view value) ≡ Some (doc_of d)) }
     ensures regular { IfOk result (λ d. IsRegular (doc_of d)) }
     ensures not_whole { IsErrOf result DocError.NotWhole → whole_doc (view value) ≡ None }
@@ -144,9 +145,10 @@ fn datum_from(alloc: Global, value: Value) -> Result<Datum, DocError>
 /// The documents of a list. A number that isn't whole is refused.
 #[cycle(datum_from)]
 fn items_from(alloc: Global, list: Vec<Value>) -> Result<Items, DocError>
+    requires { items_depth (items_view list.items) < nesting_limit }
     ensures ok { IfOk result
-        (λ l. whole_docs (items_view list.items) ≡ Some (doc_list (items_of l))) }
-    ensures regular { IfOk result (λ l. AreRegular (doc_list (items_of l))) }
+        (λ l. whole_docs (items_view list.items) ≡ Some (doc_list l)) }
+    ensures regular { IfOk result (λ l. AreRegular (doc_list l)) }
     ensures not_whole { IsErrOf result DocError.NotWhole
         → whole_docs (items_view list.items) ≡ None }
     ensures only { IfErr result (λ e. (e ≡ DocError.Memory) ⊎ (e ≡ DocError.NotWhole)) }
@@ -162,18 +164,19 @@ fn items_from(alloc: Global, list: Vec<Value>) -> Result<Items, DocError>
 /// The members of an object. A number that isn't whole is refused.
 #[cycle(datum_from)]
 fn members_from(alloc: Global, map: Map<String, Value>) -> Result<Members, DocError>
+    requires { members_depth (members_view map.entries) < nesting_limit }
     ensures ok { IfOk result
-        (λ m. whole_fields (members_view map.entries) ≡ Some (field_list (members_of m))) }
-    ensures regular { IfOk result (λ m. IsRegular (object (field_list (members_of m)))) }
+        (λ m. whole_fields (members_view map.entries) ≡ Some (field_list m)) }
+    ensures regular { IfOk result (λ m. IsRegular (object (field_list m))) }
     ensures not_whole { IsErrOf result DocError.NotWhole
         → whole_fields (members_view map.entries) ≡ None }
     ensures only { IfErr result (λ e. (e ≡ DocError.Memory) ⊎ (e ≡ DocError.NotWhole)) }
 {
-    let mut members = Members::new(alloc);
+    let mut pairs = Vec::new(alloc);
     for (name, value) in map {
-        add_member(alloc, name, value, &mut members)?;
+        add_member(alloc, name, value, &mut pairs)?;
     }
-    Ok(members)
+    Ok(Members { pairs })
 }
 
 /// Adds the member of a name and a value at the end, both of which it takes over. A number that
@@ -183,13 +186,14 @@ fn add_member(
     alloc: Global,
     name: String,
     value: Value,
-    members: &mut Members,
+    pairs: &mut Vec<(Text, Datum)>,
 ) -> Result<(), DocError>
-    ensures ok { OnOk result (GainsMember
-        (string_bytes name) (view value) (members_of members.old) (members_of members.new)) }
+    requires { depth (view value) ≤ nesting_limit }
+    ensures ok { OnOk result (GainsMember (string_bytes name) (view value)
+        (map field_of pairs.old.items) (map field_of pairs.new.items)) }
     ensures not_whole { IsErrOf result DocError.NotWhole → whole_doc (view value) ≡ None }
     ensures only { IfErr result (λ e. (e ≡ DocError.Memory) ⊎ (e ≡ DocError.NotWhole)) }
 {
     let value = datum_from(alloc, value)?;
-    Ok(members.push(Text::from_string(name), value)?)
+    Ok(pairs.push((Text::from_string(name), value))?)
 }

@@ -1,6 +1,6 @@
 //! Rows: shared objects.
 ghost use Rattle.std.specs.Prelude.{◌≡◌, ◌++◌, Decides, IfOk, OnErr, OnOk, option_map};
-ghost use Rattle.mdb_datum.specs.Datum.{doc_of, members_of};
+ghost use Rattle.mdb_datum.specs.Datum.{doc_of};
 ghost use Rattle.mdb_datum.specs.Doc.{object, field_list, member};
 ghost use Rattle.mdb_datum.specs.Reading.{reading, read_as};
 ghost use Rattle.mdb_datum.specs.Row.{IsCanonicalRow};
@@ -13,14 +13,14 @@ use std::alloc::{AllocError, Global};
 use std::marker::Model;
 use std::sync::Arc;
 
-/// An object that is shared and never changes, seen as its members.
+/// An object that is shared and never changes, seen as its members. It is canonical, since they are.
 #[derive(Drop)]
 pub struct Row {
     members: Arc<Members, Global>,
 }
 
 impl Model for Row {
-    ghost use Rattle.mdb_datum.specs.Row.{Fields, IsCanonicalRow};
+    ghost use Rattle.mdb_datum.specs.Row.{Fields};
     ghost use Rattle.mdb_datum.specs.inner.Stored.{fields_code};
 
     ghost Value = { Fields };
@@ -30,15 +30,12 @@ impl Model for Row {
     ghost use Rattle.mdb_datum.specs.inner.RowView.{row_members};
 
     ghost view = { row_members };
-
-    ghost invariant = { λ r. IsCanonicalRow (row_members r) };
 }
 
 impl Row {
     /// A row with these members.
     pub fn of(alloc: Global, members: Members) -> Result<Row, AllocError>
-        requires { IsCanonicalRow (members_of members) }
-        ensures { IfOk result (λ r. r ≡ members_of members) }
+        ensures { IfOk result (λ r. r ≡ members) }
     {
         Ok(Row {
             members: Arc::new(alloc, members)?,
@@ -47,10 +44,12 @@ impl Row {
 
     /// The members.
     pub fn members(&self) -> &Members
-        ensures members { members_of result.now ≡ self.now }
+        ensures members { result.now ≡ self.now }
         ensures canonical { IsCanonicalRow self.now }
     {
-        &self.members
+        let members: &Members = &self.members;
+        let _canonical = &members.pairs;
+        members
     }
 
     /// A second owner of the same row. It takes no memory. `AllocError` comes where the kit's `Arc`
@@ -85,7 +84,7 @@ impl Row {
     pub fn get(&self, name: &str) -> Option<&Datum>
         ensures { option_map (λ d. doc_of d.now) result ≡ member name.now self.now }
     {
-        self.members.find(name)
+        self.members.get(name)
     }
 
     /// Whether two rows have the same members. It takes no memory, and at most time in proportion

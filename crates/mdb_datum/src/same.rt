@@ -1,7 +1,7 @@
 //! Whether two documents are the same: one walk over both, which takes no memory and stops at the
 //! first difference.
 ghost use Rattle.std.specs.Prelude.{◌≡◌, Decides};
-ghost use Rattle.mdb_datum.specs.Datum.{doc_of, field_of, items_of, members_of};
+ghost use Rattle.mdb_datum.specs.Datum.{doc_of, field_of};
 
 use crate::{Datum, Items, Members, Text};
 
@@ -24,7 +24,7 @@ fn is_same(one: &Datum, other: &Datum) -> bool
 /// Whether two lists have the same items.
 #[cycle(same)]
 fn has_same_items(one: &Items, other: &Items) -> bool
-    ensures { Decides result (items_of one.now ≡ items_of other.now) }
+    ensures { Decides result (one.now ≡ other.now) }
 {
     if one.items.len() != other.items.len() {
         return false;
@@ -40,7 +40,7 @@ fn has_same_items(one: &Items, other: &Items) -> bool
 /// Whether two objects have the same members in the same order.
 #[cycle(same)]
 pub(crate) fn has_same_members(one: &Members, other: &Members) -> bool
-    ensures { Decides result (members_of one.now ≡ members_of other.now) }
+    ensures { Decides result (one.now ≡ other.now) }
 {
     if one.pairs.len() != other.pairs.len() {
         return false;

@@ -3,7 +3,7 @@ ghost use Rattle.std.specs.Prelude.{◌≡◌, ◌++◌, ◌∷◌, [], IfOk, On
 ghost use Rattle.std.specs.Fmt.{signed_decimal};
 ghost use Rattle.json.specs.Token.{number};
 ghost use Rattle.mdb_datum.specs.Doc.{list, object, doc_list, field_list};
-ghost use Rattle.mdb_datum.specs.Datum.{doc_of, items_of, members_of};
+ghost use Rattle.mdb_datum.specs.Datum.{doc_of};
 ghost use Rattle.mdb_datum.specs.inner.Tokens.{doc_tokens};
 ghost use Rattle.mdb_datum.specs.Canonical.{IsCanonical};
 ghost use Rattle.mdb_datum.specs.Reading.{reading, read_as};
@@ -30,9 +30,9 @@ pub fn write_doc(alloc: Global, document: &Datum) -> Result<Vec<u8>, AllocError>
 
 /// The compact text of the object with these members, in memory of the members' allocator.
 pub(crate) fn write_members(members: &Members) -> Result<Vec<u8>, AllocError>
-    ensures text { IfOk result (λ v. v.items ≡ row_text (members_of members.now)) }
-    ensures reads_back { let row = object (field_list (members_of members.now)) in
-        IfOk result (λ v. IsCanonical row → reading v.items ≡ read_as row) }
+    ensures text { IfOk result (λ v. v.items ≡ row_text members.now) }
+    ensures reads_back { IfOk result (λ v.
+        reading v.items ≡ read_as (object (field_list members.now))) }
 {
     let mut out = Vec::new(*members.pairs.allocator());
     append_members(members, &mut out)?;
@@ -43,7 +43,7 @@ pub(crate) fn write_members(members: &Members) -> Result<Vec<u8>, AllocError>
 /// the bytes are as before.
 pub(crate) fn append_members(members: &Members, out: &mut Vec<u8>) -> Result<(), AllocError>
     ensures ok { OnOk result
-        (out.new.items ≡ out.old.items ++ row_text (members_of members.now)) }
+        (out.new.items ≡ out.old.items ++ row_text members.now) }
     ensures err { OnErr result (out.new.items ≡ out.old.items) }
 {
     let len = out.len();
@@ -87,7 +87,7 @@ fn put_number(whole: i128, out: &mut Writer) -> Result<(), AllocError>
 #[cycle(put)]
 fn put_items(items: &Items, out: &mut Writer) -> Result<(), AllocError>
     ensures ok { OnOk result
-        (out.new.tokens ≡ out.old.tokens ++ doc_tokens (list (doc_list (items_of items.now)))) }
+        (out.new.tokens ≡ out.old.tokens ++ doc_tokens (list (doc_list items.now))) }
     ensures before { out.new.before ≡ out.old.before }
 {
     out.begin_array()?;
@@ -101,7 +101,7 @@ fn put_items(items: &Items, out: &mut Writer) -> Result<(), AllocError>
 #[cycle(put)]
 fn put_members(members: &Members, out: &mut Writer) -> Result<(), AllocError>
     ensures ok { OnOk result (out.new.tokens
-        ≡ out.old.tokens ++ doc_tokens (object (field_list (members_of members.now)))) }
+        ≡ out.old.tokens ++ doc_tokens (object (field_list members.now))) }
     ensures before { out.new.before ≡ out.old.before }
 {
     out.begin_object()?;

@@ -4,12 +4,13 @@ use Rattle.std.proofs.lemmas.Bool.Decides.{nat_tests}
 use Rattle.std.specs.List.{slice_get}
 use Rattle.mdb_datum.specs.Doc.{Doc}
 use Rattle.mdb_encode.specs.Bytes.{Bytes}
-use Rattle.mdb_encode.specs.Indexer.{Indexer, str, str_list, str_map, uint, sint, truth, uuid, is_set, equals, compound, PartList, no_parts, part}
+use Rattle.mdb_encode.specs.Indexer.{Indexer, PartList, no_parts, part}
 use Rattle.mdb_encode.specs.Arguments.{Argued, one, raw_arg, raw_pre, joined_arg, joined_pre, then_with, part_count}
 use Rattle.mdb_encode.specs.inner.ArgReading.{joined_form}
-use Rattle.mdb_encode.specs.Kind.{part_list}
+use Rattle.mdb_encode.specs.Kind.{part_list, part_indexer}
+use Rattle.mdb_encode.specs.declared.kind.part.Part.{Part}
+use Rattle.mdb_encode.specs.declared.kind.part.Part.TheVariants as of_part
 use Rattle.mdb_encode.specs.ArgRefusal.{arg_count}
-use Rattle.mdb_encode.specs.inner.ArgForms.{TakesOne, HasPrefix}
 use Rattle.mdb_encode.proofs.Walk.{drop_at}
 
 joined_arg_end : (so_far : Bytes) (ps : PartList) → joined_arg so_far ps [] ≡ Ok so_far
@@ -83,50 +84,22 @@ only_arg [] d one there = cc
 only_arg (x ∷ []) d one there = cc
 only_arg (x ∷ y ∷ rest) d one there = absurd (omega arith)
 
-one_other : (of_doc : Doc → Argued) (args : List Doc) → length args ≢ 1
+pub one_other : (of_doc : Doc → Argued) (args : List Doc) → length args ≢ 1
     → one of_doc args ≡ Err arg_count
 one_other of_doc [] other = refl
 one_other of_doc (d ∷ []) other = absurd (other refl)
 one_other of_doc (d ∷ e ∷ rest) other = refl
 
 -- another number of arguments
-pub other_count : (i : Indexer) (args : List Doc) → TakesOne i → length args ≢ 1
-    → raw_arg i args ≡ Err arg_count
-other_count (str name fold) args takes other = one_other _ args other
-other_count (str_list name fold) args takes other = one_other _ args other
-other_count (str_map name fold) args takes other = absurd takes
-other_count (uint name w) args takes other = one_other _ args other
-other_count (sint name w) args takes other = one_other _ args other
-other_count (truth name) args takes other = one_other _ args other
-other_count (uuid name) args takes other = one_other _ args other
-other_count (is_set name) args takes other = one_other _ args other
-other_count (equals name scalar) args takes other = one_other _ args other
-other_count (compound parts allow_missing) args takes other = absurd takes
-
-pub other_prefix_count : (i : Indexer) (args : List Doc) → HasPrefix i → length args ≢ 1
-    → raw_pre i args ≡ Err arg_count
-other_prefix_count (str name fold) args has other = one_other _ args other
-other_prefix_count (str_list name fold) args has other = one_other _ args other
-other_prefix_count (str_map name fold) args has other = absurd has
-other_prefix_count (uint name w) args has other = absurd has
-other_prefix_count (sint name w) args has other = absurd has
-other_prefix_count (truth name) args has other = absurd has
-other_prefix_count (uuid name) args has other = one_other _ args other
-other_prefix_count (is_set name) args has other = absurd has
-other_prefix_count (equals name scalar) args has other = absurd has
-other_prefix_count (compound parts allow_missing) args has other = absurd has
-
-pub prefix_takes_one : (i : Indexer) → HasPrefix i → TakesOne i
-prefix_takes_one (str name fold) has = tt
-prefix_takes_one (str_list name fold) has = tt
-prefix_takes_one (str_map name fold) has = has
-prefix_takes_one (uint name w) has = tt
-prefix_takes_one (sint name w) has = tt
-prefix_takes_one (truth name) has = tt
-prefix_takes_one (uuid name) has = tt
-prefix_takes_one (is_set name) has = tt
-prefix_takes_one (equals name scalar) has = tt
-prefix_takes_one (compound parts allow_missing) has = has
+pub other_count : (p : Part) (args : List Doc) → length args ≢ 1
+    → raw_arg (part_indexer p) args ≡ Err arg_count
+other_count (of_part.Str f fold) args other = one_other _ args other
+other_count (of_part.Uint f w) args other = one_other _ args other
+other_count (of_part.Sint f w) args other = one_other _ args other
+other_count (of_part.Flag f) args other = one_other _ args other
+other_count (of_part.Uuid f) args other = one_other _ args other
+other_count (of_part.IsSet f) args other = one_other _ args other
+other_count (of_part.Equals f s) args other = one_other _ args other
 
 pub part_count_list : (is : List Indexer) → part_count (part_list is) ≡ length is
 part_count_list [] = refl

@@ -3,8 +3,8 @@ pub mod Blank
 pub mod Exact
 pub mod Forms
 pub mod HexRuns
+pub mod LawfulKinds
 pub mod Order
-pub mod Parts
 pub mod Prefixes
 pub mod SameKey
 pub mod Walk

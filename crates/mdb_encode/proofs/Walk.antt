@@ -3,10 +3,7 @@ use Rattle.std.proofs.Common.{◌≡◌, ℕ, zero, suc, ◌+◌, ◌<◌, List,
 use Rattle.std.proofs.lemmas.Option.{slice_get_within, get_or_from_slice_get}
 use Rattle.std.specs.List.{slice_get}
 use Rattle.mdb_datum.specs.Doc.{Doc, DocList, doc, doc_list, Field, FieldList, field, field_list}
-use Rattle.mdb_encode.specs.Indexer.{Indexer}
 use Rattle.mdb_encode.specs.Keys.{Keyed, item_keys, pair_keys}
-use Rattle.mdb_encode.specs.Kind.{part_list}
-use Rattle.mdb_encode.specs.Lawful.{IsPart, AreParts}
 use Rattle.mdb_encode.specs.inner.Texts.{followed}
 
 -- what is left from a place on begins with what stands there
@@ -32,16 +29,3 @@ pub pair_keys_at : (fold : Bool) (fs : List Field) (at : ℕ) (f : Field) (k : K
 pair_keys_at fold fs at f k there step =
     ap (λ l. pair_keys fold (field_list l)) (drop_at fs at f there)
     ∙ step (field_list (drop (at + 1) fs))
-
-parts_from : (is : List Indexer) (at : ℕ) → AreParts (part_list is)
-    → AreParts (part_list (drop at is))
-parts_from is zero parts = parts
-parts_from [] (suc at) parts = parts
-parts_from (i ∷ is) (suc at) parts = parts_from is at parts.1
-
--- each part of a list of parts is one
-pub part_is_part : (is : List Indexer) (at : ℕ) (i : Indexer) → AreParts (part_list is)
-    → slice_get is at ≡ Some i → IsPart i
-part_is_part is at i parts there =
-    let P : List Indexer → Type 0 = λ l. AreParts (part_list l) in
-    (subst P (drop_at is at i there) (parts_from is at parts)).0

@@ -1,5 +1,5 @@
 -- The shape of an indexer that a schema may name.
-use Rattle.std.specs.Prelude.{◌≡◌, ◌<◌, ◌⊎◌, ℕ, length, ⊤}
+use Rattle.std.specs.Prelude.{◌≡◌, ◌<◌, ◌⊎◌, ℕ, length, ⊤, Option, Some, None}
 use Rattle.mdb_datum.specs.Doc.{Doc, list, object}
 use Rattle.mdb_encode.specs.Bytes.{Bytes}
 use Rattle.mdb_encode.specs.Indexer.{Indexer, str, str_list, str_map, uint, sint, truth, uuid, is_set, equals, compound, PartList, no_parts, part}
@@ -13,6 +13,12 @@ abbrev pub IsScalar : Doc → Type 0
 IsScalar (list ds) = ⊥
 IsScalar (object fs) = ⊥
 IsScalar d = ⊤
+
+-- a document, where it is a scalar
+abbrev pub scalar_in : Doc → Option Doc
+scalar_in (list ds) = None
+scalar_in (object fs) = None
+scalar_in d = Some d
 
 -- a member's name that an index may read is not empty
 abbrev pub IsFieldName : Bytes → Type 0

@@ -8,6 +8,9 @@ use Rattle.mdb_encode.specs.Bytes.{Bytes, byte_order, is_prefix}
 use Rattle.mdb_encode.specs.Indexer.{Indexer, str, uuid}
 use Rattle.mdb_encode.specs.Keys.{value_at, folded, text_key, keys}
 use Rattle.mdb_encode.specs.Arguments.{arg, pre}
+use Rattle.mdb_encode.specs.Kind.{indexer_of}
+use Rattle.mdb_encode.specs.Lawful.{IsLawful}
+use Rattle.mdb_encode.specs.declared.kind.Kind.{Kind}
 
 -- two numbers that have keys of one width stand in the order of their keys
 abbrev pub KeepOrder : (ℕ → ℤ → Option Bytes) → Type 0
@@ -69,3 +72,7 @@ TellsUuid =
     × (value_at name row ≡ text s)
     × (value_at name other ≡ text t)
     × (parsed_hyphenated s ≡ parsed_hyphenated t)
+
+-- what a kind stands for is lawful
+abbrev pub EachLawful : Type 0
+EachLawful = (k : Kind) → IsLawful (indexer_of k)

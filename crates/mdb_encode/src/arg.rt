@@ -1,23 +1,22 @@
 //! The keys of a question's arguments.
 ghost use Rattle.std.specs.Prelude.{◌≡◌, ◌≢◌, Err};
-ghost use Rattle.mdb_datum.specs.Datum.{items_of};
 ghost use Rattle.mdb_encode.specs.Answers.{AnswersKey};
 ghost use Rattle.mdb_encode.specs.Arguments.{arg, pre, raw_arg, raw_pre, map_arg, limited_arg};
-ghost use Rattle.mdb_encode.specs.Kind.{indexer_of};
-ghost use Rattle.mdb_encode.specs.Lawful.{IsLawful};
+ghost use Rattle.mdb_encode.specs.Arguments.{one, text_arg, text_pre, uuid_pre};
+ghost use Rattle.mdb_encode.specs.Kind.{indexer_of, part_indexer};
 ghost use Rattle.mdb_encode.specs.inner.ArgReading.{arg_read};
-ghost use Rattle.mdb_encode.specs.inner.ArgForms.{TakesOne, HasPrefix};
+ghost use Rattle.mdb_encode.specs.inner.ArgForms.{IsOnly};
 
 mod compound;
 mod read;
 
 use self::compound::{compound_exact, compound_prefix};
-use self::read::{read_arg, read_prefix};
+use self::read::{arg_text, prefix_text, prefix_uuid, read_arg};
 use crate::item::item_at;
 use crate::limit::LONGEST_KEY;
 use crate::piece::Piece;
 use crate::refusal::ArgRefusal;
-use crate::{ArgError, Key, Kind};
+use crate::{ArgError, Key, Kind, Part};
 use mdb_datum::{Datum, Items};
 use std::alloc::Global;
 
@@ -27,14 +26,14 @@ use std::alloc::Global;
 /// then `TooLong`. It takes memory for the key alone, and only where nothing is refused.
 #[tactic(auto, using(crate::proofs::Exact::answer_exact))]
 pub fn arg_key(alloc: Global, kind: &Kind, args: &Items) -> Result<Key, ArgError>
-    requires { IsLawful (indexer_of kind.now) }
-    ensures key { AnswersKey (arg (indexer_of kind.now) (items_of args.now)) result }
+    ensures key { AnswersKey (arg (indexer_of kind.now) args.now) result }
     ensures exact { result ≢ Err ArgError.NoPrefixForm }
 {
     match kind {
+        Kind::Part(part) => piece_answer(alloc, read_only_arg(part, args)),
+        Kind::StrList { lowercase, .. } => piece_answer(alloc, read_only_text(args, *lowercase)),
         Kind::StrMap { lowercase, .. } => piece_answer(alloc, read_map_arg(args, *lowercase)),
         Kind::Compound { parts, .. } => compound_exact(alloc, parts, args),
-        _ => piece_answer(alloc, read_only_arg(kind, args)),
     }
 }
 
@@ -43,49 +42,74 @@ pub fn arg_key(alloc: Global, kind: &Kind, args: &Items) -> Result<Key, ArgError
 /// Refused as by `arg_key`, and `NoPrefixForm` for an index that has none, first; of a compound
 /// index at its last argument.
 pub fn prefix_key(alloc: Global, kind: &Kind, args: &Items) -> Result<Key, ArgError>
-    requires { IsLawful (indexer_of kind.now) }
-    ensures { AnswersKey (pre (indexer_of kind.now) (items_of args.now)) result }
+    ensures { AnswersKey (pre (indexer_of kind.now) args.now) result }
 {
     match kind {
-        Kind::Str { .. } | Kind::StrList { .. } | Kind::Uuid { .. } => piece_answer(
-            alloc,
-            read_only_prefix(kind, args),
-        ),
+        Kind::Part(part) => piece_answer(alloc, read_only_prefix(part, args)),
+        Kind::StrList { lowercase, .. } => piece_answer(alloc, read_only_start(args, *lowercase)),
+        Kind::StrMap { .. } => Err(ArgError::NoPrefixForm),
         Kind::Compound { parts, .. } => compound_prefix(alloc, parts, args),
-        _ => Err(ArgError::NoPrefixForm),
     }
 }
 
-/// The only argument of an index that takes one.
-#[tactic(auto, using(crate::proofs::Forms::only_arg, crate::proofs::Forms::other_count))]
-fn read_only_arg<'a>(kind: &Kind, args: &'a Items) -> Result<Piece<'a>, ArgRefusal>
-    requires lawful { IsLawful (indexer_of kind.now) }
-    requires one { TakesOne (indexer_of kind.now) }
-    ensures { arg_read result ≡ raw_arg (indexer_of kind.now) (items_of args.now) }
+/// The only argument.
+#[tactic(auto, using(crate::proofs::Forms::only_arg))]
+fn only(args: &Items) -> Result<&Datum, ArgRefusal>
+    ensures { IsOnly args.now result }
 {
     if args.len() == 1 {
-        read_arg(kind, item_at(args, 0))
+        Ok(item_at(args, 0))
     } else {
         Err(ArgRefusal::ArgCount)
     }
 }
 
-/// The only argument of an index with a prefix form of its own.
-#[tactic(auto, using(crate::proofs::Forms::only_arg, crate::proofs::Forms::other_prefix_count, crate::proofs::Forms::prefix_takes_one))]
-fn read_only_prefix<'a>(kind: &Kind, args: &'a Items) -> Result<Piece<'a>, ArgRefusal>
-    requires { HasPrefix (indexer_of kind.now) }
-    ensures { arg_read result ≡ raw_pre (indexer_of kind.now) (items_of args.now) }
+/// The only argument of an index of at most one key.
+#[tactic(auto, using(crate::proofs::Forms::other_count))]
+fn read_only_arg<'a>(part: &Part, args: &'a Items) -> Result<Piece<'a>, ArgRefusal>
+    ensures { arg_read result ≡ raw_arg (part_indexer part.now) args.now }
 {
-    if args.len() == 1 {
-        read_prefix(kind, item_at(args, 0))
-    } else {
-        Err(ArgRefusal::ArgCount)
+    read_arg(part, only(args)?)
+}
+
+/// The only argument of an index of at most one key, in the prefix form.
+fn read_only_prefix<'a>(part: &Part, args: &'a Items) -> Result<Piece<'a>, ArgRefusal>
+    ensures { arg_read result ≡ raw_pre (part_indexer part.now) args.now }
+{
+    match part {
+        Part::Str { lowercase, .. } => read_only_start(args, *lowercase),
+        Part::Uuid { .. } => read_only_uuid(args),
+        _ => Err(ArgRefusal::NoPrefixForm),
     }
+}
+
+/// The only argument, which is a text.
+#[tactic(auto, using(crate::proofs::Forms::one_other))]
+fn read_only_text(args: &Items, lowercase: bool) -> Result<Piece<'_>, ArgRefusal>
+    ensures { arg_read result ≡ one (text_arg lowercase) args.now }
+{
+    arg_text(only(args)?, lowercase)
+}
+
+/// The only argument, which is the start of a text.
+#[tactic(auto, using(crate::proofs::Forms::one_other))]
+fn read_only_start(args: &Items, lowercase: bool) -> Result<Piece<'_>, ArgRefusal>
+    ensures { arg_read result ≡ one (text_pre lowercase) args.now }
+{
+    prefix_text(only(args)?, lowercase)
+}
+
+/// The only argument, which is the start of a UUID.
+#[tactic(auto, using(crate::proofs::Forms::one_other))]
+fn read_only_uuid(args: &Items) -> Result<Piece<'_>, ArgRefusal>
+    ensures { arg_read result ≡ one uuid_pre args.now }
+{
+    prefix_uuid(only(args)?)
 }
 
 /// A name, or a name and a value.
 fn read_map_arg(args: &Items, lowercase: bool) -> Result<Piece<'_>, ArgRefusal>
-    ensures { arg_read result ≡ map_arg lowercase (items_of args.now) }
+    ensures { arg_read result ≡ map_arg lowercase args.now }
 {
     if args.len() == 1 {
         return match item_at(args, 0) {

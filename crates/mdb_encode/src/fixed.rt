@@ -1,14 +1,15 @@
 //! Values whose keys have a small number of bytes.
 ghost use Rattle.std.specs.Prelude.{◌≡◌, ◌≤◌, length};
 
+use crate::Width;
+
 /// A number that is written in so many bytes.
 #[derive(Clone, Copy)]
 pub(crate) struct Number {
     /// The number.
     pub(crate) number: u64,
     /// How many bytes it is written in.
-    pub(crate) width: u8,
-    ghost narrow: { width ≤ 8 },
+    pub(crate) width: Width,
 }
 
 /// The bytes of a UUID.

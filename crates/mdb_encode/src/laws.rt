@@ -4,7 +4,12 @@ ghost use Rattle.std.specs.Prelude.{ℕ};
 ghost use Rattle.mdb_encode.specs.Indexer.{uint, sint, truth};
 ghost use Rattle.mdb_encode.specs.Keys.{unsigned_key, signed_key};
 ghost use Rattle.mdb_encode.specs.Laws.{KeepOrder, NoneInside, PrefixesBegin, TellsText};
-ghost use Rattle.mdb_encode.specs.Laws.{TellsMember, TellsUuid};
+ghost use Rattle.mdb_encode.specs.Laws.{TellsMember, TellsUuid, EachLawful};
+
+/// Each kind that exists is one that a schema may name.
+pub fn kinds_are_lawful()
+    ensures { EachLawful }
+{}
 
 /// Numbers of one width stand in the order of their keys, whether they have a sign or not.
 pub fn numbers_keep_their_order()

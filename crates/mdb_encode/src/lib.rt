@@ -27,5 +27,5 @@ mod row;
 pub use arg::{arg_key, prefix_key};
 pub use error::{ArgError, KeyError};
 pub use key::{Key, Keys};
-pub use kind::{Kind, Kinds};
+pub use kind::{Field, Kind, Part, Parts, Scalar, Width};
 pub use row::keys_of;

@@ -1,10 +1,11 @@
 //! The pieces that keys are written from.
-ghost use Rattle.std.specs.Prelude.{◌≡◌, ◌++◌, ◌∷◌, [], ◌≤◌, length, min, take, IfOk, OnOk, true};
+ghost use Rattle.std.specs.Prelude.{◌≡◌, ◌++◌, ◌∷◌, [], length, min, take, IfOk, OnOk, true};
 ghost use Rattle.mdb_encode.specs.Keys.{folded, text_key, big_endian};
+ghost use Rattle.mdb_encode.specs.Kind.{width_bytes};
 ghost use Rattle.mdb_encode.specs.inner.Piece.{bytes_of};
 
-use crate::Key;
 use crate::fixed::{Id, Number, Start};
+use crate::{Key, Width};
 use std::alloc::{AllocError, Global};
 
 /// What a member or an argument puts into a key: read and tested, and not yet written.
@@ -36,7 +37,7 @@ impl Piece<'_> {
             Piece::Text(text, _) => text.len() + 1,
             Piece::Open(text, _) => text.len(),
             Piece::Pair(name, text, _) => (name.len() + 1).saturating_add(text.len() + 1),
-            Piece::Number(number) => number.width as usize,
+            Piece::Number(number) => number.width.bytes() as usize,
             Piece::Flag(_) => 1,
             Piece::Id(_) => 16,
             Piece::Start(start) => start.len,
@@ -123,11 +124,11 @@ fn write_folded(key: &mut Vec<u8>, bytes: &[u8]) -> Result<(), AllocError>
 }
 
 /// Writes a number in so many bytes, the most significant first.
-fn write_number(key: &mut Vec<u8>, number: u64, width: u8) -> Result<(), AllocError>
-    requires { width ≤ 8 }
-    ensures { OnOk result (key.new.items ≡ key.old.items ++ big_endian width number) }
+fn write_number(key: &mut Vec<u8>, number: u64, width: Width) -> Result<(), AllocError>
+    ensures { OnOk result (key.new.items
+        ≡ key.old.items ++ big_endian (width_bytes width) number) }
 {
-    let mut left = width;
+    let mut left = width.bytes();
     while left > 0 {
         left -= 1;
         key.push((number >> (8 * left) & 0xff) as u8)?;

@@ -2,8 +2,7 @@
 ghost use Rattle.std.specs.Prelude.{◌∷◌, [], Ok};
 ghost use Rattle.mdb_encode.specs.Answers.{AnswersKeys};
 ghost use Rattle.mdb_encode.specs.Keys.{keys, limited, str_list_keys, str_map_keys};
-ghost use Rattle.mdb_encode.specs.Kind.{indexer_of};
-ghost use Rattle.mdb_encode.specs.Lawful.{IsLawful, IsPart};
+ghost use Rattle.mdb_encode.specs.Kind.{indexer_of, part_indexer};
 ghost use Rattle.mdb_encode.specs.inner.Piece.{bytes_of};
 ghost use Rattle.mdb_encode.specs.inner.RowReading.{doc_at};
 
@@ -20,7 +19,7 @@ use self::part::{read_part, value_of};
 use self::texts::Texts;
 use crate::limit::LONGEST_KEY;
 use crate::piece::Piece;
-use crate::{KeyError, Keys, Kind};
+use crate::{KeyError, Keys, Kind, Part};
 use mdb_datum::{Datum, Row};
 use std::alloc::Global;
 
@@ -31,26 +30,24 @@ use std::alloc::Global;
 /// is refused. Each member that the index reads is found in the logarithm of the number of members;
 /// beside that its time is linear in what it reads.
 pub fn keys_of(alloc: Global, kind: &Kind, row: &Row) -> Result<Keys, KeyError>
-    requires { IsLawful (indexer_of kind.now) }
     ensures { AnswersKeys (keys (indexer_of kind.now) row.now) result }
 {
     match kind {
+        Kind::Part(part) => part_keys(alloc, part, row),
         Kind::StrList { field, lowercase } => list_keys(alloc, value_of(row, field), *lowercase),
         Kind::StrMap { field, lowercase } => map_keys(alloc, value_of(row, field), *lowercase),
         Kind::Compound {
             parts,
             allow_missing,
         } => compound_keys(alloc, parts, *allow_missing, row),
-        _ => part_keys(alloc, kind, row),
     }
 }
 
 /// The key of an index of at most one key.
-fn part_keys(alloc: Global, kind: &Kind, row: &Row) -> Result<Keys, KeyError>
-    requires { IsPart (indexer_of kind.now) }
-    ensures { AnswersKeys (keys (indexer_of kind.now) row.now) result }
+fn part_keys(alloc: Global, part: &Part, row: &Row) -> Result<Keys, KeyError>
+    ensures { AnswersKeys (keys (part_indexer part.now) row.now) result }
 {
-    match read_part(kind, row)? {
+    match read_part(part, row)? {
         None => Ok(Keys::new(alloc)),
         Some(piece) => piece_keys(alloc, &piece),
     }

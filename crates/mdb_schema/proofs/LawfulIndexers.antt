@@ -1,21 +1,18 @@
 -- What is read as an indexer is lawful.
 use Rattle.std.proofs.Common.{arith, ◌≡◌, ◌<◌, subst, ℕ, ℤ, pos, negsuc, List, [], ◌∷◌, length, Bool, true, false, Some, None, Option, inl, inr}
-use Rattle.std.specs.Prelude.{Result, Ok, Err, ◌==◌, if◌then◌else◌, option_and_then, nat_lt, codes, IfOk}
+use Rattle.std.specs.Prelude.{Ok, Err, ◌==◌, if◌then◌else◌, option_and_then, nat_lt, codes}
 use Rattle.std.proofs.lemmas.Bool.Decides.{nat_tests}
 use Rattle.mdb_datum.specs.Doc.{Doc, nil, flag, whole, text, list, object, Field, member}
 use Rattle.mdb_encode.specs.Bytes.{Bytes}
 use Rattle.mdb_encode.specs.Indexer.{Indexer, str, str_list, str_map, uint, sint, truth, uuid, is_set, equals, compound}
-use Rattle.mdb_encode.specs.Kind.{part_list, indexer_of}
-use Rattle.mdb_encode.specs.declared.kind.Kind.{Kind}
-use Rattle.mdb_encode.specs.Lawful.{IsWidth, IsScalar, IsPart, AreParts, IsPartList, IsLawful}
-use Rattle.mdb_encode.proofs.Parts.{part_is_lawful}
+use Rattle.mdb_encode.specs.Kind.{part_list}
+use Rattle.mdb_encode.specs.Lawful.{IsWidth, IsScalar, scalar_in, IsPart, AreParts, IsPartList, IsLawful}
+use Rattle.mdb_encode.proofs.LawfulKinds.{part_is_lawful}
 use Rattle.mdb_schema.specs.Broken.{◌>>=◌, needed, passed, each}
-use Rattle.mdb_schema.specs.inner.IndexerAnswer.{Answers}
 use Rattle.mdb_schema.specs.Members.{text_bytes, filled}
-use Rattle.mdb_schema.specs.Shapes.{has_only, both, field_in, flag_or_false, number_in, scalar_in, folded_shape, width_shape, plain_shape, equals_shape, compound_shape}
+use Rattle.mdb_schema.specs.Shapes.{has_only, both, field_in, flag_or_false, number_in, folded_shape, width_shape, plain_shape, equals_shape, compound_shape}
 use Rattle.mdb_schema.specs.Reading.{width_of, sized, folded_indexer, width_indexer, plain_indexer, equals_indexer, single_indexer, kind_in, part_in, compound_indexer, whole_indexer, indexer_in}
 use Rattle.mdb_schema.specs.declared.schema_rule.SchemaRule.TheVariants as rule
-use Rattle.mdb_schema.specs.declared.error.IndexerError.{IndexerError}
 use Rattle.mdb_schema.specs.declared.kind_name.KindName.{KindName}
 use Rattle.mdb_schema.specs.declared.kind_name.KindName.TheVariants as kind
 use Rattle.mdb_schema.proofs.Chains.{passed_on, needed_there, passed_true, both_there, under_test}
@@ -164,7 +161,3 @@ pub indexer_lawful : (d : Doc) (i : Indexer) → indexer_in d ≡ Ok i → IsLaw
 indexer_lawful d i e =
     let c = passed_on (kind_in d) (λ (k : KindName × List Field). whole_indexer k.0 k.1) i e in
     whole_lawful c.0.0 c.0.1 i c.2
-
-pub answer_lawful : (d : Doc) (r : Result Kind IndexerError) → Answers indexer_of (indexer_in d) r → IfOk r (λ k. IsLawful (indexer_of k))
-answer_lawful d (Ok k) told = indexer_lawful d (indexer_of k) told
-answer_lawful d (Err e) told = tt

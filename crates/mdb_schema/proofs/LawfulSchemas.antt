@@ -41,7 +41,7 @@ rules_kept name u m i x e is = of (bytes_eq name (codes "id")) ((bytes_eq-Decide
     of false h e = cc
 
 -- an index of a declared name, with the indexer that was read for it
-kind_kept : (name : Bytes) (u m : Bool) (d : Doc) (i : Indexer) → IsTrue (is_declared_name name) → index_kind name u m d ≡ Ok i → IsLawfulIndex (record { name = name; unique = u; allow_missing = m; indexer = i })
+pub kind_kept : (name : Bytes) (u m : Bool) (d : Doc) (i : Indexer) → IsTrue (is_declared_name name) → index_kind name u m d ≡ Ok i → IsLawfulIndex (record { name = name; unique = u; allow_missing = m; indexer = i })
 kind_kept name u m d i declared e =
     let x = passed_on (indexer_in d) (λ (i : Indexer). index_rules name u m i >>= (λ kept. Ok i)) i e in
     let k = passed_on (index_rules name u m x.0) (λ kept. Ok x.0) i x.2 in

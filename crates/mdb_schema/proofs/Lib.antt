@@ -1,5 +1,6 @@
 pub mod Chains
 pub mod ChangeLaws
+pub mod CompoundReading
 pub mod Each
 pub mod EntriesAfter
 pub mod EntriesOfRows
@@ -32,5 +33,6 @@ pub mod ShapeLemmas
 pub mod Tables
 pub mod TrackedNone
 pub mod WriteTests
+pub mod WidthReading
 pub mod WipeLaws
 pub mod Writes

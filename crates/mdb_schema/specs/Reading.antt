@@ -83,12 +83,17 @@ part_in d = do
   known ← kind_in d
   single_indexer known.0 known.1
 
+-- an indexer of these parts, of which there has to be one
+abbrev pub compound_of : List Doc → Bool → Checked Indexer
+compound_of ds allow_missing = do
+  some ← passed rule.EmptyCompound (nat_lt 0 (length ds))
+  parts ← each part_in ds
+  Ok (compound (part_list parts) allow_missing)
+
 abbrev pub compound_indexer : List Field → Checked Indexer
 compound_indexer fs = do
   shape ← needed rule.BadShape (compound_shape fs)
-  some ← passed rule.EmptyCompound (nat_lt 0 (length shape.0))
-  parts ← each part_in shape.0
-  Ok (compound (part_list parts) shape.1)
+  compound_of shape.0 shape.1
 
 -- an indexer whose kind is known
 abbrev pub whole_indexer : KindName → List Field → Checked Indexer

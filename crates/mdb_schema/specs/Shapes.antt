@@ -4,8 +4,9 @@
 use Rattle.std.specs.Prelude.{ℤ, List, Bool, false, if◌then◌else◌, Option, Some, None, option_and_then, [], ◌∷◌, codes}
 use Rattle.std.specs.List.{list_any, list_all}
 use Rattle.std.specs.Str.{bytes_eq}
-use Rattle.mdb_datum.specs.Doc.{Doc, flag, whole, list, object, Field, docs_in, member}
+use Rattle.mdb_datum.specs.Doc.{Doc, flag, whole, list, Field, docs_in, member}
 use Rattle.mdb_encode.specs.Bytes.{Bytes}
+use Rattle.mdb_encode.specs.Lawful.{scalar_in}
 use Rattle.mdb_schema.specs.Members.{object_fields, text_bytes, filled}
 use Rattle.mdb_schema.specs.declared.version.Version.{Version}
 use Rattle.mdb_schema.specs.declared.version.Version.TheVariants as version
@@ -26,11 +27,6 @@ number_in d = None
 abbrev pub list_in : Doc → Option (List Doc)
 list_in (list ds) = Some (docs_in ds)
 list_in d = None
-
-abbrev pub scalar_in : Doc → Option Doc
-scalar_in (list ds) = None
-scalar_in (object fs) = None
-scalar_in d = Some d
 
 -- the member that an indexer reads: a text that isn't empty
 abbrev pub field_in : List Field → Option Bytes

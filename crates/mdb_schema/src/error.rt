@@ -57,6 +57,15 @@ impl From<AllocError> for IndexerError {
     }
 }
 
+impl<T: Drop> From<AllocFailed<T>> for IndexerError {
+    ghost from_gives = { λ _ e. e ≡ indexer_error.Memory };
+
+    /// Want of memory.
+    fn from(_: AllocFailed<T>) -> Self {
+        IndexerError::Memory
+    }
+}
+
 impl From<SchemaRule> for IndexerError {
     ghost from_gives = { λ r e. e ≡ indexer_error.Broken r };
 

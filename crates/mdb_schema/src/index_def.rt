@@ -1,7 +1,6 @@
 //! Indexes of a table.
 ghost use Rattle.std.specs.Prelude.{◌≡◌};
 ghost use Rattle.mdb_encode.specs.Kind.{indexer_of};
-ghost use Rattle.mdb_encode.specs.Lawful.{IsLawful};
 ghost use Rattle.mdb_schema.specs.LawfulSchema.{IsLawfulIndex};
 
 use mdb_datum::Text;
@@ -83,7 +82,6 @@ impl IndexDef {
     /// How the keys are made.
     pub fn kind(&self) -> &Kind
         ensures indexer { indexer_of result.now ≡ self.now.indexer }
-        ensures lawful { IsLawful (indexer_of result.now) }
     {
         &self.kind
     }

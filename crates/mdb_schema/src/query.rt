@@ -1,6 +1,5 @@
 //! A question of an index.
 ghost use Rattle.std.specs.Prelude.{◌≡◌, IfOk};
-ghost use Rattle.mdb_datum.specs.Datum.{items_of};
 
 use crate::ask::Ask;
 use mdb_datum::{Items, Text};
@@ -64,7 +63,7 @@ impl Query {
           ask = ask;
           table = table.now;
           index = index.now;
-          args = items_of args;
+          args = args;
         }) }
     {
         // The names are copied first, so that want of memory for one drops the arguments alone.
@@ -85,7 +84,7 @@ impl Query {
           ask = ask;
           table = table;
           index = index;
-          args = items_of args;
+          args = args;
         }) }
     {
         let parts = Parts {
@@ -132,7 +131,7 @@ impl Query {
 
     /// The arguments.
     pub fn args(&self) -> &Items
-        ensures { items_of result.now ≡ self.now.args }
+        ensures { result.now ≡ self.now.args }
     {
         &self.parts.args
     }

@@ -2,10 +2,9 @@
 ghost use Rattle.std.specs.Prelude.{◌≡◌, IfOk, IsTrue, Some, None, option_copied};
 ghost use Rattle.std.specs.Result.{result_map_both};
 ghost use Rattle.mdb_datum.specs.Canonical.{IsRegular};
-ghost use Rattle.mdb_datum.specs.Datum.{doc_of, members_of};
+ghost use Rattle.mdb_datum.specs.Datum.{doc_of};
 ghost use Rattle.mdb_datum.specs.Reading.{reading};
 ghost use Rattle.mdb_encode.specs.Kind.{indexer_of};
-ghost use Rattle.mdb_encode.specs.Lawful.{IsLawful};
 ghost use Rattle.mdb_schema.specs.Broken.{each};
 ghost use Rattle.mdb_schema.specs.LawfulSchema.{IsLawfulIndex, IsLawfulSchema, IsLawfulTable};
 ghost use Rattle.mdb_schema.specs.Names.{is_declared_name};
@@ -198,7 +197,7 @@ fn index_list<'a>(
     name: &Text,
     document: &'a Datum,
 ) -> Result<(&'a Members, bool), SchemaRule>
-    ensures { result_map_both (λ p. (members_of p.0.now, p.1)) (λ r. r) result
+    ensures { result_map_both (λ p. (p.0.now, p.1)) (λ r. r) result
         ≡ index_list version (name.now, doc_of document.now) }
 {
     if !is_declared_name(name.as_str()) {
@@ -224,7 +223,7 @@ fn index_list<'a>(
 
 /// The indexes of a table, each whole before the next.
 fn indexes_in(alloc: Global, table: &Text, members: &Members) -> Result<Vec<IndexDef>, SchemaError>
-    ensures { AnswersList (each (named_index table.now) (members_of members.now)) result }
+    ensures { AnswersList (each (named_index table.now) members.now) result }
 {
     let mut indexes = Vec::new(alloc);
     for at in 0..members.len() {
@@ -278,7 +277,7 @@ fn table_in(
 
 /// The version of the format, and the members for the tables of a schema.
 fn table_list(document: &Datum) -> Result<(Version, &Members), SchemaRule>
-    ensures { result_map_both (λ p. (p.0, members_of p.1.now)) (λ r. r) result
+    ensures { result_map_both (λ p. (p.0, p.1.now)) (λ r. r) result
         ≡ table_list (doc_of document.now) }
 {
     let Some(members) = object_in(document) else {
@@ -305,8 +304,8 @@ fn tables_in(
     version: Version,
     members: &Members,
 ) -> Result<Vec<TableDef>, SchemaError>
-    requires { EachRegular (members_of members.now) }
-    ensures { AnswersList (each (table_in version) (members_of members.now)) result }
+    requires { EachRegular members.now }
+    ensures { AnswersList (each (table_in version) members.now) result }
 {
     let mut tables = Vec::new(alloc);
     for at in 0..members.len() {

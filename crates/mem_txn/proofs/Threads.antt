@@ -19,11 +19,10 @@ use Rattle.mem_txn.specs.contracts.turn.Turn
 use Rattle.std.proofs.Crossing.{crosses, sync}
 use Rattle.std.specs.contracts.alloc.Global
 use Rattle.std.specs.contracts.option.Option
-use Rattle.mdb_datum.proofs.datum.Datum.TheLaws.TheKnot as datum
-use Rattle.mdb_encode.proofs.kind.Kind.TheLaws.TheKnot as kind
-use Rattle.mdb_datum.specs.contracts.row.Row
+use Rattle.mdb_datum.proofs.Threads.{row_send, row_sync}
 use Rattle.mdb_datum.specs.contracts.text.Text
 use Rattle.mdb_encode.specs.contracts.kind.Kind
+use Rattle.mdb_encode.specs.contracts.kind.part.Part
 use Rattle.mdb_schema.specs.contracts.schema.Schema
 use Rattle.mdb_schema.specs.contracts.index_def.IndexDef
 use Rattle.mdb_schema.specs.contracts.table_def.TableDef
@@ -40,23 +39,23 @@ use Rattle.mem_txn.specs.contracts.view.View
 use Rattle.mem_txn.specs.contracts.version.Contents
 use Rattle.mem_txn.specs.contracts.version.Version
 
-row-send : IsSend (Row.the_field).row
-row-send = search (sendable, crosses, datum.crosses_both) depth 20
-
-row-sync : IsSync (Row.the_field).row
-row-sync = search (sendable, crosses, datum.crosses_both) depth 20
-
 text-send : IsSend (Text.the_field).row
 text-send = search (sendable, crosses) depth 20
 
 text-sync : IsSync (Text.the_field).row
 text-sync = search (sendable, crosses) depth 20
 
+part-send : IsSend Part.the_row
+part-send = search (sendable, crosses) depth 60 fits 40000
+
+part-sync : IsSync Part.the_row
+part-sync = search (sendable, crosses) depth 60 fits 40000
+
 kind-send : IsSend (Kind.the_field).row
-kind-send = search (sendable, crosses, datum.crosses_both, kind.crosses_both) depth 20
+kind-send = search (sendable, crosses, part-send) depth 60 fits 40000
 
 kind-sync : IsSync (Kind.the_field).row
-kind-sync = search (sendable, crosses, datum.crosses_both, kind.crosses_both) depth 20
+kind-sync = search (sendable, crosses, part-sync) depth 60 fits 40000
 
 index-send : IsSend IndexDef.the_row
 index-send = search (sendable, text-send, kind-send) depth 20
@@ -98,10 +97,10 @@ pub table_change_send : IsSend TableTxn.the_row
 table_change_send = search (sendable, crosses, def_send, tree_txn-send) depth 20
 
 pub accepted_send : IsSend Accepted.the_row
-accepted_send = search (sendable, crosses, def_send, row-send) depth 20
+accepted_send = search (sendable, crosses, def_send, row_send) depth 20
 
 pub accepted_sync : IsSync Accepted.the_row
-accepted_sync = search (sendable, crosses, def_sync, row-sync) depth 20
+accepted_sync = search (sendable, crosses, def_sync, row_sync) depth 20
 
 pub view_send : IsSend View.the_row
 view_send = search (sendable, crosses, schema_send, schema_sync, table_send, table_sync) depth 20

@@ -10,10 +10,9 @@ use Rattle.std.specs.contracts.impls.GlobalAllocator.TheImpl
 use Rattle.std.specs.contracts.option.Option
 use Rattle.std.specs.contracts.sync.Arc
 use Rattle.smallvec.specs.contracts.small_vec.SmallVec
-use Rattle.mdb_datum.specs.contracts.row.Row
 use Rattle.watch_word.specs.contracts.cell.WatchCell
 use Rattle.watch_word.proofs.cell.WatchCell.TheSendSync as of_cell
-use Rattle.mdb_datum.proofs.datum.Datum.TheLaws.TheKnot as datum
+use Rattle.mdb_datum.proofs.Threads.{row_send, row_sync}
 use Rattle.radix_node.proofs.edge.Edge.TheLaws.TheKnot as knot
 use Rattle.radix_node.specs.contracts.leaf.Leaf
 use Rattle.radix_node.specs.contracts.node_ref.NodeRef
@@ -25,12 +24,6 @@ prefix-send = search (sendable, crosses) depth 20
 prefix-sync : IsSync (SmallVec.the_field Builtin.u8 (Param.number 16) Global.the_row TheImpl.ghosts).row
 prefix-sync = search (sendable, crosses) depth 20
 
-row-send : IsSend (Row.the_field).row
-row-send = search (sendable, crosses, datum.crosses_both) depth 20
-
-row-sync : IsSync (Row.the_field).row
-row-sync = search (sendable, crosses, datum.crosses_both) depth 20
-
 cell-send : IsSend (Arc.the_field WatchCell.the_row Global.the_row TheImpl.ghosts).row
 cell-send = Arc-send WatchCell.the_row of_cell.the_send of_cell.the_sync
 
@@ -38,10 +31,10 @@ cell-sync : IsSync (Arc.the_field WatchCell.the_row Global.the_row TheImpl.ghost
 cell-sync = Arc-sync WatchCell.the_row of_cell.the_send of_cell.the_sync
 
 leaf-send : IsSend Leaf.the_row
-leaf-send = search (sendable, crosses, row-send, cell-send) depth 20
+leaf-send = search (sendable, crosses, row_send, cell-send) depth 20
 
 leaf-sync : IsSync Leaf.the_row
-leaf-sync = search (sendable, crosses, row-sync, cell-sync) depth 20
+leaf-sync = search (sendable, crosses, row_sync, cell-sync) depth 20
 
 label-send : IsSend Field.u8-field.row
 label-send = search (sendable, crosses) depth 20

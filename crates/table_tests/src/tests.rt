@@ -27,7 +27,6 @@ static SCHEMA: &str = "{\"memdb\":1,\"tables\":{\"t\":{\"indexes\":{\
     \"tags\":{\"allow_missing\":true,\"indexer\":{\"kind\":\"text_list\",\"field\":\"tags\"}}}}}}";
 
 /// The row that a text is. Another text counts as want of memory, which ends a test.
-#[tactic(auto, using(mdb_datum::proofs::Variants::doc_of_members))]
 fn row_of(alloc: Global, text: &str) -> Result<Row, AllocError> {
     match read_doc(alloc, text.as_bytes()) {
         Ok(Datum::Members(members)) => Row::of(alloc, members),

@@ -150,7 +150,6 @@ fn is_made(done: Done) -> Told {
 }
 
 /// The row that a text is. Another text counts as want of memory, which ends a test.
-#[tactic(auto, using(mdb_datum::proofs::Variants::doc_of_members))]
 pub fn row_of(alloc: Global, text: &str) -> Result<Row, AllocError> {
     match read_doc(alloc, text.as_bytes()) {
         Ok(Datum::Members(members)) => Row::of(alloc, members),

@@ -1,11 +1,5 @@
 //! What rows and arguments give, compared with keys in hexadecimal or with the word for a refusal.
 //! Want of memory fails the test.
-ghost use Rattle.std.specs.Prelude.{IfOk};
-ghost use Rattle.mdb_datum.specs.Datum.{members_of};
-ghost use Rattle.mdb_datum.specs.Row.{IsCanonicalRow};
-ghost use Rattle.mdb_encode.specs.Kind.{indexer_of};
-ghost use Rattle.mdb_encode.specs.Lawful.{IsLawful};
-
 use super::samples::{Sample, kind_of};
 use mdb_datum::{Datum, Items, Members, Row, read_doc};
 use mdb_encode::{ArgError, Key, KeyError, Keys, Kind, arg_key, keys_of, prefix_key};
@@ -13,10 +7,7 @@ use std::alloc::{AllocError, Global};
 use std::test::Fail;
 
 /// The members of an object.
-#[tactic(auto, using(mdb_datum::proofs::Variants::doc_of_members))]
-fn members_in(alloc: Global, text: &str) -> Result<Members, Fail>
-    ensures { IfOk result (λ members. IsCanonicalRow (members_of members)) }
-{
+fn members_in(alloc: Global, text: &str) -> Result<Members, Fail> {
     match read_doc(alloc, text.as_bytes())? {
         Datum::Members(members) => Ok(members),
         _ => Err(Fail::from("no object")),
@@ -94,9 +85,7 @@ fn is_key(alloc: Global, key: &Key, want: &str) -> Result<bool, Fail> {
 }
 
 /// Whether the row has these keys in an index, or is refused so.
-fn has_keys(alloc: Global, kind: &Kind, row: &Row, want: &str) -> Result<bool, Fail>
-    requires { IsLawful (indexer_of kind.now) }
-{
+fn has_keys(alloc: Global, kind: &Kind, row: &Row, want: &str) -> Result<bool, Fail> {
     match keys_of(alloc, kind, row) {
         Ok(keys) => are_keys(alloc, &keys, want),
         Err(KeyError::Memory) => Err(Fail::from("memory")),
@@ -139,9 +128,7 @@ fn makes_key(
     args: &Items,
     is_prefix: bool,
     want: &str,
-) -> Result<bool, Fail>
-    requires { IsLawful (indexer_of kind.now) }
-{
+) -> Result<bool, Fail> {
     if is_prefix {
         is_answer(alloc, prefix_key(alloc, kind, args), want)
     } else {

@@ -1,8 +1,9 @@
 //! Arguments and their keys, exact and in the prefix form.
 
 use super::answers::{args_give, items_in};
-use super::samples::{Sample, Width};
+use super::samples::Sample;
 use mdb_datum::{Datum, Items};
+use mdb_encode::Width;
 use std::alloc::{AllocError, Global};
 use std::test::Fail;
 

@@ -1,7 +1,8 @@
 //! Rows and their keys.
 
 use super::answers::row_gives;
-use super::samples::{Sample, Width};
+use super::samples::Sample;
+use mdb_encode::Width;
 use std::test::Fail;
 
 /// Rows, and their keys in hexadecimal or the refusal.

@@ -1,13 +1,9 @@
 //! The indexers of the tests.
-ghost use Rattle.std.specs.Prelude.{◌≡◌, ◌++◌, ◌∷◌, [], false, IfOk, OnOk};
-ghost use Rattle.mdb_datum.specs.Datum.{doc_of};
-ghost use Rattle.mdb_encode.specs.Indexer.{str, uint};
-ghost use Rattle.mdb_encode.specs.Kind.{indexer_of, indexers_of};
-ghost use Rattle.mdb_encode.specs.Lawful.{IsLawful, IsScalar, IsWidth};
 
 use mdb_datum::{Datum, Text};
-use mdb_encode::{Kind, Kinds};
-use std::alloc::{AllocError, Global};
+use mdb_encode::{Field, Kind, Part, Parts, Scalar, Width};
+use std::alloc::Global;
+use std::test::Fail;
 
 /// An indexer over the member `f`, or over `a` and `b`.
 #[derive(Clone, Copy)]
@@ -40,33 +36,8 @@ pub(super) enum Sample {
     Mixed,
 }
 
-/// How many bytes a number has.
-#[derive(Clone, Copy)]
-pub(super) enum Width {
-    One,
-    Two,
-    Four,
-    Eight,
-}
-
-impl Width {
-    /// The number of bytes.
-    fn bytes(self) -> u8
-        ensures { IsWidth result }
-    {
-        match self {
-            Width::One => 1,
-            Width::Two => 2,
-            Width::Four => 4,
-            Width::Eight => 8,
-        }
-    }
-}
-
 /// The kind of a sample.
-pub(super) fn kind_of(alloc: Global, sample: Sample) -> Result<Kind, AllocError>
-    ensures { IfOk result (λ kind. IsLawful (indexer_of kind)) }
-{
+pub(super) fn kind_of(alloc: Global, sample: Sample) -> Result<Kind, Fail> {
     match sample {
         Sample::Str(lowercase) => text(alloc, lowercase),
         Sample::StrList(lowercase) => text_list(alloc, lowercase),
@@ -84,132 +55,109 @@ pub(super) fn kind_of(alloc: Global, sample: Sample) -> Result<Kind, AllocError>
     }
 }
 
+/// The member of a name.
+fn field_named(alloc: Global, name: &str) -> Result<Field, Fail> {
+    Ok(Field::of(Text::of(alloc, name)?).ok_or("an empty name")?)
+}
+
 /// A text under `f`.
-fn text(alloc: Global, lowercase: bool) -> Result<Kind, AllocError>
-    ensures { IfOk result (λ kind. IsLawful (indexer_of kind)) }
-{
-    let field = Text::of(alloc, "f")?;
-    Ok(Kind::Str { field, lowercase })
+fn text(alloc: Global, lowercase: bool) -> Result<Kind, Fail> {
+    let field = field_named(alloc, "f")?;
+    Ok(Kind::Part(Part::Str { field, lowercase }))
 }
 
 /// A list of texts under `f`.
-fn text_list(alloc: Global, lowercase: bool) -> Result<Kind, AllocError>
-    ensures { IfOk result (λ kind. IsLawful (indexer_of kind)) }
-{
-    let field = Text::of(alloc, "f")?;
+fn text_list(alloc: Global, lowercase: bool) -> Result<Kind, Fail> {
+    let field = field_named(alloc, "f")?;
     Ok(Kind::StrList { field, lowercase })
 }
 
 /// An object of texts under `f`.
-fn text_map(alloc: Global, lowercase: bool) -> Result<Kind, AllocError>
-    ensures { IfOk result (λ kind. IsLawful (indexer_of kind)) }
-{
-    let field = Text::of(alloc, "f")?;
+fn text_map(alloc: Global, lowercase: bool) -> Result<Kind, Fail> {
+    let field = field_named(alloc, "f")?;
     Ok(Kind::StrMap { field, lowercase })
 }
 
 /// A number from 0 on under `f`.
-fn unsigned(alloc: Global, width: Width) -> Result<Kind, AllocError>
-    ensures { IfOk result (λ kind. IsLawful (indexer_of kind)) }
-{
-    let width = width.bytes();
-    let field = Text::of(alloc, "f")?;
-    Ok(Kind::Uint { field, width })
+fn unsigned(alloc: Global, width: Width) -> Result<Kind, Fail> {
+    let field = field_named(alloc, "f")?;
+    Ok(Kind::Part(Part::Uint { field, width }))
 }
 
 /// A number of either sign under `f`.
-fn signed(alloc: Global, width: Width) -> Result<Kind, AllocError>
-    ensures { IfOk result (λ kind. IsLawful (indexer_of kind)) }
-{
-    let width = width.bytes();
-    let field = Text::of(alloc, "f")?;
-    Ok(Kind::Sint { field, width })
+fn signed(alloc: Global, width: Width) -> Result<Kind, Fail> {
+    let field = field_named(alloc, "f")?;
+    Ok(Kind::Part(Part::Sint { field, width }))
 }
 
 /// A truth value under `f`.
-fn flag(alloc: Global) -> Result<Kind, AllocError>
-    ensures { IfOk result (λ kind. IsLawful (indexer_of kind)) }
-{
-    let field = Text::of(alloc, "f")?;
-    Ok(Kind::Flag { field })
+fn flag(alloc: Global) -> Result<Kind, Fail> {
+    let field = field_named(alloc, "f")?;
+    Ok(Kind::Part(Part::Flag { field }))
 }
 
 /// A UUID under `f`.
-fn uuid(alloc: Global) -> Result<Kind, AllocError>
-    ensures { IfOk result (λ kind. IsLawful (indexer_of kind)) }
-{
-    let field = Text::of(alloc, "f")?;
-    Ok(Kind::Uuid { field })
+fn uuid(alloc: Global) -> Result<Kind, Fail> {
+    let field = field_named(alloc, "f")?;
+    Ok(Kind::Part(Part::Uuid { field }))
 }
 
 /// Whether `f` is set.
-fn is_set(alloc: Global) -> Result<Kind, AllocError>
-    ensures { IfOk result (λ kind. IsLawful (indexer_of kind)) }
-{
-    let field = Text::of(alloc, "f")?;
-    Ok(Kind::IsSet { field })
+fn is_set(alloc: Global) -> Result<Kind, Fail> {
+    let field = field_named(alloc, "f")?;
+    Ok(Kind::Part(Part::IsSet { field }))
 }
 
 /// Whether `f` equals a scalar.
-fn equals(alloc: Global, scalar: Datum) -> Result<Kind, AllocError>
-    requires { IsScalar (doc_of scalar) }
-    ensures { IfOk result (λ kind. IsLawful (indexer_of kind)) }
-{
-    let field = Text::of(alloc, "f")?;
-    Ok(Kind::Equals { field, scalar })
+fn equals(alloc: Global, document: Datum) -> Result<Kind, Fail> {
+    let scalar = Scalar::of(document).ok_or("no scalar")?;
+    let field = field_named(alloc, "f")?;
+    Ok(Kind::Part(Part::Equals { field, scalar }))
 }
 
 /// Whether `f` is the text `on`.
-fn equals_on(alloc: Global) -> Result<Kind, AllocError>
-    ensures { IfOk result (λ kind. IsLawful (indexer_of kind)) }
-{
+fn equals_on(alloc: Global) -> Result<Kind, Fail> {
     let text = Text::of(alloc, "on")?;
     equals(alloc, Datum::Str(text))
 }
 
-/// Adds a text as a part.
-fn push_text(alloc: Global, parts: &mut Kinds, name: &str) -> Result<(), AllocError>
-    ensures { OnOk result (indexers_of parts.new
-        ≡ indexers_of parts.old ++ str name.now false ∷ []) }
-{
-    let field = Text::of(alloc, name)?;
-    parts.push(Kind::Str {
+/// A text as a part.
+fn text_part(alloc: Global, name: &str) -> Result<Part, Fail> {
+    let field = field_named(alloc, name)?;
+    Ok(Part::Str {
         field,
         lowercase: false,
     })
 }
 
-/// Adds a number of one byte as a part.
-fn push_byte(alloc: Global, parts: &mut Kinds, name: &str) -> Result<(), AllocError>
-    ensures { OnOk result (indexers_of parts.new
-        ≡ indexers_of parts.old ++ uint name.now 1 ∷ []) }
-{
-    let field = Text::of(alloc, name)?;
-    parts.push(Kind::Uint { field, width: 1 })
+/// A number of one byte as a part.
+fn byte_part(alloc: Global, name: &str) -> Result<Part, Fail> {
+    let field = field_named(alloc, name)?;
+    Ok(Part::Uint {
+        field,
+        width: Width::One,
+    })
 }
 
-/// A text under `a` and one under `b`.
-fn pair(alloc: Global, allow_missing: bool) -> Result<Kind, AllocError>
-    ensures { IfOk result (λ kind. IsLawful (indexer_of kind)) }
-{
-    let mut parts = Kinds::new(alloc);
-    push_text(alloc, &mut parts, "a")?;
-    push_text(alloc, &mut parts, "b")?;
+/// The keys of two parts, joined.
+fn joined(alloc: Global, first: Part, second: Part, allow_missing: bool) -> Result<Kind, Fail> {
+    let parts = Parts::of(vec![in alloc; first, second]?).ok_or("no parts")?;
     Ok(Kind::Compound {
         parts,
         allow_missing,
     })
 }
 
+/// A text under `a` and one under `b`.
+fn pair(alloc: Global, allow_missing: bool) -> Result<Kind, Fail> {
+    let first = text_part(alloc, "a")?;
+    let second = text_part(alloc, "b")?;
+    joined(alloc, first, second, allow_missing)
+}
+
 /// A text under `a` and a number of one byte under `b`.
-fn mixed(alloc: Global) -> Result<Kind, AllocError>
-    ensures { IfOk result (λ kind. IsLawful (indexer_of kind)) }
-{
-    let mut parts = Kinds::new(alloc);
-    push_text(alloc, &mut parts, "a")?;
-    push_byte(alloc, &mut parts, "b")?;
-    Ok(Kind::Compound {
-        parts,
-        allow_missing: false,
-    })
+fn mixed(alloc: Global) -> Result<Kind, Fail> {
+    let first = text_part(alloc, "a")?;
+    let second = byte_part(alloc, "b")?;
+    joined(alloc, first, second, false)
 }

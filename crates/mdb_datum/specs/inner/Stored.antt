@@ -92,5 +92,8 @@ stored_inj x y same = sym (doc_back x) ∙ ap doc_from same ∙ doc_back y
 abbrev pub doc_code : Coded Doc
 doc_code = record { code = stored; inj = stored_inj }
 
+abbrev pub docs_code : Coded (List Doc)
+docs_code = coded_list doc_code
+
 abbrev pub fields_code : Coded (List Field)
 fields_code = coded_list (coded× (coded_list coded_ℕ) doc_code)

@@ -4,59 +4,49 @@ ghost use Rattle.mdb_datum.specs.Datum.{doc_of};
 ghost use Rattle.mdb_encode.specs.inner.ArgReading.{arg_read};
 ghost use Rattle.mdb_encode.specs.Arguments.{text_arg, text_pre, uint_arg, sint_arg, truth_arg};
 ghost use Rattle.mdb_encode.specs.Arguments.{uuid_arg, uuid_pre, raw_arg, raw_pre};
-ghost use Rattle.mdb_encode.specs.Kind.{indexer_of};
-ghost use Rattle.mdb_encode.specs.Lawful.{IsWidth, IsLawful, IsPart};
-ghost use Rattle.mdb_encode.specs.inner.ArgForms.{TakesOne};
+ghost use Rattle.mdb_encode.specs.Kind.{part_indexer, width_bytes};
 
-use crate::Kind;
 use crate::fixed::{Id, Number};
 use crate::identifier::{parse_start, parse_uuid};
 use crate::number::{signed_number, unsigned_number};
 use crate::piece::Piece;
 use crate::refusal::ArgRefusal;
+use crate::{Part, Width};
 use mdb_datum::Datum;
 
 /// An argument for the value of one member.
-pub(crate) fn read_arg<'a>(kind: &Kind, value: &'a Datum) -> Result<Piece<'a>, ArgRefusal>
-    requires lawful { IsLawful (indexer_of kind.now) }
-    requires one { TakesOne (indexer_of kind.now) }
-    ensures { arg_read result ≡ raw_arg (indexer_of kind.now) (doc_of value.now ∷ []) }
+pub(crate) fn read_arg<'a>(part: &Part, value: &'a Datum) -> Result<Piece<'a>, ArgRefusal>
+    ensures { arg_read result ≡ raw_arg (part_indexer part.now) (doc_of value.now ∷ []) }
 {
-    match kind {
-        Kind::Str { lowercase, .. } => arg_text(value, *lowercase),
-        Kind::StrList { lowercase, .. } => arg_text(value, *lowercase),
-        Kind::Uint { width, .. } => arg_uint(value, *width),
-        Kind::Sint { width, .. } => arg_sint(value, *width),
-        Kind::Flag { .. } | Kind::IsSet { .. } | Kind::Equals { .. } => arg_flag(value),
-        Kind::Uuid { .. } => arg_uuid(value),
-        Kind::StrMap { .. } | Kind::Compound { .. } => unreachable!(),
+    match part {
+        Part::Str { lowercase, .. } => arg_text(value, *lowercase),
+        Part::Uint { width, .. } => arg_uint(value, *width),
+        Part::Sint { width, .. } => arg_sint(value, *width),
+        Part::Flag { .. } | Part::IsSet { .. } | Part::Equals { .. } => arg_flag(value),
+        Part::Uuid { .. } => arg_uuid(value),
     }
 }
 
 /// An argument in the prefix form.
-pub(crate) fn read_prefix<'a>(kind: &Kind, value: &'a Datum) -> Result<Piece<'a>, ArgRefusal>
-    requires { TakesOne (indexer_of kind.now) }
-    ensures { arg_read result ≡ raw_pre (indexer_of kind.now) (doc_of value.now ∷ []) }
+fn read_prefix<'a>(part: &Part, value: &'a Datum) -> Result<Piece<'a>, ArgRefusal>
+    ensures { arg_read result ≡ raw_pre (part_indexer part.now) (doc_of value.now ∷ []) }
 {
-    match kind {
-        Kind::Str { lowercase, .. } => prefix_text(value, *lowercase),
-        Kind::StrList { lowercase, .. } => prefix_text(value, *lowercase),
-        Kind::Uuid { .. } => prefix_uuid(value),
+    match part {
+        Part::Str { lowercase, .. } => prefix_text(value, *lowercase),
+        Part::Uuid { .. } => prefix_uuid(value),
         _ => Err(ArgRefusal::NoPrefixForm),
     }
 }
 
 /// An argument for a part, exact or in the prefix form.
-#[tactic(auto, using(crate::proofs::Parts::part_is_lawful, crate::proofs::Parts::part_takes_one))]
 pub(crate) fn read_form<'a>(
-    part: &Kind,
+    part: &Part,
     value: &'a Datum,
     is_prefix: bool,
 ) -> Result<Piece<'a>, ArgRefusal>
-    requires { IsPart (indexer_of part.now) }
     ensures { arg_read result ≡ (if is_prefix
-        then raw_pre (indexer_of part.now) (doc_of value.now ∷ [])
-        else raw_arg (indexer_of part.now) (doc_of value.now ∷ [])) }
+        then raw_pre (part_indexer part.now) (doc_of value.now ∷ [])
+        else raw_arg (part_indexer part.now) (doc_of value.now ∷ [])) }
 {
     if is_prefix {
         read_prefix(part, value)
@@ -66,7 +56,7 @@ pub(crate) fn read_form<'a>(
 }
 
 /// The key of a text.
-fn arg_text(value: &Datum, lowercase: bool) -> Result<Piece<'_>, ArgRefusal>
+pub(crate) fn arg_text(value: &Datum, lowercase: bool) -> Result<Piece<'_>, ArgRefusal>
     ensures { arg_read result ≡ text_arg lowercase (doc_of value.now) }
 {
     match value {
@@ -76,9 +66,8 @@ fn arg_text(value: &Datum, lowercase: bool) -> Result<Piece<'_>, ArgRefusal>
 }
 
 /// The key of a number from 0 on, in so many bytes.
-fn arg_uint(value: &Datum, width: u8) -> Result<Piece<'_>, ArgRefusal>
-    requires { IsWidth width }
-    ensures { arg_read result ≡ uint_arg width (doc_of value.now) }
+fn arg_uint(value: &Datum, width: Width) -> Result<Piece<'_>, ArgRefusal>
+    ensures { arg_read result ≡ uint_arg (width_bytes width) (doc_of value.now) }
 {
     match value {
         Datum::Whole(number) => match unsigned_number(*number, width) {
@@ -90,9 +79,8 @@ fn arg_uint(value: &Datum, width: u8) -> Result<Piece<'_>, ArgRefusal>
 }
 
 /// The key of a number of either sign, in so many bytes.
-fn arg_sint(value: &Datum, width: u8) -> Result<Piece<'_>, ArgRefusal>
-    requires { IsWidth width }
-    ensures { arg_read result ≡ sint_arg width (doc_of value.now) }
+fn arg_sint(value: &Datum, width: Width) -> Result<Piece<'_>, ArgRefusal>
+    ensures { arg_read result ≡ sint_arg (width_bytes width) (doc_of value.now) }
 {
     match value {
         Datum::Whole(number) => match signed_number(*number, width) {
@@ -127,7 +115,7 @@ fn arg_uuid(value: &Datum) -> Result<Piece<'_>, ArgRefusal>
 }
 
 /// The bytes with which the keys of the texts with this prefix begin.
-fn prefix_text(value: &Datum, lowercase: bool) -> Result<Piece<'_>, ArgRefusal>
+pub(crate) fn prefix_text(value: &Datum, lowercase: bool) -> Result<Piece<'_>, ArgRefusal>
     ensures { arg_read result ≡ text_pre lowercase (doc_of value.now) }
 {
     match value {
@@ -137,7 +125,7 @@ fn prefix_text(value: &Datum, lowercase: bool) -> Result<Piece<'_>, ArgRefusal>
 }
 
 /// The bytes with which the keys of the UUIDs with this start begin.
-fn prefix_uuid(value: &Datum) -> Result<Piece<'_>, ArgRefusal>
+pub(crate) fn prefix_uuid(value: &Datum) -> Result<Piece<'_>, ArgRefusal>
     ensures { arg_read result ≡ uuid_pre (doc_of value.now) }
 {
     match value {

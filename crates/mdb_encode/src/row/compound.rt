@@ -2,25 +2,23 @@
 ghost use Rattle.std.specs.Prelude.{◌≡◌, ◌∷◌, [], IfOk, Ok, OnOk};
 ghost use Rattle.mdb_encode.specs.Answers.{AnswersKeys};
 ghost use Rattle.mdb_encode.specs.Keys.{joined_keys, limited};
-ghost use Rattle.mdb_encode.specs.Lawful.{AreParts};
 ghost use Rattle.mdb_encode.specs.inner.KeyLength.{MeasuresKey, HasOneKey};
 ghost use Rattle.mdb_encode.specs.inner.CompoundParts.{parts_of};
 
 use super::part::read_part;
 use crate::limit::LONGEST_KEY;
 use crate::refusal::KeyRefusal;
-use crate::{Key, KeyError, Keys, Kinds};
+use crate::{Key, KeyError, Keys, Parts};
 use mdb_datum::Row;
 use std::alloc::{AllocError, Global};
 
 /// The key of a row under several parts. It takes memory once it is known that no part is refused.
 pub(crate) fn compound_keys(
     alloc: Global,
-    parts: &Kinds,
+    parts: &Parts,
     allow_missing: bool,
     row: &Row,
 ) -> Result<Keys, KeyError>
-    requires { AreParts (parts_of parts.now) }
     ensures { AnswersKeys
         (limited (joined_keys allow_missing [] (parts_of parts.now) row.now)) result }
 {
@@ -36,8 +34,7 @@ pub(crate) fn compound_keys(
 
 /// How many bytes the key has, or the greatest count that there is; nothing where the row has no
 /// key.
-fn compound_len(parts: &Kinds, allow_missing: bool, row: &Row) -> Result<Option<usize>, KeyRefusal>
-    requires { AreParts (parts_of parts.now) }
+fn compound_len(parts: &Parts, allow_missing: bool, row: &Row) -> Result<Option<usize>, KeyRefusal>
     ensures { MeasuresKey
         (joined_keys allow_missing [] (parts_of parts.now) row.now) result }
 {
@@ -54,12 +51,11 @@ fn compound_len(parts: &Kinds, allow_missing: bool, row: &Row) -> Result<Option<
 /// The key of a row that has one, in memory for so many bytes.
 fn compound_key(
     alloc: Global,
-    parts: &Kinds,
+    parts: &Parts,
     allow_missing: bool,
     row: &Row,
     len: usize,
 ) -> Result<Key, AllocError>
-    requires parts { AreParts (parts_of parts.now) }
     requires one { HasOneKey (joined_keys allow_missing [] (parts_of parts.now) row.now) }
     ensures { IfOk result (λ key.
         joined_keys allow_missing [] (parts_of parts.now) row.now ≡ Ok (key ∷ [])) }
@@ -71,12 +67,11 @@ fn compound_key(
 
 /// Writes the key of a row that has one into an empty buffer.
 fn write_parts(
-    parts: &Kinds,
+    parts: &Parts,
     allow_missing: bool,
     row: &Row,
     bytes: &mut Vec<u8>,
 ) -> Result<(), AllocError>
-    requires parts { AreParts (parts_of parts.now) }
     requires one { HasOneKey (joined_keys allow_missing [] (parts_of parts.now) row.now) }
     requires empty { bytes.old.items ≡ [] }
     ensures { OnOk result (joined_keys allow_missing [] (parts_of parts.now) row.now

@@ -1,10 +1,9 @@
 //! What a row's members put into a key, read and tested before any memory is taken.
 ghost use Rattle.std.specs.Prelude.{◌≡◌};
-ghost use Rattle.mdb_datum.specs.Datum.{doc_of, items_of, members_of};
 ghost use Rattle.mdb_datum.specs.Doc.{list, object, doc_list, field_list};
 ghost use Rattle.mdb_encode.specs.Keys.{str_keys, uint_keys, sint_keys, truth_keys, uuid_keys};
 ghost use Rattle.mdb_encode.specs.Keys.{is_blank, same_scalar};
-ghost use Rattle.mdb_encode.specs.Lawful.{IsWidth};
+ghost use Rattle.mdb_encode.specs.Kind.{scalar_doc, width_bytes};
 ghost use Rattle.mdb_encode.specs.inner.RowReading.{doc_at, keys_read};
 
 use crate::fixed::{Id, Number};
@@ -12,6 +11,7 @@ use crate::identifier::parse_uuid;
 use crate::number::{signed_number, unsigned_number};
 use crate::piece::Piece;
 use crate::refusal::KeyRefusal;
+use crate::{Scalar, Width};
 use mdb_datum::{Datum, Items, Members};
 
 /// A text that is not empty.
@@ -30,9 +30,11 @@ pub(crate) fn read_str(
 }
 
 /// A number from 0 on.
-pub(crate) fn read_uint(value: Option<&Datum>, width: u8) -> Result<Option<Piece<'_>>, KeyRefusal>
-    requires { IsWidth width }
-    ensures { keys_read result ≡ uint_keys width (doc_at value.entry) }
+pub(crate) fn read_uint(
+    value: Option<&Datum>,
+    width: Width,
+) -> Result<Option<Piece<'_>>, KeyRefusal>
+    ensures { keys_read result ≡ uint_keys (width_bytes width) (doc_at value.entry) }
 {
     match value {
         None | Some(Datum::Nil) => Ok(None),
@@ -45,9 +47,11 @@ pub(crate) fn read_uint(value: Option<&Datum>, width: u8) -> Result<Option<Piece
 }
 
 /// A number of either sign.
-pub(crate) fn read_sint(value: Option<&Datum>, width: u8) -> Result<Option<Piece<'_>>, KeyRefusal>
-    requires { IsWidth width }
-    ensures { keys_read result ≡ sint_keys width (doc_at value.entry) }
+pub(crate) fn read_sint(
+    value: Option<&Datum>,
+    width: Width,
+) -> Result<Option<Piece<'_>>, KeyRefusal>
+    ensures { keys_read result ≡ sint_keys (width_bytes width) (doc_at value.entry) }
 {
     match value {
         None | Some(Datum::Nil) => Ok(None),
@@ -102,7 +106,7 @@ pub(crate) fn is_blank(value: Option<&Datum>) -> bool
 /// Whether a list is empty.
 #[tactic(auto, using(crate::proofs::Blank::blank_items))]
 fn has_no_items(items: &Items) -> bool
-    ensures { result ≡ is_blank (list (doc_list (items_of items.now))) }
+    ensures { result ≡ is_blank (list (doc_list items.now)) }
 {
     items.len() == 0
 }
@@ -110,20 +114,20 @@ fn has_no_items(items: &Items) -> bool
 /// Whether an object is empty.
 #[tactic(auto, using(crate::proofs::Blank::blank_members))]
 fn has_no_members(members: &Members) -> bool
-    ensures { result ≡ is_blank (object (field_list (members_of members.now))) }
+    ensures { result ≡ is_blank (object (field_list members.now)) }
 {
     members.len() == 0
 }
 
 /// Whether the member equals a scalar. No list or object equals one.
-pub(crate) fn is_same(value: Option<&Datum>, scalar: &Datum) -> bool
-    ensures { result ≡ same_scalar (doc_at value.entry) (doc_of scalar.now) }
+pub(crate) fn is_same(value: Option<&Datum>, scalar: &Scalar) -> bool
+    ensures { result ≡ same_scalar (doc_at value.entry) (scalar_doc scalar.now) }
 {
     match (value, scalar) {
-        (None | Some(Datum::Nil), Datum::Nil) => true,
-        (Some(Datum::Flag(value)), Datum::Flag(wanted)) => *value == *wanted,
-        (Some(Datum::Whole(value)), Datum::Whole(wanted)) => *value == *wanted,
-        (Some(Datum::Str(value)), Datum::Str(wanted)) => value.as_str() == wanted.as_str(),
+        (None | Some(Datum::Nil), Scalar::Nil) => true,
+        (Some(Datum::Flag(value)), Scalar::Flag(wanted)) => *value == *wanted,
+        (Some(Datum::Whole(value)), Scalar::Whole(wanted)) => *value == *wanted,
+        (Some(Datum::Str(value)), Scalar::Str(wanted)) => value.as_str() == wanted.as_str(),
         _ => false,
     }
 }

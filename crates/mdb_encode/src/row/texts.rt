@@ -1,6 +1,6 @@
 //! The texts of a list or an object, each of which may make a key.
 ghost use Rattle.std.specs.Prelude.{◌≡◌, ◌+◌, ◌<◌, Some, length, slice_get};
-ghost use Rattle.mdb_datum.specs.Datum.{doc_of, members_of};
+ghost use Rattle.mdb_datum.specs.Datum.{doc_of};
 ghost use Rattle.mdb_datum.specs.Doc.{doc, DocList, field, FieldList};
 ghost use Rattle.mdb_encode.specs.Keys.{item_keys, pair_keys};
 ghost use Rattle.mdb_encode.specs.inner.RowReading.{keys_read};
@@ -78,8 +78,8 @@ fn read_pair<'a>(
 
 /// The member at a place that is there, counted from 0.
 fn pair_at(members: &Members, at: usize) -> (&Text, &Datum)
-    requires { at < length (members_of members.now) }
-    ensures { slice_get (members_of members.now) at ≡ Some (result.0.now, doc_of result.1.now) }
+    requires { at < length members.now }
+    ensures { slice_get members.now at ≡ Some (result.0.now, doc_of result.1.now) }
 {
     match members.pair(at) {
         Some(pair) => pair,

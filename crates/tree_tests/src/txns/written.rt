@@ -12,7 +12,6 @@ use std::mem;
 use watch_word::{Front, open_book};
 
 /// The row that a text is. Another text counts as want of memory, which ends a test.
-#[tactic(auto, using(mdb_datum::proofs::Variants::doc_of_members))]
 pub fn row_of(alloc: Global, text: &str) -> Result<Row, AllocError> {
     match read_doc(alloc, text.as_bytes()) {
         Ok(Datum::Members(members)) => Row::of(alloc, members),

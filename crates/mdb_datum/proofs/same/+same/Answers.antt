@@ -1,5 +1,6 @@
 use Rattle.std.proofs.Common.{rules, refl}
-use Rattle.mdb_datum.proofs.SamePlaces.{same_items, same_item, same_members, same_member}
+use Rattle.mdb_datum.specs.Datum.{doc_of, field_of}
+use Rattle.mdb_datum.proofs.SamePlaces.{same_seen, same_there}
 use Rattle.mdb_datum.proofs.Variants.{Decides-same_items, Decides-same_members}
 use Rattle.mdb_datum.proofs.same.+same.Goals as goal
 
@@ -7,21 +8,21 @@ pub has_same_items-returns-then-not-is_same : goal.has_same_items-returns-then-n
 has_same_items-returns-then-not-is_same t c = (
   λ no. cc,
   λ same.
-      let equal = c.is_same.ensures.1 (same_item c.args.one.now c.args.other.now same c.loop-at.at c.item-item.result c.index.result.now (search rules) (search rules) (search rules)) in cc,
+      let equal = c.is_same.ensures.1 (same_there doc_of _ _ _ _ c.one.view_is c.other.view_is same c.loop-at.at c.item-item.result c.index.result.now (search rules) (search rules) (search rules)) in cc,
 )
 
 pub has_same_items-returns : goal.has_same_items-returns
-has_same_items-returns t c = (λ yes. same_items c.args.one.now c.args.other.now (search rules) (λ k none less. search rules), λ same. refl)
+has_same_items-returns t c = (λ yes. same_seen doc_of _ _ _ _ c.one.view_is c.other.view_is (search rules) (λ k none less. search rules), λ same. refl)
 
 pub has_same_members-returns-then-not-is_same_member : goal.has_same_members-returns-then-not-is_same_member
 has_same_members-returns-then-not-is_same_member t c = (
   λ no. cc,
   λ same.
-      let equal = c.is_same_member.ensures.1 (same_member c.args.one.now c.args.other.now same c.loop-at.at c.pair-item.result c.index.result.now (search rules) (search rules) (search rules)) in cc,
+      let equal = c.is_same_member.ensures.1 (same_there field_of _ _ _ _ c.one.view_is c.other.view_is same c.loop-at.at c.pair-item.result c.index.result.now (search rules) (search rules) (search rules)) in cc,
 )
 
 pub has_same_members-returns : goal.has_same_members-returns
-has_same_members-returns t c = (λ yes. same_members c.args.one.now c.args.other.now (search rules) (λ k none less. search rules), λ same. refl)
+has_same_members-returns t c = (λ yes. same_seen field_of _ _ _ _ c.one.view_is c.other.view_is (search rules) (λ k none less. search rules), λ same. refl)
 
 pub is_same-returns-in-Items-Items : goal.is_same-returns-in-Items-Items
 is_same-returns-in-Items-Items t c =

@@ -2,7 +2,6 @@
 use Rattle.std.proofs.Common.{◌≡◌, ◌++◌, ap, ◌∙◌, rules, Result, Ok, Err, OnOk}
 use Rattle.json.specs.Print.{print}
 use Rattle.mdb_datum.specs.Doc.{object, field_list}
-use Rattle.mdb_datum.specs.Datum.{members_of}
 use Rattle.mdb_datum.specs.inner.Tokens.{doc_tokens}
 use Rattle.mdb_datum.proofs.TokenText.{print_doc_tokens}
 use Rattle.mdb_datum.proofs.write.append_members.Goals as goal
@@ -13,7 +12,7 @@ on_ok (Err e) p f = p
 
 pub returns-else-is_err-clause-ok : goal.returns-else-is_err-clause-ok
 returns-else-is_err-clause-ok c =
-    let d = object (field_list (members_of c.args.members.now)) in
+    let d = object (field_list c.args.members.now) in
     let writer = c.put_members-written.new.out in
     let before : writer.before ≡ c.args.out.now.items = search rules in
     on_ok c.put_members-written.result c.put_members-written.ensures.ok (λ all.

@@ -1,5 +1,4 @@
 use Rattle.std.proofs.Common.{◌≡◌, drop}
-use Rattle.mdb_datum.specs.Datum.{members_of}
 use Rattle.mdb_schema.specs.Broken.{each}
 use Rattle.mdb_schema.specs.Reading.{named_index}
 use Rattle.mdb_schema.proofs.Each.{behind}
@@ -7,4 +6,4 @@ use Rattle.mdb_schema.proofs.read.indexes_in.Given as goal
 
 abbrev pub invariant-loop-at : goal.invariant-loop-at
 invariant-loop-at l =
-    each (named_index l.table) (members_of l.members) ≡ behind l.indexes.items (each (named_index l.table) (drop l.at (members_of l.members)))
+    each (named_index l.table) l.members ≡ behind l.indexes.items (each (named_index l.table) (drop l.at l.members))

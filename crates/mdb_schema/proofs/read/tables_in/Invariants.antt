@@ -1,5 +1,4 @@
 use Rattle.std.proofs.Common.{◌≡◌, drop}
-use Rattle.mdb_datum.specs.Datum.{members_of}
 use Rattle.mdb_schema.specs.Broken.{each}
 use Rattle.mdb_schema.specs.Reading.{table_in}
 use Rattle.mdb_schema.proofs.Each.{behind}
@@ -7,4 +6,4 @@ use Rattle.mdb_schema.proofs.read.tables_in.Given as goal
 
 abbrev pub invariant-loop-at : goal.invariant-loop-at
 invariant-loop-at l =
-    each (table_in l.version) (members_of l.members) ≡ behind l.tables.items (each (table_in l.version) (drop l.at (members_of l.members)))
+    each (table_in l.version) l.members ≡ behind l.tables.items (each (table_in l.version) (drop l.at l.members))
