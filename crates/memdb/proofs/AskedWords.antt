@@ -12,11 +12,12 @@ use Rattle.clap.specs.Matches.{first_value, matched_of, raw_values}
 use Rattle.clap.proofs.WalkLemmas.{first_value-rows, raw_values-rows}
 use Rattle.clap.specs.declared.parser.matches.Found.{Found}
 use Rattle.memdb.specs.Made.{Numbers}
-use Rattle.memdb.specs.Words.{Named, files_behind, files_named, make_of, may_name_a_file, number_in, numbers_named, run_of}
+use Rattle.memdb.specs.Words.{files_named, make_of, number_in, numbers_named, run_of}
 use Rattle.memdb.specs.inner.CommandLine.{Asked, HasClients, asked_by, either, files, files_in, number_at, to_make, to_run}
 use Rattle.memdb.specs.inner.CommandOf.{IsCommandOf, asked_of}
 use Rattle.memdb.specs.declared.words.Command.{Command}
 use Rattle.memdb.specs.declared.words.Command.TheVariants.{Run, Make}
+use Rattle.run_io.specs.Named.{Named, files_behind, may_name_a_file}
 
 -- a value that is there and is this one
 pub some_is : {X : Type 0} (o : Option X) (x : X) → IsSomeAnd o (λ y. y ≡ x) → o ≡ Some x
@@ -45,7 +46,7 @@ level_number f id s a = ap (option_and_then number_in) (a ∙ first_value-rows f
 -- ---- how many clients there are
 
 -- behind `run`
-few_behind : (ws : List Text) → HasClients (either (files_behind ws) None)
+few_behind : (ws : List Text) → HasClients (either (files_behind 64 ws) None)
 few_behind [] = tt
 few_behind (s ∷ []) = tt
 few_behind (s ∷ c ∷ cs) = go (nat_lt 64 (length (c ∷ cs))) refl
@@ -95,7 +96,7 @@ apart : (ws : List Text) (named : Named) → run_of ws ≡ Some named → make_o
 apart [] named e = cc
 apart (w ∷ ws) named e = if_run (bytes_eq (codes "run") w) refl e
   where
-    if_run : (b : Bool) → bytes_eq (codes "run") w ≡ b → cond b (files_behind ws) None ≡ Some named → make_of (w ∷ ws) ≡ None
+    if_run : (b : Bool) → bytes_eq (codes "run") w ≡ b → cond b (files_behind 64 ws) None ≡ Some named → make_of (w ∷ ws) ≡ None
     if_run true is e' = subst (λ v. make_of (v ∷ ws) ≡ None) ((bytes_eq-Decides (codes "run") w).0 is) refl
     if_run false no_run e' = cc
 

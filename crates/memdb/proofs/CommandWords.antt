@@ -15,8 +15,9 @@ use Rattle.clap.specs.declared.error.kind.ErrorKind.TheVariants as kind
 use Rattle.clap.specs.declared.parser.matches.ArgMatches.{ArgMatches}
 use Rattle.clap.proofs.FaultLemmas.{stopped_fault}
 use Rattle.clap.proofs.OnLiterals.{clap_on_literals}
-use Rattle.memdb.specs.Words.{files_behind, may_name_a_file, numbers_behind}
+use Rattle.memdb.specs.Words.{numbers_behind}
 use Rattle.memdb.specs.inner.CommandLine.{Asked, asked_at, asked_by, asked_of_matches, bare, either, files, make_rows, program, run_rows, to_make}
+use Rattle.run_io.specs.Named.{files_behind, may_name_a_file}
 use Rattle.memdb.proofs.PlainWords.{left, no_dashes, plain_long, plain_short, right}
 use Rattle.memdb.proofs.MakeWords as make
 use Rattle.memdb.proofs.RunWords as run
@@ -114,7 +115,7 @@ data Parses (ws : List Text) (asked : Option Asked) : Type 0 where
   taken : fault_of program ws ≡ [] → asked_at (subcommand_of program ws) ≡ asked → Parses ws asked
 
 many : (s c : Text) (cs : List Text) → list_all may_name_a_file (s ∷ c ∷ cs) ≡ true
-    → Parses (codes "run" ∷ s ∷ c ∷ cs) (either (files_behind (s ∷ c ∷ cs)) None)
+    → Parses (codes "run" ∷ s ∷ c ∷ cs) (either (files_behind 64 (s ∷ c ∷ cs)) None)
 many s c cs e = go (nat_lt 64 (length (c ∷ cs))) (fault_of_run (s ∷ c ∷ cs) ∙ run.below_more s c cs e)
   where
     go : (b : Bool) → fault_of program (codes "run" ∷ s ∷ c ∷ cs) ≡ cond b (kind.TooManyValues ∷ []) []
@@ -122,7 +123,7 @@ many s c cs e = go (nat_lt 64 (length (c ∷ cs))) (fault_of_run (s ∷ c ∷ cs
     go true f = refused kind.TooManyValues [] f refl
     go false f = taken f (ap asked_at (found_in_run s c cs e))
 
-after_run : (ws : List Text) → list_all may_name_a_file ws ≡ true → Parses (codes "run" ∷ ws) (either (files_behind ws) None)
+after_run : (ws : List Text) → list_all may_name_a_file ws ≡ true → Parses (codes "run" ∷ ws) (either (files_behind 64 ws) None)
 after_run [] e = refused kind.MissingRequiredArgument [] (fault_of_run [] ∙ run.below_none) refl
 after_run (s ∷ []) e = refused kind.MissingRequiredArgument [] (fault_of_run (s ∷ []) ∙ run.below_one s (left _ _ e)) refl
 after_run (s ∷ c ∷ cs) e = many s c cs e

@@ -1,34 +1,36 @@
 -- What the clause `comes` of `run` gives, cause by cause.
-use Rattle.std.proofs.Common.{◌≡◌, refl, inl, inr, ℕ, List, [], ◌∷◌, None, Ok, Err}
+use Rattle.std.proofs.Common.{◌≡◌, refl, inl, inr, ℕ, List, [], ◌∷◌, None, Err}
 use Rattle.client_script.specs.declared.script_error.ScriptError.{ScriptError}
 use Rattle.mdb_datum.specs.Bytes.{Bytes}
 use Rattle.mdb_ports.specs.Faults.{Rose}
 use Rattle.mdb_schema.specs.Broken.{Broken}
-use Rattle.memdb.specs.Causes.{Finds, Reaches, CallsFor, no_command, too_large, broken, broken_script, lawful, IsOneOf}
-use Rattle.memdb.specs.Words.{Named, files_named, numbers_named}
+use Rattle.memdb.specs.Causes.{CallsFor, no_command, refused, lawful}
+use Rattle.memdb.specs.Words.{files_named, numbers_named}
 use Rattle.run_io.specs.Causes.{HasNoExcuse}
 use Rattle.run_io.specs.Inputs.{schema_error}
+use Rattle.run_io.specs.Named.{Named}
 use Rattle.run_io.specs.Observed.{Observed, IsTooLarge}
-use Rattle.run_io.specs.declared.inputs.Inputs.{Inputs}
+use Rattle.run_io.specs.RefusalCauses.{AreLawful, Finds, Reaches, too_large, broken, broken_script}
+use Rattle.run_io.specs.Statuses.{IsOneOf}
 use Rattle.run_io.specs.declared.load_error.LoadError.TheVariants.{Schema, Script}
 
 module _ (words : List Bytes) (seen : Observed) (result : ℕ) (comes : (status : ℕ) → CallsFor words seen status → IsOneOf (status ∷ 4 ∷ 6 ∷ []) result) where
   usage_comes : files_named words ≡ None → numbers_named words ≡ None → IsOneOf (1 ∷ 4 ∷ 6 ∷ []) result
   usage_comes none no_make = comes 1 (no_command refl none no_make)
 
-  too_large_comes : (named : Named) (name : Bytes) → Reaches words seen named name → IsTooLarge seen.told name → HasNoExcuse seen → IsOneOf (7 ∷ 4 ∷ 6 ∷ []) result
-  too_large_comes named name r l plain = comes 7 (too_large refl named name r l plain)
+  too_large_comes : (named : Named) (name : Bytes) → Reaches (files_named words) seen named name → IsTooLarge seen.told name → HasNoExcuse seen → IsOneOf (7 ∷ 4 ∷ 6 ∷ []) result
+  too_large_comes named name r l plain = comes 7 (refused (too_large refl named name r l plain))
 
-  broken_schema_comes : (named : Named) (rule : Broken) → Finds words seen named (Err (Schema (schema_error rule))) → HasNoExcuse seen → IsOneOf (2 ∷ 4 ∷ 6 ∷ []) result
-  broken_schema_comes named rule f plain = comes 2 (broken refl named rule f plain)
+  broken_schema_comes : (named : Named) (rule : Broken) → Finds (files_named words) seen named (Err (Schema (schema_error rule))) → HasNoExcuse seen → IsOneOf (2 ∷ 4 ∷ 6 ∷ []) result
+  broken_schema_comes named rule f plain = comes 2 (refused (broken refl named rule f plain))
 
-  broken_script_comes : (named : Named) (client : ℕ) (rule : ScriptError) → Finds words seen named (Err (Script client rule)) → HasNoExcuse seen → IsOneOf (3 ∷ 4 ∷ 6 ∷ []) result
-  broken_script_comes named client rule f plain = comes 3 (broken_script refl named client rule f plain)
+  broken_script_comes : (named : Named) (client : ℕ) (rule : ScriptError) → Finds (files_named words) seen named (Err (Script client rule)) → HasNoExcuse seen → IsOneOf (3 ∷ 4 ∷ 6 ∷ []) result
+  broken_script_comes named client rule f plain = comes 3 (refused (broken_script refl named client rule f plain))
 
   -- where no write failed, lawful inputs are answered, but for want of memory
   lawful_is_answered : (before now : ℕ) → (result ≡ 6 → Rose before now) → (Rose before now → ⊥) →
-      (named : Named) (inputs : Inputs) → Finds words seen named (Ok inputs) → HasNoExcuse seen → IsOneOf (0 ∷ 4 ∷ []) result
-  lawful_is_answered before now cut quiet named inputs f plain = without_six (comes 0 (lawful refl named inputs f plain))
+      AreLawful (files_named words) seen → IsOneOf (0 ∷ 4 ∷ []) result
+  lawful_is_answered before now cut quiet l = without_six (comes 0 (lawful refl l))
     where
       without_six : IsOneOf (0 ∷ 4 ∷ 6 ∷ []) result → IsOneOf (0 ∷ 4 ∷ []) result
       without_six (inl is) = inl is

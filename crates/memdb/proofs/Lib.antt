@@ -27,7 +27,6 @@ pub mod RoundParts
 pub mod RoundsTold
 pub mod RowsLeft
 pub mod RowsTallied
-pub mod RunAnswers
 pub mod RunWords
 pub mod SessionsMade
 pub mod ShownLines

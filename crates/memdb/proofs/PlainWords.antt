@@ -5,7 +5,7 @@ use Rattle.std.proofs.lemmas.Bool.{not-true}
 use Rattle.clap.specs.Words.{Rule, Text}
 use Rattle.clap.specs.Lexer.{long_of, short_of}
 use Rattle.clap.specs.Walk.{Held, idle, positional, value, word_met}
-use Rattle.memdb.specs.Words.{may_name_a_file}
+use Rattle.run_io.specs.Named.{may_name_a_file}
 
 -- the parts of a test
 pub left : (a b : Bool) → (a && b) ≡ true → a ≡ true

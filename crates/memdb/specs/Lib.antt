@@ -1,4 +1,3 @@
-pub mod Arguments
 pub mod Causes
 pub mod Made
 pub mod Outcome

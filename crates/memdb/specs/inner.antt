@@ -6,6 +6,4 @@ pub mod MadeInputs
 pub mod MadeItem
 pub mod MadeLeft
 pub mod MadeText
-pub mod ReadAnswer
 pub mod Sessions
-pub mod ToldOf

@@ -10,7 +10,6 @@
 #![tactic(auto)]
 
 mod answers;
-mod arguments;
 mod causes;
 mod clients;
 mod made;
@@ -24,15 +23,17 @@ mod words;
 
 ghost use Rattle.std.specs.Prelude.{◌≡◌, ℕ, ◌∷◌, []};
 ghost use Rattle.mdb_ports.specs.Faults.{Rose};
-ghost use Rattle.memdb.specs.Arguments.{words_in};
-ghost use Rattle.memdb.specs.Causes.{CallsFor, IsOneOf};
-ghost use Rattle.memdb.specs.Outcome.{HasEnded};
+ghost use Rattle.run_io.specs.Arguments.{words_in};
+ghost use Rattle.memdb.specs.Causes.{CallsFor};
+ghost use Rattle.memdb.specs.Outcome.{IsAnswer};
+ghost use Rattle.run_io.specs.Ended.{HasEnded};
 ghost use Rattle.run_io.specs.Observed.{observed};
+ghost use Rattle.run_io.specs.Statuses.{IsOneOf};
 
-use crate::arguments::words_of;
 use crate::sessions::STACK;
 use deep_thread::call_deep;
 use mdb_ports::{DirFiles, Files, OpenGate, OutSink, Sink};
+use run_io::words_of;
 use std::alloc::{AllocError, Global};
 use std::process::ExitCode;
 use std::sync::Wait;
@@ -62,7 +63,7 @@ fn run_arguments<R: Threads + Wait + Sync, F: Files, S: Sink>(
 ) -> u8
     ensures ended { let seen = observed (F.told files.old) (F.reliable files.old)
         (F.faults files.old) (F.faults files.new) in
-        HasEnded (words_in args) seen (S.told out.old) (S.told out.new) result }
+        HasEnded (IsAnswer (words_in args) seen) (S.told out.old) (S.told out.new) result }
     ensures comes { let seen = observed (F.told files.old) (F.reliable files.old)
         (F.faults files.old) (F.faults files.new) in
         (status : ℕ) → CallsFor (words_in args) seen status

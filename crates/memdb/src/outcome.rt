@@ -4,19 +4,18 @@ ghost use Rattle.client_script.specs.Legal.{Legal};
 ghost use Rattle.mdb_datum.specs.Bytes.{Bytes};
 ghost use Rattle.memdb.specs.Made.{summary};
 ghost use Rattle.memdb.specs.Outcome.{IsAnswer};
-ghost use Rattle.memdb.specs.Words.{files_named, in_order};
-ghost use Rattle.memdb.specs.inner.CommandOf.{IsCommandOf, named_of};
-ghost use Rattle.memdb.specs.inner.ToldOf.{NamesFile, Tells};
+ghost use Rattle.memdb.specs.Words.{files_named};
+ghost use Rattle.memdb.specs.inner.CommandOf.{IsCommandOf};
+ghost use Rattle.run_io.specs.NamedOf.{named_of};
 ghost use Rattle.run_io.specs.Observed.{observed, Stays};
 
 use crate::answers::answers;
 use crate::made::made_summary;
-use crate::output::{Output, broken_schema, broken_script, cannot_read, too_large, usage};
-use crate::words::{Command, Named, Numbers};
+use crate::output::{Output, usage};
+use crate::words::{Command, Numbers};
 use mdb_datum::Text;
 use mdb_ports::{Files, Gate};
-use mdb_schema::SchemaError;
-use run_io::{Inputs, LoadError, load};
+use run_io::{Inputs, Named, load, refusal_of};
 use std::alloc::{AllocError, Global};
 use std::sync::Wait;
 use std::thread::Threads;
@@ -100,7 +99,7 @@ fn loaded<R: Threads + Wait + Sync, F: Files, G: Gate + Sync>(
 {
     match load(alloc, files, &named.schema, &named.clients) {
         Ok(inputs) => output_of(rt, alloc, gate, named.names(), inputs),
-        Err(error) => told(alloc, named, error),
+        Err(error) => refusal_of(alloc, named, error),
     }
 }
 
@@ -122,21 +121,4 @@ fn output_of<R: Threads + Wait + Sync, G: Gate + Sync>(
     let Inputs { schema, scripts } = inputs;
     let text = answers(rt, alloc, gate, names, schema, scripts)?;
     Ok(Output { status: 0, text })
-}
-
-/// The output for files that were not loaded.
-fn told(alloc: Global, named: &Named, error: LoadError) -> Result<Output, AllocError>
-    requires { NamesFile (length (in_order (named_of named.now))) error }
-    ensures { IfOk result (λ output. Tells (in_order (named_of named.now)) error
-        output.status output.text.items) }
-{
-    match error {
-        LoadError::Memory | LoadError::Schema(SchemaError::Memory) => Err(AllocError),
-        LoadError::Read { file } => cannot_read(alloc, named.file(file)),
-        LoadError::TooLarge { file } => too_large(alloc, named.file(file)),
-        LoadError::Schema(SchemaError::Broken { rule, table, index }) => {
-            broken_schema(alloc, rule, table, index)
-        }
-        LoadError::Script { client, error } => broken_script(alloc, client, error),
-    }
 }

@@ -1,11 +1,13 @@
 //! The top call.
 ghost use Rattle.std.specs.Prelude.{◌≡◌, ◌≢◌, ◌≤◌, ◌⊎◌, ◌∷◌, [], ℕ, None};
 ghost use Rattle.mdb_ports.specs.Faults.{Rose};
-ghost use Rattle.memdb.specs.Causes.{CallsFor, IsOneOf};
-ghost use Rattle.memdb.specs.Outcome.{Wrote, Done, Made, Usage, BrokenSchema, BrokenScript};
-ghost use Rattle.memdb.specs.Outcome.{CannotRead, TooLarge, CutShort};
+ghost use Rattle.memdb.specs.Causes.{CallsFor};
+ghost use Rattle.memdb.specs.Outcome.{Done, IsAnswer, Made, Usage};
 ghost use Rattle.memdb.specs.Words.{files_named};
+ghost use Rattle.run_io.specs.Ended.{CutShort, Wrote};
 ghost use Rattle.run_io.specs.Observed.{observed, Stays};
+ghost use Rattle.run_io.specs.Refusals.{BrokenSchema, BrokenScript, CannotRead, TooLarge};
+ghost use Rattle.run_io.specs.Statuses.{IsOneOf};
 
 use crate::outcome::outcome;
 use mdb_datum::Text;
@@ -49,21 +51,25 @@ pub fn run<R: Threads + Wait + Sync, F: Files, S: Sink, G: Gate + Sync>(
         result ≡ 1 → Wrote (S.told out.old) (S.told out.new) (Usage words.now seen) }
     ensures broken_schema { let seen = observed (F.told files.old) (F.reliable files.old)
         (F.faults files.old) (F.faults files.new) in
-        result ≡ 2 → Wrote (S.told out.old) (S.told out.new) (BrokenSchema words.now seen) }
+        result ≡ 2 → Wrote (S.told out.old) (S.told out.new)
+        (BrokenSchema (files_named words.now) seen) }
     ensures broken_script { let seen = observed (F.told files.old) (F.reliable files.old)
         (F.faults files.old) (F.faults files.new) in
-        result ≡ 3 → Wrote (S.told out.old) (S.told out.new) (BrokenScript words.now seen) }
+        result ≡ 3 → Wrote (S.told out.old) (S.told out.new)
+        (BrokenScript (files_named words.now) seen) }
     ensures out_of_memory { result ≡ 4 → S.told out.new ≡ S.told out.old }
     ensures cannot_read { let seen = observed (F.told files.old) (F.reliable files.old)
         (F.faults files.old) (F.faults files.new) in
-        result ≡ 5 → Wrote (S.told out.old) (S.told out.new) (CannotRead words.now seen) }
+        result ≡ 5 → Wrote (S.told out.old) (S.told out.new)
+        (CannotRead (files_named words.now) seen) }
     ensures cut_short { let seen = observed (F.told files.old) (F.reliable files.old)
         (F.faults files.old) (F.faults files.new) in
         result ≡ 6 → Rose (S.faults out.old) (S.faults out.new)
-        × Wrote (S.told out.old) (S.told out.new) (CutShort words.now seen) }
+        × Wrote (S.told out.old) (S.told out.new) (CutShort (IsAnswer words.now seen)) }
     ensures too_large { let seen = observed (F.told files.old) (F.reliable files.old)
         (F.faults files.old) (F.faults files.new) in
-        result ≡ 7 → Wrote (S.told out.old) (S.told out.new) (TooLarge words.now seen) }
+        result ≡ 7 → Wrote (S.told out.old) (S.told out.new)
+        (TooLarge (files_named words.now) seen) }
     ensures no_other { IsOneOf (0 ∷ 1 ∷ 2 ∷ 3 ∷ 4 ∷ 5 ∷ 6 ∷ 7 ∷ []) result }
 
     // Where its cause is there a status comes, but for want of memory and a failed write.

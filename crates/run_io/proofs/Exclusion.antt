@@ -3,9 +3,9 @@ use Rattle.std.proofs.Common.{◌≡◌, ◌∙◌, refl, sym, ap, subst, inl, i
 use Rattle.std.specs.Prelude.{◌⊎◌, IsTrue, Result}
 use Rattle.mdb_datum.specs.Bytes.{Bytes}
 use Rattle.mdb_ports.specs.Faults.{Rose}
-use Rattle.run_io.specs.Causes.{HasNoExcuse, CallsFor, absent, too_large, whole}
+use Rattle.run_io.specs.Causes.{HasNoExcuse, LeadsTo, absent, too_large, whole}
 use Rattle.run_io.specs.Inputs.{inputs_in}
-use Rattle.run_io.specs.Loads.{Loads, IsRead, CannotRead}
+use Rattle.run_io.specs.Loads.{Loads, IsRead, IsUnread}
 use Rattle.run_io.specs.Observed.{Observed, AreWhole, IsReached, IsTooLarge, IsAbsent}
 use Rattle.run_io.specs.declared.inputs.Inputs.{Inputs}
 use Rattle.run_io.specs.declared.load_error.LoadError.{LoadError}
@@ -13,7 +13,7 @@ use Rattle.run_io.specs.declared.load_error.LoadError.TheVariants.{Memory, Read,
 use Rattle.run_io.proofs.InOrder.{IsNotWhole, large_not_whole, absent_not_whole, absent_not_large, absent_where_told, contents_once, reached_whole, reached_once}
 
 -- a file that can't be read isn't there
-pub unread_absent : (seen : Observed) (names : List Bytes) (file : ℕ) (r : CannotRead seen names file) → HasNoExcuse seen → IsAbsent seen.told r.name
+pub unread_absent : (seen : Observed) (names : List Bytes) (file : ℕ) (r : IsUnread seen names file) → HasNoExcuse seen → IsAbsent seen.told r.name
 unread_absent seen names file r plain = by_fault plain.no_fault
   where
     by_fault : (Rose seen.before seen.now → ⊥) ⊎ IsTrue seen.reliable → IsAbsent seen.told r.name
@@ -74,7 +74,7 @@ module _ (seen : Observed) (names : List Bytes) (plain : HasNoExcuse seen) where
   called r answer found is (inl same) = inl (same ∙ sym is)
   called r answer found is (inr short) = inr short
 
-  pub load_called : (r answer : Result Inputs LoadError) → Loads seen names r → CallsFor seen.told names answer → (r ≡ answer) ⊎ (r ≡ Err Memory)
+  pub load_called : (r answer : Result Inputs LoadError) → Loads seen names r → LeadsTo seen.told names answer → (r ≡ answer) ⊎ (r ≡ Err Memory)
   load_called r answer h (absent file name reached gone is) = called r answer (Err (Read file)) is (absent_answered file name r reached gone h)
   load_called r answer h (too_large file name reached large is) = called r answer (Err (TooLarge file)) is (large_answered file name r reached large h)
   load_called r answer h (whole schema clients w is) = called r answer (inputs_in schema clients) is (whole_answered schema clients r w h)

@@ -1,6 +1,10 @@
 pub mod Exclusion
 pub mod FilesInOrder
+pub mod FoundFiles
 pub mod InOrder
 pub mod LoadAnswers
+pub mod LoadRefusals
+pub mod LoadedStatus
+pub mod OneAnswer
 pub mod Pieces
 pub mod ScriptsInOrder

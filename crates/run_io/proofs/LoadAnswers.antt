@@ -8,7 +8,7 @@ use Rattle.mdb_schema.specs.Reading.{schema_of}
 use Rattle.mdb_schema.specs.Schema.{DbSchema}
 use Rattle.mdb_schema.specs.Tests.{◌>>=◌}
 use Rattle.run_io.specs.Inputs.{schema_answer, scripts_in, inputs_in}
-use Rattle.run_io.specs.Loads.{Loads, CannotRead, IsPastLimit}
+use Rattle.run_io.specs.Loads.{Loads, IsUnread, IsPastLimit}
 use Rattle.run_io.specs.Observed.{Observed, AreWhole}
 use Rattle.run_io.specs.declared.inputs.Inputs.{Inputs}
 use Rattle.run_io.specs.declared.load_error.LoadError.{LoadError}
@@ -37,7 +37,7 @@ read_loads seen names schema clients (Err (Script client e)) quiet whole h = rec
 -- and where one wasn't, it is told by its number
 pub unread_loads : {T : Type 0} (contents : T → List Bytes) (seen : Observed) (names : List Bytes) (e : LoadError) → Reads contents seen 0 names (Err e) → Loads seen names (Err e)
 unread_loads contents seen names Memory h = h
-unread_loads contents seen names (Read file) h = subst (λ (n : ℕ). CannotRead seen names n) (sym (h.1 ∙ zero-add h.0)) h.2
+unread_loads contents seen names (Read file) h = subst (λ (n : ℕ). IsUnread seen names n) (sym (h.1 ∙ zero-add h.0)) h.2
 unread_loads contents seen names (TooLarge file) h = subst (λ (n : ℕ). IsPastLimit seen names n) (sym (h.1 ∙ zero-add h.0)) h.2
 unread_loads contents seen names (Schema e) h = absurd h
 unread_loads contents seen names (Script client e) h = absurd h

@@ -15,16 +15,16 @@ pub record HasNoExcuse (seen : Observed) : Type 0 where
   pub tells : IsSome seen.told
   pub no_fault : (Rose seen.before seen.now → ⊥) ⊎ IsTrue seen.reliable
 
--- What calls for an answer to the files of these names, the schema's and then the clients'. Only an
+-- What leads to an answer to the files of these names, the schema's and then the clients'. Only an
 -- excuse, and want of memory, may come in its place.
-pub data CallsFor (told : Option Contents) (names : List Bytes) (answer : Result Inputs LoadError)
+pub data LeadsTo (told : Option Contents) (names : List Bytes) (answer : Result Inputs LoadError)
     : Type 0 where
   -- a file that is reached isn't there
   absent : (file : ℕ) (name : Bytes) → IsReached told names file name → IsAbsent told name
-      → answer ≡ Err (Read file) → CallsFor told names answer
+      → answer ≡ Err (Read file) → LeadsTo told names answer
   -- a file that is reached is too large
   too_large : (file : ℕ) (name : Bytes) → IsReached told names file name → IsTooLarge told name
-      → answer ≡ Err (TooLarge file) → CallsFor told names answer
+      → answer ≡ Err (TooLarge file) → LeadsTo told names answer
   -- all files are whole, and their bytes come to it
   whole : (schema : Bytes) (clients : List Bytes) → AreWhole told names (schema ∷ clients)
-      → answer ≡ inputs_in schema clients → CallsFor told names answer
+      → answer ≡ inputs_in schema clients → LeadsTo told names answer

@@ -1,5 +1,14 @@
+pub mod Arguments
 pub mod Causes
+pub mod Ended
 pub mod Inputs
 pub mod Loads
+pub mod Named
+pub mod NamedOf
 pub mod Observed
+pub mod RefusalCauses
+pub mod RefusalTexts
+pub mod Refusals
+pub mod Statuses
+pub mod Told
 pub mod inner

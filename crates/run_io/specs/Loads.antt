@@ -10,7 +10,7 @@ use Rattle.run_io.specs.declared.load_error.LoadError.{LoadError}
 use Rattle.run_io.specs.declared.load_error.LoadError.TheVariants.{Memory, Read, TooLarge, Schema, Script}
 
 -- the files of these names were read whole, without a fault: the schema's bytes, and the clients'
-pub record HasRead (seen : Observed) (names : List Bytes) (schema : Bytes) (clients : List Bytes)
+pub record WereRead (seen : Observed) (names : List Bytes) (schema : Bytes) (clients : List Bytes)
     : Type 0 where
   pub whole : AreWhole seen.told names (schema ∷ clients)
   pub no_fault : seen.now ≡ seen.before
@@ -20,11 +20,11 @@ pub record IsRead (seen : Observed) (names : List Bytes) (answer : Result Inputs
     : Type 0 where
   pub schema : Bytes
   pub clients : List Bytes
-  pub read : HasRead seen names schema clients
+  pub read : WereRead seen names schema clients
   pub comes : inputs_in schema clients ≡ answer
 
 -- a call failed, at this file; where only absent files fail, it isn't there
-pub record CannotRead (seen : Observed) (names : List Bytes) (file : ℕ) : Type 0 where
+pub record IsUnread (seen : Observed) (names : List Bytes) (file : ℕ) : Type 0 where
   pub name : Bytes
   pub reached : IsReached seen.told names file name
   pub rose : Rose seen.before seen.now
@@ -41,7 +41,7 @@ pub record IsPastLimit (seen : Observed) (names : List Bytes) (file : ℕ) : Typ
 abbrev pub Loads : Observed → List Bytes → Result Inputs LoadError → Type 0
 Loads seen names (Ok inputs) = IsRead seen names (Ok inputs)
 Loads seen names (Err Memory) = seen.now ≡ seen.before
-Loads seen names (Err (Read file)) = CannotRead seen names file
+Loads seen names (Err (Read file)) = IsUnread seen names file
 Loads seen names (Err (TooLarge file)) = IsPastLimit seen names file
 Loads seen names (Err (Schema e)) = IsRead seen names (Err (Schema e))
 Loads seen names (Err (Script client e)) = IsRead seen names (Err (Script client e))

@@ -1,25 +1,35 @@
-//! Loading and writing: a schema and client scripts from files, and a text to a sink.
+//! Loading and writing: a schema and client scripts from files, a text to a sink, and what is told of
+//! files that are refused.
 //!
 //! `load` reads the schema's file and then the clients' files in order, each whole, and only then
 //! reads them as a schema and scripts. Its contract says when each answer comes: a file that can't
-//! be read, a file past the limit, a schema or a script that breaks a rule. `write_all` writes a
-//! text in as many calls as the sink wants.
+//! be read, a file past the limit, a schema or a script that breaks a rule. `Named` has the names of
+//! the files, by the words of a command, and `refusal_of` the status and the text of each such error.
+//! `write_all` writes a text in as many calls as the sink wants.
 //!
 //! Loading takes time and memory in proportion to the files. A file is fetched by pieces of 65,536
 //! bytes, and none past 1,048,576 bytes is kept.
 #![tactic(auto)]
 
+mod arguments;
 mod contents;
 mod file;
 mod files;
 mod inputs;
 mod load_error;
 mod loading;
+mod named;
+mod output;
+mod refusal;
 mod texts;
 mod write;
 
+pub use arguments::words_of;
 pub use inputs::Inputs;
 pub use load_error::LoadError;
 pub use loading::load;
+pub use named::{Named, may_name_files};
+pub use output::{Output, end_line, write_number};
+pub use refusal::refusal_of;
 pub use texts::Texts;
 pub use write::write_all;

@@ -1,6 +1,6 @@
 //! A schema and scripts, from their files.
 ghost use Rattle.std.specs.Prelude.{◌≡◌, ◌⊎◌, ◌∷◌, Result, Err};
-ghost use Rattle.run_io.specs.Causes.{HasNoExcuse, CallsFor};
+ghost use Rattle.run_io.specs.Causes.{HasNoExcuse, LeadsTo};
 ghost use Rattle.run_io.specs.Loads.{Loads};
 ghost use Rattle.run_io.specs.Observed.{observed, Stays};
 ghost use Rattle.run_io.specs.declared.inputs.Inputs.{Inputs};
@@ -38,7 +38,7 @@ pub fn load<F: Files>(
     ensures comes { let seen = observed (F.told files.old) (F.reliable files.old)
         (F.faults files.old) (F.faults files.new) in
         HasNoExcuse seen → (answer : Result Inputs LoadError)
-        → CallsFor (F.told files.old) (schema.now ∷ clients.now) answer
+        → LeadsTo (F.told files.old) (schema.now ∷ clients.now) answer
         → (result ≡ answer) ⊎ (result ≡ Err Memory) }
 {
     let contents = read_contents(alloc, files, schema, clients.as_slice())?;

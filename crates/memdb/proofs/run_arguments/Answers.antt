@@ -1,6 +1,6 @@
 use Rattle.std.proofs.Common.{◌≡◌, ◌∙◌, sym, subst, List}
 use Rattle.mdb_datum.specs.Bytes.{Bytes}
-use Rattle.memdb.specs.Arguments.{words_in}
+use Rattle.run_io.specs.Arguments.{words_in}
 use Rattle.memdb.specs.Causes.{CallsFor}
 use Rattle.run_io.specs.Observed.{observed}
 use Rattle.memdb.proofs.run_arguments.Goals as goal

@@ -9,7 +9,8 @@ use Rattle.clap.specs.declared.builder.value_parser.Reading.TheVariants as readi
 use Rattle.clap.specs.declared.parser.matches.ValueSource.TheVariants.{CommandLine}
 use Rattle.clap.specs.declared.parser.matches.ArgMatches.{ArgMatches}
 use Rattle.memdb.specs.Made.{Numbers}
-use Rattle.memdb.specs.Words.{Named, make_of, number_in, numbers_of, run_of}
+use Rattle.memdb.specs.Words.{make_of, number_in, numbers_of, run_of}
+use Rattle.run_io.specs.Named.{Named}
 
 -- ---- what `clap` is told
 

@@ -1,14 +1,11 @@
 -- What a command stands for, as the code holds it.
 use Rattle.std.specs.Prelude.{◌≡◌, List, Option, Some, None}
 use Rattle.mdb_datum.specs.Bytes.{Bytes}
-use Rattle.memdb.specs.Words.{Named, files_named, numbers_named}
+use Rattle.memdb.specs.Words.{files_named, numbers_named}
 use Rattle.memdb.specs.inner.CommandLine.{Asked, to_run, to_make}
 use Rattle.memdb.specs.declared.words.Command.{Command}
 use Rattle.memdb.specs.declared.words.Command.TheVariants.{Run, Make}
-use Rattle.memdb.specs.declared.words.Named as code
-
-abbrev pub named_of : code.Named → Named
-named_of n = record { schema = n.schema; clients = n.clients }
+use Rattle.run_io.specs.NamedOf.{named_of}
 
 abbrev pub asked_of : Command → Asked
 asked_of (Run named) = to_run (named_of named)

@@ -3,19 +3,20 @@ ghost use Rattle.std.specs.Prelude.{◌≡◌, ◌++◌, ◌∷◌, [], ◌≤�
 ghost use Rattle.std.specs.Prelude.{option_and_then, option_map, true};
 ghost use Rattle.std.specs.List.{list_all};
 ghost use Rattle.clap.specs.Words.{app_of, found_of, rows_of, rule_of, with_subcommand};
-ghost use Rattle.memdb.specs.Words.{may_name_a_file};
 ghost use Rattle.memdb.specs.inner.CommandLine.{AreRead, HasClients, IsLocal, asked_by};
 ghost use Rattle.memdb.specs.inner.CommandLine.{asked_of_matches, bare, clients_rule, files};
 ghost use Rattle.memdb.specs.inner.CommandLine.{files_in, make_app, number_at, numbers_in, program};
 ghost use Rattle.memdb.specs.inner.CommandLine.{run_app, to_make, to_run, word_rule};
-ghost use Rattle.memdb.specs.inner.CommandOf.{asked_of, named_of};
+ghost use Rattle.memdb.specs.inner.CommandOf.{asked_of};
+ghost use Rattle.run_io.specs.Named.{may_name_a_file};
+ghost use Rattle.run_io.specs.NamedOf.{named_of};
 
+use super::Command;
 use super::numbers::{Numbers, number_in};
-use super::{Command, Named};
 use clap::error::ErrorKind;
 use clap::{Arg, ArgMatches};
 use mdb_datum::Text;
-use run_io::Texts;
+use run_io::{Named, Texts};
 use std::alloc::{AllocError, Global};
 
 /// The command that words are, where each may name a file.

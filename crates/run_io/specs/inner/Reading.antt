@@ -2,7 +2,7 @@
 use Rattle.std.specs.Prelude.{◌≡◌, ◌+◌, ℕ, List, [], ◌∷◌, ◌++◌, map, Result, Ok, Err, Vec}
 use Rattle.std.specs.declared.alloc.Global.{Global}
 use Rattle.mdb_datum.specs.Bytes.{Bytes}
-use Rattle.run_io.specs.Loads.{CannotRead, IsPastLimit}
+use Rattle.run_io.specs.Loads.{IsUnread, IsPastLimit}
 use Rattle.run_io.specs.Observed.{Observed, IsWhole, AreWhole}
 use Rattle.run_io.specs.declared.load_error.LoadError.{LoadError}
 use Rattle.run_io.specs.declared.load_error.LoadError.TheVariants.{Memory, Read, TooLarge, Schema, Script}
@@ -23,7 +23,7 @@ Reads contents seen first names (Ok x) =
     (seen.now ≡ seen.before) × AreWhole seen.told names (contents x)
 Reads contents seen first names (Err Memory) = seen.now ≡ seen.before
 Reads contents seen first names (Err (Read file)) =
-    (at : ℕ) × (file ≡ first + at) × CannotRead seen names at
+    (at : ℕ) × (file ≡ first + at) × IsUnread seen names at
 Reads contents seen first names (Err (TooLarge file)) =
     (at : ℕ) × (file ≡ first + at) × IsPastLimit seen names at
 Reads contents seen first names (Err (Schema e)) = ⊥

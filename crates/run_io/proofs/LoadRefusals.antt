@@ -1,50 +1,50 @@
--- What the loading and the sessions come to is what the run answers.
+-- What a load comes to is what is answered to a command's files.
 use Rattle.std.proofs.Common.{◌≡◌, ◌∙◌, sym, ap, arith, refl, ℕ, zero, suc, ◌+◌, ◌<◌, List, [], ◌∷◌, Some, Ok, Err, codes, length, slice_get}
 use Rattle.std.specs.Prelude.{Option, Result, unwrap_or}
-use Rattle.client_script.specs.Legal.{Legal}
 use Rattle.client_script.specs.Script.{script_in}
 use Rattle.client_script.specs.declared.line.Line.{Line}
 use Rattle.mdb_datum.specs.Bytes.{Bytes}
-use Rattle.mdb_ports.specs.Files.{Contents}
 use Rattle.mdb_datum.specs.Reading.{reading}
+use Rattle.mdb_ports.specs.Files.{Contents}
 use Rattle.mdb_schema.specs.Reading.{schema_of}
 use Rattle.mdb_schema.specs.Schema.{DbSchema}
 use Rattle.mdb_schema.specs.Tests.{◌>>=◌}
 use Rattle.mdb_schema.specs.declared.error.SchemaError.TheVariants as schema_errors
-use Rattle.memdb.specs.Outcome.{IsAnswer, done, broken_schema, broken_script, cannot_read, too_large, name_line}
-use Rattle.memdb.specs.Words.{Named, files_named, in_order}
-use Rattle.memdb.specs.inner.ToldOf.{NamesFile, name_at, Tells}
 use Rattle.run_io.specs.Inputs.{script_answer, scripts_in, schema_answer}
 use Rattle.run_io.specs.Loads.{Loads}
+use Rattle.run_io.specs.Named.{Named, in_order}
 use Rattle.run_io.specs.Observed.{Observed, AreWhole}
+use Rattle.run_io.specs.RefusalTexts.{name_line}
+use Rattle.run_io.specs.Refusals.{Answered, IsRefused, broken_schema, broken_script, cannot_read, too_large}
+use Rattle.run_io.specs.Told.{NamesFile, name_at, Tells}
 use Rattle.run_io.specs.declared.inputs.Inputs.{Inputs}
 use Rattle.run_io.specs.declared.load_error.LoadError.{LoadError}
 use Rattle.run_io.specs.declared.load_error.LoadError.TheVariants.{Memory, Read, TooLarge, Schema, Script}
 use Rattle.run_io.proofs.InOrder.{reached_there}
 
--- a legal output for inputs that were loaded is an answer
-pub inputs_answered : (words : List Bytes) (seen : Observed) (named : Named) (inputs : Inputs) (status : ℕ) (text : Bytes) →
-    status ≡ 0 → files_named words ≡ Some named → Loads seen (in_order named) (Ok inputs) → Legal inputs.schema named.clients inputs.scripts text → IsAnswer words seen status text
-inputs_answered words seen named inputs status text is command loads legal =
-    done is (record { named = named; inputs = inputs; read = record { command = command; reads = loads }; legal = legal })
+-- what holds of inputs that were loaded, and of a text, is an answer
+pub inputs_answered : (command : Option Named) (seen : Observed) (named : Named) (P : DbSchema → List Bytes → List (List Line) → Bytes → Type 0) (inputs : Inputs) (text : Bytes) →
+    command ≡ Some named → Loads seen (in_order named) (Ok inputs) → P inputs.schema named.clients inputs.scripts text → Answered command seen P text
+inputs_answered command seen named P inputs text is loads holds =
+    record { named = named; inputs = inputs; read = record { is_named = is; reads = loads }; holds = holds }
 
 -- the name that is told is that of the file
 named_line : (what : Bytes) (names : List Bytes) (file : ℕ) (name text : Bytes) → slice_get names file ≡ Some name → text ≡ name_line what (name_at names file) → text ≡ name_line what name
 named_line what names file name text there says = says ∙ ap (λ (o : Option Bytes). name_line what (unwrap_or o [])) there
 
--- and so is an error, by what is told of it
-pub error_answered : (words : List Bytes) (seen : Observed) (named : Named) (e : LoadError) (status : ℕ) (text : Bytes) →
-    files_named words ≡ Some named → Loads seen (in_order named) (Err e) → Tells (in_order named) e status text → IsAnswer words seen status text
-error_answered words seen named Memory status text command loads said = absurd said
-error_answered words seen named (Read file) status text command loads said =
-    cannot_read said.0 (record { named = named; command = command; file = file; cause = loads; says = named_line (codes "cannot read ") (in_order named) file loads.name text (reached_there seen.told (in_order named) file loads.name loads.reached) said.1 })
-error_answered words seen named (TooLarge file) status text command loads said =
-    too_large said.0 (record { named = named; command = command; file = file; cause = loads; says = named_line (codes "too large ") (in_order named) file loads.name text (reached_there seen.told (in_order named) file loads.name loads.reached) said.1 })
-error_answered words seen named (Schema schema_errors.Memory) status text command loads said = absurd said
-error_answered words seen named (Schema (schema_errors.Broken r t i)) status text command loads said =
-    broken_schema said.0 (record { named = named; rule = record { rule = r; table = t; index = i }; read = record { command = command; reads = loads }; says = said.1 })
-error_answered words seen named (Script client e) status text command loads said =
-    broken_script said.0 (record { named = named; client = client; rule = e; read = record { command = command; reads = loads }; says = said.1 })
+-- and an error is a refusal, by what is told of it
+pub error_refused : (command : Option Named) (seen : Observed) (named : Named) (e : LoadError) (status : ℕ) (text : Bytes) →
+    command ≡ Some named → Loads seen (in_order named) (Err e) → Tells (in_order named) e status text → IsRefused command seen status text
+error_refused command seen named Memory status text is loads said = absurd said
+error_refused command seen named (Read file) status text is loads said =
+    cannot_read said.0 (record { named = named; is_named = is; file = file; cause = loads; says = named_line (codes "cannot read ") (in_order named) file loads.name text (reached_there seen.told (in_order named) file loads.name loads.reached) said.1 })
+error_refused command seen named (TooLarge file) status text is loads said =
+    too_large said.0 (record { named = named; is_named = is; file = file; cause = loads; says = named_line (codes "too large ") (in_order named) file loads.name text (reached_there seen.told (in_order named) file loads.name loads.reached) said.1 })
+error_refused command seen named (Schema schema_errors.Memory) status text is loads said = absurd said
+error_refused command seen named (Schema (schema_errors.Broken r t i)) status text is loads said =
+    broken_schema said.0 (record { named = named; rule = record { rule = r; table = t; index = i }; read = record { is_named = is; reads = loads }; says = said.1 })
+error_refused command seen named (Script client e) status text is loads said =
+    broken_script said.0 (record { named = named; client = client; rule = e; read = record { is_named = is; reads = loads }; says = said.1 })
 
 -- ---- the numbers of files and scripts
 

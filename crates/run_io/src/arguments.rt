@@ -1,7 +1,7 @@
 //! The words of the command line, from the arguments that the host gives.
 ghost use Rattle.std.specs.Prelude.{◌≡◌, ◌++◌, ◌∷◌, [], IfOk, OnOk, map, string_bytes};
 ghost use Rattle.std.specs.Vec.Iter.{into_iter_items};
-ghost use Rattle.memdb.specs.Arguments.{words_behind, words_in};
+ghost use Rattle.run_io.specs.Arguments.{words_behind, words_in};
 
 use mdb_datum::Text;
 use std::alloc::{AllocError, Global};

@@ -4,7 +4,7 @@ use Rattle.std.specs.Prelude.{String, string_bytes}
 use Rattle.std.specs.Vec.Iter.{into_iter_items}
 use Rattle.std.specs.declared.alloc.Global.{Global}
 use Rattle.mdb_datum.specs.Bytes.{Bytes}
-use Rattle.memdb.proofs.arguments.copies.Goals as goal
+use Rattle.run_io.proofs.arguments.copies.Goals as goal
 
 pub loop-text-preserved : goal.loop-text-preserved
 loop-text-preserved c =

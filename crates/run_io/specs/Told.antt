@@ -2,7 +2,7 @@
 use Rattle.std.specs.Prelude.{◌≡◌, ◌<◌, ℕ, List, [], slice_get, unwrap_or, codes, ⊤}
 use Rattle.mdb_datum.specs.Bytes.{Bytes}
 use Rattle.mdb_schema.specs.declared.error.SchemaError.TheVariants as schema_errors
-use Rattle.memdb.specs.Outcome.{name_line, broken_text, script_text}
+use Rattle.run_io.specs.RefusalTexts.{name_line, broken_text, script_text}
 use Rattle.run_io.specs.declared.load_error.LoadError.{LoadError}
 use Rattle.run_io.specs.declared.load_error.LoadError.TheVariants.{Memory, Read, TooLarge, Schema, Script}
 

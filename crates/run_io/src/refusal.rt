@@ -1,0 +1,36 @@
+//! What is written where files weren't loaded.
+ghost use Rattle.std.specs.Prelude.{IfOk, length};
+ghost use Rattle.run_io.specs.Named.{in_order};
+ghost use Rattle.run_io.specs.NamedOf.{named_of};
+ghost use Rattle.run_io.specs.Told.{NamesFile, Tells};
+
+use crate::load_error::LoadError;
+use crate::named::Named;
+use crate::output::{Output, broken_schema, broken_script, cannot_read, too_large};
+use mdb_schema::SchemaError;
+use std::alloc::{AllocError, Global};
+
+/// The output for the files of a command, where their loading came to this error: status 2 for a
+/// schema that breaks a rule, 3 for a script that does, 5 for a file that can't be read, and 7 for
+/// one that is too large, each with its line. It takes memory for the text.
+///
+/// # Errors
+/// Want of memory, here or in the loading.
+pub fn refusal_of(alloc: Global, named: &Named, error: LoadError) -> Result<Output, AllocError>
+    requires { NamesFile (length (in_order (named_of named.now))) error }
+    ensures { IfOk result (λ output. Tells (in_order (named_of named.now)) error
+        output.status output.text.items) }
+{
+    match error {
+        LoadError::Memory | LoadError::Schema(SchemaError::Memory) => Err(AllocError),
+        LoadError::Read { file } => cannot_read(alloc, named.file(file)),
+        LoadError::TooLarge { file } => too_large(alloc, named.file(file)),
+        LoadError::Schema(SchemaError::Broken { rule, table, index }) => {
+            broken_schema(alloc, rule, table, index)
+        }
+        LoadError::Script { client, error } => broken_script(alloc, client, error),
+    }
+}
+
+#[cfg(test)]
+mod tests;

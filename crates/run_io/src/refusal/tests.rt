@@ -1,0 +1,72 @@
+//! What is told of errors in loading.
+ghost use Rattle.std.specs.Prelude.{◌≡◌, IfOk, length};
+
+use super::*;
+use crate::texts::Texts;
+use client_script::ScriptError;
+use mdb_datum::Text;
+use mdb_schema::SchemaRule;
+use std::test::Fail;
+
+/// The files `s.json` and `c 1`.
+fn two_files(alloc: Global) -> Result<Named, AllocError> {
+    let schema = Text::of(alloc, "s.json")?;
+    let clients = one_text(alloc)?;
+    Ok(Named { schema, clients })
+}
+
+/// The text `c 1` alone.
+fn one_text(alloc: Global) -> Result<Texts, AllocError>
+    ensures { IfOk result (λ texts. length texts ≡ 1) }
+{
+    let mut texts = Texts::new(alloc);
+    texts.push(Text::of(alloc, "c 1")?)?;
+    Ok(texts)
+}
+
+/// Whether an output has this status and this text.
+fn is_told(output: &Output, status: u8, text: &str) -> bool {
+    output.status == status && output.text.as_slice() == text.as_bytes()
+}
+
+/// Whether the client's file that can't be read is told.
+fn tells_unread(alloc: Global) -> Result<bool, AllocError> {
+    let output = refusal_of(alloc, &two_files(alloc)?, LoadError::Read { file: 1 })?;
+    Ok(is_told(&output, 5, "cannot read c 1\n"))
+}
+
+/// Whether the schema's file that is too large is told.
+fn tells_too_large(alloc: Global) -> Result<bool, AllocError> {
+    let output = refusal_of(alloc, &two_files(alloc)?, LoadError::TooLarge { file: 0 })?;
+    Ok(is_told(&output, 7, "too large s.json\n"))
+}
+
+/// Whether the rule that the schema breaks is told.
+fn tells_schema(alloc: Global) -> Result<bool, AllocError> {
+    let error = SchemaError::Broken {
+        rule: SchemaRule::NoId,
+        table: Some(Text::of(alloc, "t\"")?),
+        index: None,
+    };
+    let output = refusal_of(alloc, &two_files(alloc)?, LoadError::Schema(error))?;
+    Ok(is_told(&output, 2, "schema no-id \"t\\\"\"\n"))
+}
+
+/// Whether the rule that a script breaks is told.
+fn tells_script(alloc: Global) -> Result<bool, AllocError> {
+    let error = LoadError::Script {
+        client: 1,
+        error: ScriptError::BadDoc { line: 2 },
+    };
+    let output = refusal_of(alloc, &two_files(alloc)?, error)?;
+    Ok(is_told(&output, 3, "script 1 line 2 bad-doc\n"))
+}
+
+#[test]
+fn each_error_is_told(rt: HostRuntime) -> Result<(), Fail> {
+    assert!(rt; tells_unread(rt.alloc())?);
+    assert!(rt; tells_too_large(rt.alloc())?);
+    assert!(rt; tells_schema(rt.alloc())?);
+    assert!(rt; tells_script(rt.alloc())?);
+    Ok(())
+}
