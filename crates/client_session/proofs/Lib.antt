@@ -1,14 +1,20 @@
+mod AwaitedLines
 mod CellsOfSets
 mod CellsTold
+pub mod ClientLists
 mod DeskTurns
 mod EachCellOnce
 mod FollowsOn
+mod FromTheStart
 mod HeldOn
 mod IndexPlaces
 mod KeptSteps
 mod LooksTold
+mod MadeSoFar
+pub mod ManyClients
 mod OneMoreLine
-pub mod OpenTurns
+mod OpenTurns
+pub mod PlacesByCaller
 mod QuietBefore
 mod QuietMembers
 mod ReplyLines
@@ -16,11 +22,10 @@ mod RequestTurns
 mod RowRules
 mod SessionSteps
 mod SetsJoined
+pub mod Threads
 mod ToldCounts
 mod UntoldCommits
 mod WaitsTold
 mod WatchTurns
 mod WatchesNamed
 mod WatchesTold
-pub mod FromTheStart
-pub mod Threads

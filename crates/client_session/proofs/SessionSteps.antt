@@ -1,10 +1,11 @@
 -- What a session keeps from one call to the next, and what a call tells.
-use Rattle.std.proofs.Common.{arith, ◌≡◌, refl, ap, subst, sym, ◌∙◌, ℕ, ◌+◌, ◌≤◌, ◌<◌, Bool, true, false, List, [], ◌++◌, length, take, Option, Some, Result, Ok, Err, OnErr, OnOk, slice_get, le_refl}
+use Rattle.std.proofs.Common.{arith, ◌≡◌, refl, ap, subst, sym, ◌∙◌, ℕ, ◌+◌, ◌≤◌, ◌<◌, ◌^◌, Bool, true, false, List, [], ◌++◌, length, take, Option, Some, Result, Ok, Err, OnErr, OnOk, slice_get, le_refl}
 use Rattle.std.proofs.lemmas.List.{append-nil}
 use Rattle.std.specs.declared.alloc.AllocError.{AllocError}
-use Rattle.mdb_datum.specs.Bytes.{Bytes}
 use Rattle.mem_txn.specs.Database.{Caller, cells_seen}
 use Rattle.client_script.specs.Client.{Client, at_start}
+use Rattle.std.specs.Prelude.{is_err}
+use Rattle.client_script.specs.Legal.{printed}
 use Rattle.client_script.specs.Reply.{Reply, lines_text}
 use Rattle.client_script.specs.declared.command.Command.{Command}
 use Rattle.client_script.specs.declared.command.Command.TheVariants as command
@@ -12,9 +13,10 @@ use Rattle.client_script.specs.declared.command.TransactionCommand.TheVariants a
 use Rattle.client_script.specs.declared.command.WatchesCommand.{WatchesCommand}
 use Rattle.client_script.specs.declared.line.Line.{Line}
 use Rattle.client_session.proofs.CellsTold.{runs_of}
-use Rattle.client_session.proofs.OneMoreLine.{all_carried, from_here, kept_some, next, seen_more, stops_here}
+use Rattle.client_session.proofs.MadeSoFar.{made_both, made_still, room_for_one}
+use Rattle.client_session.proofs.OneMoreLine.{all_carried, from_here, kept_some, next, nothing_added, seen_more, stops_here}
 use Rattle.client_session.proofs.OpenTurns.{later_self}
-use Rattle.client_session.specs.Answered.{AreTold, HasAnswered, HasStopped, IsLater, IsUntold, Tells}
+use Rattle.client_session.specs.Answered.{AreMade, AreTold, HasAnswered, HasStopped, IsLater, IsUntold, Tells}
 use Rattle.client_session.specs.Cells.{RunsByCells}
 use Rattle.client_session.specs.Progress.{Progress}
 use Rattle.client_session.specs.Steps.{AnswersStep, HasDoneOnce, IsBlocked, Waits}
@@ -23,19 +25,29 @@ use Rattle.client_session.specs.declared.stepped.Stepped.TheVariants as stepped
 use Rattle.client_session.specs.inner.Carried.{AddsSome, AnswersLine, CarriedOn, CarriesOut, SoFar, StepsLine, Stops, StopsLine}
 use Rattle.client_session.specs.inner.DeskView.{Follows, HoldsUp, IsHeldUp, IsWaiting}
 use Rattle.client_session.specs.inner.OpenView.{caller_of, is_writing, writes}
+use Rattle.client_session.specs.inner.Transcript.{Transcript}
 use Rattle.client_session.specs.inner.StoredSession.{HasDone, IsUnfinished, caller_in, writing_in}
 
 -- the fields, as contracts see them
-abbrev pub progress_of : ℕ → List Line → Option Desk → ℕ → Bytes → Bool → Progress
-progress_of client script desk n text failed = record {
+abbrev pub progress_of : ℕ → List Line → Option Desk → ℕ → Transcript → Bool → Progress
+progress_of client script desk n t failed = record {
   client = client;
   script = script;
   caller = caller_in desk;
   answered = n;
-  text = text;
+  text = t.text;
+  commits = t.commits;
   writing = writing_in desk;
   failed = failed;
 }
+
+-- the answers so far
+abbrev transcript_of : Progress → Transcript
+transcript_of s = record { text = s.text; commits = s.commits }
+
+-- memory was wanting or it was not
+pub not_both : {P : Type 0} (b : Bool) → b ≡ true → b ≡ false → P
+not_both {P} b is other = cc
 
 -- the same with or without an open write transaction
 abbrev pub with_writing : Bool → Progress → Progress
@@ -44,15 +56,31 @@ with_writing b s = record s { writing = b }
 -- ---- the replies so far
 
 -- they are a session, and what they tell of cells is so
-are_told : (s : Progress) (replies : List Reply) (client : Client) → (let p = s.caller in RunsByCells (cells_seen p) p.number at_start (take s.answered s.script) replies client) → s.text ≡ lines_text (take s.answered s.script) replies → AreTold s replies
-are_told s replies client runs written =
+unfoldable pub are_told : (s : Progress) (replies : List Reply) (client : Client) → (let p = s.caller in RunsByCells (cells_seen p) p.number at_start (take s.answered s.script) replies client) → s.text ≡ lines_text (take s.answered s.script) replies → s.commits ≡ length (printed replies) → (s.failed ≡ false → AreMade s.caller replies) → AreTold s replies
+are_told s replies client runs written counted made =
     let p = s.caller in
-    record { session = (client, runs_of (cells_seen p) p.number at_start (take s.answered s.script) replies client runs); cells = (client, runs); written = written }
+    record {
+      session = (client, runs_of (cells_seen p) p.number at_start (take s.answered s.script) replies client runs);
+      cells = (client, runs);
+      written = written;
+      counted = counted;
+      made = made;
+    }
+
+-- none tells a commit
+none_made : (p : Caller) → AreMade p []
+none_made p = record {
+  earlier = p.own;
+  made = [];
+  own = sym (append-nil p.own);
+  told = refl;
+  rising = search (arith);
+}
 
 -- ---- a call that answers no line
 
 told_still : (s : Progress) (b : Bool) (replies : List Reply) → AreTold s replies → AreTold (with_writing b s) replies
-told_still s b replies told = record { session = told.session; cells = told.cells; written = told.written }
+told_still s b replies told = record { session = told.session; cells = told.cells; written = told.written; counted = told.counted; made = told.made }
 
 pub tells_nothing : (s : Progress) (b : Bool) (replies : List Reply) → AreTold s replies → Tells s (with_writing b s)
 tells_nothing s b replies told = record {
@@ -91,8 +119,8 @@ stops_nothing s replies told closed = record {
 
 -- ---- a call that answers some lines
 
-pub tells_some : (s t : Progress) → t.script ≡ s.script → AddsSome s.caller t.caller s.script s.answered t.answered s.text t.text → Tells s t
-tells_some s t same some =
+pub tells_some : (s t : Progress) → t.script ≡ s.script → (some : AddsSome s.caller t.caller s.script s.answered t.answered (transcript_of s) (transcript_of t)) → (t.failed ≡ false → AreMade t.caller (some.before.replies ++ some.adds.replies)) → Tells s t
+tells_some s t same some made =
     let adds = some.adds in
     let before = some.before in
     let all = before.replies ++ adds.replies in
@@ -103,29 +131,35 @@ tells_some s t same some =
     (subst (λ (n : ℕ). RunsByCells (cells_seen q) n at_start (take t.answered s.script) all adds.client) (sym adds.later.number) adds.runs) in
     record {
       before = before.replies;
-      told_before = are_told s before.replies before.client before.runs before.written;
+      told_before = are_told s before.replies before.client before.runs before.written before.counted (λ _. before.made);
       replies = adds.replies;
-      told = are_told t all adds.client runs (adds.written ∙ ap (λ (ls : List Line). lines_text (take t.answered ls) all) (sym same));
+      told = are_told t all adds.client runs (adds.written ∙ ap (λ (ls : List Line). lines_text (take t.answered ls) all) (sym same)) adds.counted made;
       later = adds.later;
       read = adds.read;
       counts = adds.counts;
       loads = adds.loads;
     }
 
-pub answers_some : (s t : Progress) → t.script ≡ s.script → CarriesOut s.caller t.caller s.script s.answered t.answered s.text t.text → HasAnswered s t
+-- the commits that all replies tell, those before the call too
+made_in_all : (pass new : Caller) (script : List Line) (from to : ℕ) (old t : Transcript) → (c : CarriesOut pass new script from to old t) → AreMade new (c.some.before.replies ++ c.some.adds.replies)
+made_in_all pass new script from to old t c =
+    let some = c.some in
+    made_both pass new some.adds.later some.before.replies some.before.made some.adds.replies c.made c.own c.told c.rising
+
+pub answers_some : (s t : Progress) → t.script ≡ s.script → CarriesOut s.caller t.caller s.script s.answered t.answered (transcript_of s) (transcript_of t) → HasAnswered s t
 unfolding tells_some
 answers_some s t same c = record {
-  tells = tells_some s t same c.some;
+  tells = tells_some s t same c.some (λ _. made_in_all s.caller t.caller s.script s.answered t.answered (transcript_of s) (transcript_of t) c);
   made = c.made;
   own = c.own;
   told = c.told;
   rising = c.rising;
 }
 
-pub stops_some : (s t : Progress) → t.script ≡ s.script → t.writing ≡ false → Stops s.caller t.caller s.script s.answered t.answered s.text t.text → HasStopped s t
+pub stops_some : (s t : Progress) → t.script ≡ s.script → t.failed ≡ true → t.writing ≡ false → Stops s.caller t.caller s.script s.answered t.answered (transcript_of s) (transcript_of t) → HasStopped s t
 unfolding tells_some
-stops_some s t same closed c = record {
-  tells = tells_some s t same c.some;
+stops_some s t same fails closed c = record {
+  tells = tells_some s t same c.some (λ ok. cc);
   made = c.made;
   untold = c.untold;
   own = c.own;
@@ -137,19 +171,36 @@ stops_some s t same closed c = record {
 
 -- ---- what is kept
 
+-- no line is answered yet
+pub begins : (script : List Line) (d : Desk) (t : Transcript) → Follows d at_start → t ≡ record { text = []; commits = 0 } → HasDone script (Some d) 0 t false
+begins script d t follows none = record {
+  here = refl;
+  within = search (arith);
+  replies = [];
+  client = at_start;
+  runs = refl;
+  written = ap (λ (x : Transcript). x.text) none;
+  counted = ap (λ (x : Transcript). x.commits) none;
+  made = λ _. none_made (caller_of d.«open»);
+  follows = λ ok more d' is. let same : d ≡ d' = cc in subst (λ (x : Desk). Follows x at_start) same follows;
+  closed = λ fails. cc;
+}
+
 -- a session that isn't finished has what its desk goes on with
-pub goes_on : (script : List Line) (desk : Option Desk) (n : ℕ) (text : Bytes) (failed : Bool) (d : Desk) → HasDone script desk n text failed → desk ≡ Some d → failed ≡ false → n < length script → SoFar script n d text
+pub goes_on : (script : List Line) (desk : Option Desk) (n : ℕ) (text : Transcript) (failed : Bool) (d : Desk) → HasDone script desk n text failed → desk ≡ Some d → failed ≡ false → n < length script → SoFar script n d text
 goes_on script desk n text failed d h is ok more = record {
   replies = h.replies;
   client = h.client;
   runs = subst (λ (o : Option Desk). let p = caller_in o in RunsByCells (cells_seen p) p.number at_start (take n script) h.replies h.client) is h.runs;
   follows = h.follows ok more d is;
   written = h.written;
+  counted = h.counted;
+  made = subst (λ (o : Option Desk). AreMade (caller_in o) h.replies) is (h.made ok);
 }
 
 -- some lines were answered, and then none is left, or memory was wanting
-pub has_added : (pass : Caller) (script : List Line) (from to : ℕ) (old text : Bytes) (d : Desk) (failed : Bool) → AddsSome pass (caller_of d.«open») script from to old text → to ≤ length script → (failed ≡ false → to ≡ length script) → (failed ≡ true → is_writing d.«open» ≡ false) → HasDone script (Some d) to text failed
-has_added pass script from to old text d failed some within all closed =
+pub has_added : (pass : Caller) (script : List Line) (from to : ℕ) (old text : Transcript) (d : Desk) (failed : Bool) → (some : AddsSome pass (caller_of d.«open») script from to old text) → (failed ≡ false → AreMade (caller_of d.«open») (some.before.replies ++ some.adds.replies)) → to ≤ length script → (failed ≡ false → to ≡ length script) → (failed ≡ true → is_writing d.«open» ≡ false) → HasDone script (Some d) to text failed
+has_added pass script from to old text d failed some made within all closed =
     let adds = some.adds in
     let p = caller_of d.«open» in
     record {
@@ -159,12 +210,14 @@ has_added pass script from to old text d failed some within all closed =
       client = adds.client;
       runs = subst (λ (n : ℕ). RunsByCells (cells_seen p) n at_start (take to script) (some.before.replies ++ adds.replies) adds.client) (sym adds.later.number) adds.runs;
       written = adds.written;
+      counted = adds.counted;
+      made = made;
       follows = λ ok more d' is. let end = all ok in absurd (omega (arith, end, more));
       closed = closed;
     }
 
 -- lines were answered from one place on to another, and the desk has what the client knows then
-pub has_carried : (pass : Caller) (script : List Line) (from to : ℕ) (old text : Bytes) (d : Desk) (failed : Bool) → CarriedOn pass script from to old d text → to ≤ length script → failed ≡ false → HasDone script (Some d) to text failed
+pub has_carried : (pass : Caller) (script : List Line) (from to : ℕ) (old text : Transcript) (d : Desk) (failed : Bool) → CarriedOn pass script from to old d text → to ≤ length script → failed ≡ false → HasDone script (Some d) to text failed
 has_carried pass script from to old text d failed on within ok =
     let c = on.carried in
     let p = caller_of d.«open» in
@@ -175,15 +228,17 @@ has_carried pass script from to old text d failed on within ok =
       client = c.client;
       runs = subst (λ (n : ℕ). RunsByCells (cells_seen p) n at_start (take to script) (on.before.replies ++ c.replies) c.client) (sym c.later.number) c.runs;
       written = c.written;
+      counted = c.counted;
+      made = λ _. made_both pass p c.later on.before.replies on.before.made c.replies c.made c.own c.told c.rising;
       follows = λ _ more d' is. let same : d ≡ d' = cc in subst (λ (x : Desk). Follows x c.client) same c.follows;
       closed = λ fails. cc;
     }
 
 -- ---- a call, by the fields before and after
 
-module _ (s : Progress) (client : ℕ) (script : List Line) (desk desk' : Option Desk) (n : ℕ) (text : Bytes) (failed : Bool) (view_is : progress_of client script desk n text failed ≡ s) where
+module _ (s : Progress) (client : ℕ) (script : List Line) (desk desk' : Option Desk) (n : ℕ) (text : Transcript) (failed : Bool) (view_is : progress_of client script desk n text failed ≡ s) where
   pub kept_told : HasDone script desk n text failed → (replies : List Reply) × AreTold s replies
-  kept_told h = (h.replies, subst (λ (x : Progress). AreTold x h.replies) view_is (are_told (progress_of client script desk n text failed) h.replies h.client h.runs h.written))
+  kept_told h = (h.replies, subst (λ (x : Progress). AreTold x h.replies) view_is (are_told (progress_of client script desk n text failed) h.replies h.client h.runs h.written h.counted h.made))
 
   pub same_told : (t : Progress) (b : Bool) → t ≡ with_writing b s → HasDone script desk n text failed → Tells s t
   unfolding kept_told
@@ -202,47 +257,63 @@ module _ (s : Progress) (client : ℕ) (script : List Line) (desk desk' : Option
   same_stopped h fails = stops_nothing s (kept_told h).0 (kept_told h).1 (closed_by h fails)
 
   -- both desks are there
-  by_fields : (P : Progress → Progress → Type 0) (d d' : Desk) (n' : ℕ) (text' : Bytes) (failed' : Bool) → desk ≡ Some d → desk' ≡ Some d' → P (progress_of client script (Some d) n text failed) (progress_of client script (Some d') n' text' failed') → P s (progress_of client script desk' n' text' failed')
+  by_fields : (P : Progress → Progress → Type 0) (d d' : Desk) (n' : ℕ) (text' : Transcript) (failed' : Bool) → desk ≡ Some d → desk' ≡ Some d' → P (progress_of client script (Some d) n text failed) (progress_of client script (Some d') n' text' failed') → P s (progress_of client script desk' n' text' failed')
   by_fields P d d' n' text' failed' is is' holds =
       let t = progress_of client script desk' n' text' failed' in
       subst (λ (x : Progress). P x t) view_is
       (subst (λ (o : Option Desk). P (progress_of client script o n text failed) t) (sym is)
       (subst (λ (o : Option Desk). P (progress_of client script (Some d) n text failed) (progress_of client script o n' text' failed')) (sym is') holds))
 
-  pub some_told : (d d' : Desk) (n' : ℕ) (text' : Bytes) (failed' : Bool) → desk ≡ Some d → desk' ≡ Some d' → AddsSome (caller_of d.«open») (caller_of d'.«open») script n n' text text' → Tells s (progress_of client script desk' n' text' failed')
-  some_told d d' n' text' failed' is is' some = by_fields Tells d d' n' text' failed' is is' (tells_some (progress_of client script (Some d) n text failed) (progress_of client script (Some d') n' text' failed') refl some)
+  pub some_told : (d d' : Desk) (n' : ℕ) (text' : Transcript) (failed' : Bool) → desk ≡ Some d → desk' ≡ Some d' → (some : AddsSome (caller_of d.«open») (caller_of d'.«open») script n n' text text') → (failed' ≡ false → AreMade (caller_of d'.«open») (some.before.replies ++ some.adds.replies)) → Tells s (progress_of client script desk' n' text' failed')
+  some_told d d' n' text' failed' is is' some made = by_fields Tells d d' n' text' failed' is is' (tells_some (progress_of client script (Some d) n text failed) (progress_of client script (Some d') n' text' failed') refl some made)
 
-  pub all_answered : (d d' : Desk) (n' : ℕ) (text' : Bytes) (failed' : Bool) → desk ≡ Some d → desk' ≡ Some d' → CarriesOut (caller_of d.«open») (caller_of d'.«open») script n n' text text' → HasAnswered s (progress_of client script desk' n' text' failed')
+  pub all_answered : (d d' : Desk) (n' : ℕ) (text' : Transcript) (failed' : Bool) → desk ≡ Some d → desk' ≡ Some d' → CarriesOut (caller_of d.«open») (caller_of d'.«open») script n n' text text' → HasAnswered s (progress_of client script desk' n' text' failed')
   all_answered d d' n' text' failed' is is' c = by_fields HasAnswered d d' n' text' failed' is is' (answers_some (progress_of client script (Some d) n text failed) (progress_of client script (Some d') n' text' failed') refl c)
 
-  pub answered_ok : (d d' : Desk) (n' : ℕ) (text' : Bytes) (failed' : Bool) (r : Result (Unit {0}) AllocError) → desk ≡ Some d → desk' ≡ Some d' → OnOk r (CarriesOut (caller_of d.«open») (caller_of d'.«open») script n n' text text') → OnOk r (HasAnswered s (progress_of client script desk' n' text' failed'))
+  -- what a call tells that answered all, or found no memory
+  pub told_by : (d d' : Desk) (n' : ℕ) (text' : Transcript) (failed' : Bool) (r : Result (Unit {0}) AllocError) → failed' ≡ is_err r → desk ≡ Some d → desk' ≡ Some d' → AddsSome (caller_of d.«open») (caller_of d'.«open») script n n' text text' → OnOk r (CarriesOut (caller_of d.«open») (caller_of d'.«open») script n n' text text') → Tells s (progress_of client script desk' n' text' failed')
+  told_by d d' n' text' failed' (Ok x) fails is is' some c = let all = all_answered d d' n' text' failed' is is' c in all.tells
+  told_by d d' n' text' failed' (Err e) fails is is' some c = some_told d d' n' text' failed' is is' some (λ ok. not_both failed' fails ok)
+
+  pub answered_ok : (d d' : Desk) (n' : ℕ) (text' : Transcript) (failed' : Bool) (r : Result (Unit {0}) AllocError) → desk ≡ Some d → desk' ≡ Some d' → OnOk r (CarriesOut (caller_of d.«open») (caller_of d'.«open») script n n' text text') → OnOk r (HasAnswered s (progress_of client script desk' n' text' failed'))
   answered_ok d d' n' text' failed' (Ok x) is is' c = all_answered d d' n' text' failed' is is' c
   answered_ok d d' n' text' failed' (Err e) is is' c = tt
 
-  pub some_stopped : (d d' : Desk) (n' : ℕ) (text' : Bytes) (failed' : Bool) → desk ≡ Some d → desk' ≡ Some d' → is_writing d'.«open» ≡ false → Stops (caller_of d.«open») (caller_of d'.«open») script n n' text text' → HasStopped s (progress_of client script desk' n' text' failed')
-  some_stopped d d' n' text' failed' is is' closed c = by_fields HasStopped d d' n' text' failed' is is' (stops_some (progress_of client script (Some d) n text failed) (progress_of client script (Some d') n' text' failed') refl closed c)
+  pub some_stopped : (d d' : Desk) (n' : ℕ) (text' : Transcript) (failed' : Bool) → desk ≡ Some d → desk' ≡ Some d' → failed' ≡ true → is_writing d'.«open» ≡ false → Stops (caller_of d.«open») (caller_of d'.«open») script n n' text text' → HasStopped s (progress_of client script desk' n' text' failed')
+  some_stopped d d' n' text' failed' is is' fails closed c = by_fields HasStopped d d' n' text' failed' is is' (stops_some (progress_of client script (Some d) n text failed) (progress_of client script (Some d') n' text' failed') refl fails closed c)
 
-  pub stopped_on_err : (d d' : Desk) (n' : ℕ) (text' : Bytes) (failed' : Bool) (r : Result (Unit {0}) AllocError) → desk ≡ Some d → desk' ≡ Some d' → is_writing d'.«open» ≡ false → OnErr r (Stops (caller_of d.«open») (caller_of d'.«open») script n n' text text') → OnErr r (HasStopped s (progress_of client script desk' n' text' failed'))
-  stopped_on_err d d' n' text' failed' (Ok x) is is' closed c = tt
-  stopped_on_err d d' n' text' failed' (Err e) is is' closed c = some_stopped d d' n' text' failed' is is' closed c
+  pub stopped_on_err : (d d' : Desk) (n' : ℕ) (text' : Transcript) (failed' : Bool) (r : Result (Unit {0}) AllocError) → failed' ≡ is_err r → desk ≡ Some d → desk' ≡ Some d' → is_writing d'.«open» ≡ false → OnErr r (Stops (caller_of d.«open») (caller_of d'.«open») script n n' text text') → OnErr r (HasStopped s (progress_of client script desk' n' text' failed'))
+  stopped_on_err d d' n' text' failed' (Ok x) fails is is' closed c = tt
+  stopped_on_err d d' n' text' failed' (Err e) fails is is' closed c = some_stopped d d' n' text' failed' is is' fails closed c
+
+  -- and what it keeps
+  pub kept_by : (d d' : Desk) (n' : ℕ) (text' : Transcript) (failed' : Bool) (r : Result (Unit {0}) AllocError) → failed' ≡ is_err r → desk' ≡ Some d' → AddsSome (caller_of d.«open») (caller_of d'.«open») script n n' text text' → OnOk r (CarriesOut (caller_of d.«open») (caller_of d'.«open») script n n' text text') → n' ≤ length script → OnOk r (n' ≡ length script) → is_writing d'.«open» ≡ false → HasDone script desk' n' text' failed'
+  kept_by d d' n' text' failed' (Ok x) fails is' some c within all closed = subst (λ (o : Option Desk). HasDone script o n' text' failed') (sym is') (has_added (caller_of d.«open») script n n' text text' d' failed' c.some (λ _. made_in_all (caller_of d.«open») (caller_of d'.«open») script n n' text text' c) within (λ _. all) (λ _. closed))
+  kept_by d d' n' text' failed' (Err e) fails is' some c within all closed = subst (λ (o : Option Desk). HasDone script o n' text' failed') (sym is') (has_added (caller_of d.«open») script n n' text text' d' failed' some (λ ok. not_both failed' fails ok) within (λ ok. not_both failed' fails ok) (λ _. closed))
 
 -- ---- a step
 
+-- one more commit can be told
+pub room_kept : (script : List Line) (desk : Option Desk) (n : ℕ) (t : Transcript) (failed : Bool) → HasDone script desk n t failed → n + 1 < 2 ^ 64 → t.commits + 1 < 2 ^ 64
+room_kept script desk n t failed h few =
+    let p = caller_in desk in
+    room_for_one (cells_seen p) p.number script n t.commits h.replies h.client h.runs h.counted h.within few
+
 -- a session that isn't finished, by its fields
-pub unfinished_fields : (s : Progress) (client : ℕ) (script : List Line) (desk : Option Desk) (n : ℕ) (text : Bytes) (failed : Bool) → progress_of client script desk n text failed ≡ s → IsUnfinished s → (failed ≡ false) × (n < length script)
+pub unfinished_fields : (s : Progress) (client : ℕ) (script : List Line) (desk : Option Desk) (n : ℕ) (text : Transcript) (failed : Bool) → progress_of client script desk n text failed ≡ s → IsUnfinished s → (failed ≡ false) × (n < length script)
 unfinished_fields s client script desk n text failed view_is unfinished = subst IsUnfinished (sym view_is) unfinished
 
 pub was_stopped : {P : Type 0} (r : Result Bool AllocError) (e : AllocError) → r ≡ Err e → OnErr r P → P
 was_stopped {P} r e is holds = subst (λ (x : Result Bool AllocError). OnErr x P) is holds
 
-pub line_answered : (callers : ℕ) (l : Line) (d d' : Desk) (text text' : Bytes) (r : Result Bool AllocError) (b : Bool) → r ≡ Ok b → b ≡ true → OnOk r (StepsLine callers l d d' text text' r) → AnswersLine l d d' text text' × HasDoneOnce l.command (caller_of d.«open») (caller_of d'.«open»)
+pub line_answered : (callers : ℕ) (l : Line) (d d' : Desk) (text text' : Transcript) (r : Result Bool AllocError) (b : Bool) → r ≡ Ok b → b ≡ true → OnOk r (StepsLine callers l d d' text text' r) → AnswersLine l d d' text text' × HasDoneOnce l.command (caller_of d.«open») (caller_of d'.«open»)
 line_answered callers l d d' text text' r b is so told = subst (λ (x : Result Bool AllocError). OnOk x (StepsLine callers l d d' text text' x)) (is ∙ ap Ok so) told
 
-pub line_held_up : (callers : ℕ) (l : Line) (d d' : Desk) (text text' : Bytes) (r : Result Bool AllocError) (b : Bool) → r ≡ Ok b → b ≡ false → OnOk r (StepsLine callers l d d' text text' r) → IsHeldUp callers l.command d d' × (text' ≡ text)
+pub line_held_up : (callers : ℕ) (l : Line) (d d' : Desk) (text text' : Transcript) (r : Result Bool AllocError) (b : Bool) → r ≡ Ok b → b ≡ false → OnOk r (StepsLine callers l d d' text text' r) → IsHeldUp callers l.command d d' × (text' ≡ text)
 line_held_up callers l d d' text text' r b is so told = subst (λ (x : Result Bool AllocError). OnOk x (StepsLine callers l d d' text text' x)) (is ∙ ap Ok so) told
 
 -- a line that is held up is still to do
-module _ (client : ℕ) (script : List Line) (d d' : Desk) (n : ℕ) (text text' : Bytes) (failed failed' : Bool) (so_far : SoFar script n d text) where
+module _ (client : ℕ) (script : List Line) (d d' : Desk) (n : ℕ) (text text' : Transcript) (failed failed' : Bool) (so_far : SoFar script n d text) where
   sooner : Progress
   sooner = progress_of client script (Some d) n text failed
 
@@ -277,7 +348,7 @@ module _ (client : ℕ) (script : List Line) (d d' : Desk) (n : ℕ) (text text'
   blocked callers (command.Size set) held = absurd held
   blocked callers (command.Watches w) held = waits w held
 
-module _ (s : Progress) (client : ℕ) (script : List Line) (desk desk' : Option Desk) (n : ℕ) (text text' : Bytes) (failed : Bool) (d d' : Desk) (view_is : progress_of client script desk n text failed ≡ s) (is : desk ≡ Some d) (is' : desk' ≡ Some d') (h : HasDone script desk n text failed) (unfinished : (failed ≡ false) × (n < length script)) where
+module _ (s : Progress) (client : ℕ) (script : List Line) (desk desk' : Option Desk) (n : ℕ) (text text' : Transcript) (failed : Bool) (d d' : Desk) (view_is : progress_of client script desk n text failed ≡ s) (is : desk ≡ Some d) (is' : desk' ≡ Some d') (h : HasDone script desk n text failed) (unfinished : (failed ≡ false) × (n < length script)) where
   old : Caller
   old = caller_of d.«open»
 
@@ -308,7 +379,7 @@ module _ (s : Progress) (client : ℕ) (script : List Line) (desk desk' : Option
 
     pub next_told : Tells s (progress_of client script desk' n' text' failed')
     unfolding old new
-    next_told = some_told s client script desk desk' n text failed view_is d d' n' text' failed' is is' carries_next.some
+    next_told = some_told s client script desk desk' n text failed view_is d d' n' text' failed' is is' carries_next.some (λ _. made_in_all old new script n n' text text' carries_next)
 
     pub next_stepped : AnswersStep callers s (progress_of client script desk' n' text' failed') (Ok (stepped.Answered l.number))
     unfolding old new
@@ -325,17 +396,25 @@ module _ (s : Progress) (client : ℕ) (script : List Line) (desk desk' : Option
   unfolding old new
   seen_some later same = kept_some old new script n n d text text text' later same here
 
-  pub seen_told : (failed' : Bool) → IsLater (caller_of d.«open») (caller_of d'.«open») → text' ≡ text → Tells s (progress_of client script desk' n text' failed')
-  unfolding old new
-  seen_told failed' later same = some_told s client script desk desk' n text failed view_is d d' n text' failed' is is' (seen_some later same)
+  so_far : SoFar script n d text
+  so_far = goes_on script desk n text failed d h is unfinished.0 unfinished.1
 
-  pub seen_stopped : (l : Line) (failed' : Bool) → slice_get script n ≡ Some l → IsLater (caller_of d.«open») (caller_of d'.«open») → text' ≡ text → is_writing d'.«open» ≡ false → StopsLine l d (caller_of d'.«open») → HasStopped s (progress_of client script desk' n text' failed')
+  -- nor was a commit made
+  made_before : (later : IsLater old new) (same : text' ≡ text) → new.own ≡ old.own → (let seen = seen_some later same in AreMade new (seen.before.replies ++ seen.adds.replies))
+  unfolding old new here seen_some so_far
+  made_before later same own = subst (AreMade new) (sym (nothing_added d new script n text text' later same so_far)) (made_still old new later so_far.replies so_far.made own)
+
+  pub seen_told : (failed' : Bool) → (later : IsLater (caller_of d.«open») (caller_of d'.«open»)) → text' ≡ text → (failed' ≡ false → (caller_of d'.«open»).own ≡ (caller_of d.«open»).own) → Tells s (progress_of client script desk' n text' failed')
   unfolding old new
-  seen_stopped l failed' there later same closed stops = some_stopped s client script desk desk' n text failed view_is d d' n text' failed' is is' closed (stops_here old new script n n d text text text' l there later same stops here)
+  seen_told failed' later same own = some_told s client script desk desk' n text failed view_is d d' n text' failed' is is' (seen_some later same) (λ ok. made_before later same (own ok))
+
+  pub seen_stopped : (l : Line) (failed' : Bool) → failed' ≡ true → slice_get script n ≡ Some l → IsLater (caller_of d.«open») (caller_of d'.«open») → text' ≡ text → is_writing d'.«open» ≡ false → StopsLine l d (caller_of d'.«open») → HasStopped s (progress_of client script desk' n text' failed')
+  unfolding old new
+  seen_stopped l failed' fails there later same closed stops = some_stopped s client script desk desk' n text failed view_is d d' n text' failed' is is' fails closed (stops_here old new script n n d text text text' l there later same stops here)
 
   pub seen_kept : (failed' : Bool) → failed' ≡ true → IsLater (caller_of d.«open») (caller_of d'.«open») → text' ≡ text → is_writing d'.«open» ≡ false → HasDone script desk' n text' failed'
   unfolding old new
-  seen_kept failed' fails later same closed = kept n failed' (has_added old script n n text text' d' failed' (seen_some later same) h.within (λ ok. cc) (λ _. closed))
+  seen_kept failed' fails later same closed = kept n failed' (has_added old script n n text text' d' failed' (seen_some later same) (λ ok. cc) h.within (λ ok. cc) (λ _. closed))
 
   -- the line is still to do
   module _ (callers : ℕ) (l : Line) (failed' : Bool) (ok : failed' ≡ false) (same : text' ≡ text) (held : IsHeldUp callers l.command d d') where
@@ -343,7 +422,7 @@ module _ (s : Progress) (client : ℕ) (script : List Line) (desk desk' : Option
     unfolding old
     held_up_kept =
         let on : CarriedOn old script n n text d' text = record { before = here.before; carried = seen_more old here.before.replies (take n script) d d' text here.carried held.looks held.snapshots held.watching } in
-        kept n failed' (subst (λ (t : Bytes). HasDone script (Some d') n t failed') (sym same) (has_carried old script n n text text d' failed' on h.within ok))
+        kept n failed' (subst (λ (t : Transcript). HasDone script (Some d') n t failed') (sym same) (has_carried old script n n text text d' failed' on h.within ok))
 
     pub held_up_stepped : slice_get script n ≡ Some l → AnswersStep callers s (progress_of client script desk' n text' failed') (Ok (stepped.Blocked l.number))
     held_up_stepped there = (

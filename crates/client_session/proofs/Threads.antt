@@ -74,8 +74,8 @@ command-send = search (sendable, crosses, text-send, transaction-send, write_row
 line-send : IsSend Line.the_row
 line-send = search (sendable, crosses, command-send) depth 100 fits 100000
 
-pub script_send : IsSend Script.the_row
-script_send = search (sendable, crosses, line-send) depth 100 fits 100000
+script-send : IsSend Script.the_row
+script-send = search (sendable, crosses, line-send) depth 100 fits 100000
 
 -- ---- what is open, and the snapshots
 
@@ -147,4 +147,4 @@ desk-send : IsSend Desk.the_row
 desk-send = search (sendable, open-send, snapshots-send, watching-send) depth 20
 
 pub session_send : IsSend Session.the_row
-session_send = search (sendable, crosses, script_send, desk-send) depth 100 fits 100000
+session_send = search (sendable, crosses, script-send, desk-send) depth 100 fits 100000

@@ -40,7 +40,7 @@ use Rattle.watch_set.proofs.GuardedChains.{Follows, follows-itself, follows-seen
 
 -- ---- what is waited for
 
-found_alone : (kept : Option (List Member)) (ms : List Member) (u : Option HeldWatch) → beside kept (Some None) ≡ Some (ms, u) → (kept ≡ Some ms) × (u ≡ None)
+pub found_alone : (kept : Option (List Member)) (ms : List Member) (u : Option HeldWatch) → beside kept (Some None) ≡ Some (ms, u) → (kept ≡ Some ms) × (u ≡ None)
 found_alone None ms u e = cc
 found_alone (Some xs) ms u e =
     let x : List Member × Option HeldWatch = (xs, None) in
@@ -48,7 +48,7 @@ found_alone (Some xs) ms u e =
     let same : x ≡ y = some_once (Some x) x y refl e in
     (ap (λ (p : List Member × Option HeldWatch). Some p.0) same, sym (ap (λ (p : List Member × Option HeldWatch). p.1) same))
 
-found_until : (kept : Option (List Member)) (o : Option HeldWatch) (ms : List Member) (u : Option HeldWatch) → beside kept (option_map Some o) ≡ Some (ms, u) → (h : HeldWatch) × (kept ≡ Some ms) × (o ≡ Some h) × (u ≡ Some h)
+pub found_until : (kept : Option (List Member)) (o : Option HeldWatch) (ms : List Member) (u : Option HeldWatch) → beside kept (option_map Some o) ≡ Some (ms, u) → (h : HeldWatch) × (kept ≡ Some ms) × (o ≡ Some h) × (u ≡ Some h)
 found_until None o ms u e = cc
 found_until (Some xs) None ms u e = cc
 found_until (Some xs) (Some h) ms u e =
@@ -68,10 +68,10 @@ awaited_held p g set until ms u holds e = let all = holds.sets set ms (awaited_s
 -- ---- what is judged where no write transaction is open
 
 module _ (p : Caller) (g : Watching) (set : Bytes) (v : Client) (may : MayLook p g v) where
-  wait_found : (ms : List Member) → get_by_text g.sets.kept set ≡ Some ms → (s : WatchSet) × (wait_judged v set ≡ Ok s) × IsSet p ms s
+  pub wait_found : (ms : List Member) → get_by_text g.sets.kept set ≡ Some ms → (s : WatchSet) × (wait_judged v set ≡ Ok s) × IsSet p ms s
   wait_found ms there = let s = called_set p g v set ms may.knows there in (s.0, wait_free v may.free set ∙ s.1, s.2)
 
-  until_found : (until : Bytes) (ms : List Member) (h : HeldWatch) → get_by_text g.sets.kept set ≡ Some ms → get_by_text g.watches.kept until ≡ Some h
+  pub until_found : (until : Bytes) (ms : List Member) (h : HeldWatch) → get_by_text g.sets.kept set ≡ Some ms → get_by_text g.watches.kept until ≡ Some h
       → (s : WatchSet) × (until_judged v set until ≡ Ok (s, watch_of until h)) × IsSet p ms s
   until_found until ms h there named =
       let s = called_set p g v set ms may.knows there in (
@@ -81,10 +81,10 @@ module _ (p : Caller) (g : Watching) (set : Bytes) (v : Client) (may : MayLook p
         s.2,
       )
 
-  wait_missed : get_by_text g.sets.kept set ≡ None → wait_judged v set ≡ Err unknown
+  pub wait_missed : get_by_text g.sets.kept set ≡ None → wait_judged v set ≡ Err unknown
   wait_missed none = wait_free v may.free set ∙ called_no_set p g v set may.knows none
 
-  until_missed : (until : Bytes) → (get_by_text g.sets.kept set ≡ None) ⊎ ((ms : List Member) × (get_by_text g.sets.kept set ≡ Some ms) × (get_by_text g.watches.kept until ≡ None)) → until_judged v set until ≡ Err unknown
+  pub until_missed : (until : Bytes) → (get_by_text g.sets.kept set ≡ None) ⊎ ((ms : List Member) × (get_by_text g.sets.kept set ≡ Some ms) × (get_by_text g.watches.kept until ≡ None)) → until_judged v set until ≡ Err unknown
   until_missed until (inl none) =
       until_free v may.free set until ∙ ap (λ (j : Judged WatchSet). j >>= (λ (x : WatchSet). watch_called until v >>= (λ (w : Watch). Ok (x, w)))) (called_no_set p g v set may.knows none)
   until_missed until (inr (ms, there, none)) =

@@ -40,14 +40,26 @@ abbrev pub AreRising : ℕ → List ℕ → ℕ → Type 0
 AreRising low [] high = low ≤ high
 AreRising low (m ∷ ms) high = (low < m) × AreRising m ms high
 
+-- The commits that replies print are those that the pass has made since some time, each once and in
+-- order, by their numbers in the list that it has seen.
+pub record AreMade (p : Caller) (replies : List Reply) : Type 0 where
+  pub earlier : List Commit
+  pub made : List Commit
+  pub own : p.own ≡ earlier ++ made
+  pub told : map (commit_at p.seen) (printed replies) ≡ map Some made
+  pub rising : AreRising 0 (printed replies) (length p.seen)
+
 -- the replies to the lines that are answered: they are a session, also by what they tell of cells,
--- and the text is theirs
+-- the text is theirs, and so many of them tell a commit; while memory was found, these commits are
+-- the last that the pass has made
 pub record AreTold (s : Progress) (replies : List Reply) : Type 0 where
   pub session : let p = s.caller in
       Session p.schema p.seen p.number (take s.answered s.script) replies
   pub cells : let p = s.caller in
       SessionByCells (cells_seen p) p.number (take s.answered s.script) replies
   pub written : s.text ≡ lines_text (take s.answered s.script) replies
+  pub counted : s.commits ≡ length (printed replies)
+  pub made : s.failed ≡ false → AreMade s.caller replies
 
 -- A call has told these replies behind those that were told before. The numbers that they print for
 -- transactions that begin, for checks and for waits are, in order, some of the counts that the pass

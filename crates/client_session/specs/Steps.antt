@@ -93,4 +93,5 @@ AnswersStep callers old new (Ok (stepped.Blocked line)) =
     × (new ≡ record old { caller = new.caller })
 AnswersStep callers old new (Ok stepped.Ended) =
     (old.answered ≡ length old.script) × (new ≡ record old { writing = false })
-AnswersStep callers old new (Err e) = (new.answered ≡ old.answered) × (new.text ≡ old.text)
+AnswersStep callers old new (Err e) =
+    (new.answered ≡ old.answered) × (new.text ≡ old.text) × (new.commits ≡ old.commits)

@@ -1,5 +1,6 @@
 pub mod Added
 pub mod Asking
+pub mod Awaited
 pub mod Carried
 pub mod DeskView
 pub mod KeptView
@@ -11,4 +12,5 @@ pub mod RuleName
 pub mod SetsKept
 pub mod StepKept
 pub mod StoredSession
+pub mod Transcript
 pub mod WatchingView

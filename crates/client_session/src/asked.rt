@@ -78,7 +78,8 @@ fn count_rows(mut walk: Walk<'_>) -> Result<u64, AllocError>
     Ok(count)
 }
 
-/// Adds so many rows, which are those that a question is answered.
+/// Adds so many rows, which are those that a question is answered. It breaks no rule, since they were
+/// counted, so that the only error is want of memory.
 fn write_counted(
     txn: &ReadTxn,
     query: &Query,

@@ -11,6 +11,8 @@ ghost use Rattle.client_script.specs.declared.command.Command.TheVariants as com
 ghost use Rattle.client_script.specs.declared.command.NameCommand.TheVariants as name_line;
 ghost use Rattle.client_script.specs.declared.command.WatchesCommand.TheVariants as watches_line;
 ghost use Rattle.client_script.specs.Client.{at_start};
+ghost use Rattle.client_session.specs.Waiting.{awaited_of};
+ghost use Rattle.client_session.specs.inner.Awaited.{Awaits};
 ghost use Rattle.client_session.specs.inner.DeskView.{AnswersOnce, Follows, LooksAndReplies};
 ghost use Rattle.client_session.specs.inner.DeskView.{RepliesTo, StepsTo};
 ghost use Rattle.client_session.specs.inner.OpenView.{caller_of, is_writing, IsOpen, Stands};
@@ -24,6 +26,7 @@ use crate::open::Open;
 use crate::refusal::{question_rule, refused};
 use crate::reply::Reply;
 use crate::rule::Rule;
+use crate::waits_for::WaitsFor;
 use crate::watching::Watching;
 use client_script::{AskCommand, Command, NameCommand, TransactionCommand, WatchesCommand};
 use mdb_datum::Text;
@@ -72,20 +75,7 @@ impl Desk {
             ((caller_of result.0.open).own ≡ (caller_of self.open).own) }
     {
         match command {
-            Command::Transaction(command) => {
-                let Desk {
-                    open,
-                    snapshots,
-                    watching,
-                } = self;
-                let (open, told) = open.turn(rt, db, command);
-                let desk = Desk {
-                    open,
-                    snapshots,
-                    watching,
-                };
-                (desk, told)
-            }
+            Command::Transaction(command) => self.transaction(rt, db, command),
             Command::Write(command) => {
                 let mut desk = self;
                 let told = desk.open.write_rows(db.schema(), command);
@@ -166,6 +156,60 @@ impl Desk {
                 (desk, told.map(Some))
             }
         }
+    }
+
+    /// What a command waits for: nothing, where it is no wait, or breaks a rule. It takes no memory.
+    pub(crate) fn awaited(&self, command: &Command) -> Option<WaitsFor<'_>>
+        ensures { Awaits self.now command.now (option_map awaited_of result) }
+    {
+        if self.open.is_writing() {
+            return None;
+        }
+        match command {
+            Command::Watches(line) => self.awaited_by(line),
+            _ => None,
+        }
+    }
+
+    /// What a line of watches waits for, while no write transaction is open.
+    fn awaited_by(&self, line: &WatchesCommand) -> Option<WaitsFor<'_>>
+        requires free { is_writing self.now.open ≡ false }
+        ensures { Awaits self.now (commands.Watches line.now) (option_map awaited_of result) }
+    {
+        match line {
+            WatchesCommand::Wait { set } => self.watching.awaited(set, None),
+            WatchesCommand::WaitUntil { set, until } => self.watching.awaited(set, Some(until)),
+            _ => None,
+        }
+    }
+
+    /// Carries out a command that begins or ends a transaction.
+    fn transaction<R: Wait>(
+        self,
+        rt: &R,
+        db: &Db,
+        command: &TransactionCommand,
+    ) -> (Desk, Result<Reply, AllocError>)
+        requires own { IsOf db.now (caller_of self.open) }
+        requires stands { Stands self.open }
+        ensures turn { IfOk result.1 (λ r. LooksAndReplies (commands.Transaction command.now) self
+            result.0 (reply_of (caller_of self.open).schema r)) }
+        ensures caller { IsLater (caller_of self.open) (caller_of result.0.open) }
+        ensures unmade { OnErr result.1
+            ((caller_of result.0.open).own ≡ (caller_of self.open).own) }
+    {
+        let Desk {
+            open,
+            snapshots,
+            watching,
+        } = self;
+        let (open, told) = open.turn(rt, db, command);
+        let desk = Desk {
+            open,
+            snapshots,
+            watching,
+        };
+        (desk, told)
     }
 
     /// Carries out a command that asks for rows.

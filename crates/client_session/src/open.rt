@@ -7,7 +7,7 @@ ghost use Rattle.client_script.specs.declared.command.Command.TheVariants as com
 ghost use Rattle.client_script.specs.declared.command.TransactionCommand.TheVariants as transaction_line;
 ghost use Rattle.client_session.specs.declared.open.Open.TheVariants as opens;
 ghost use Rattle.client_session.specs.declared.reply.Reply.TheVariants as replies;
-ghost use Rattle.client_session.specs.inner.OpenView.{caller_of, LooksAndTurns};
+ghost use Rattle.client_session.specs.inner.OpenView.{caller_of, is_writing, LooksAndTurns};
 ghost use Rattle.client_session.specs.inner.OpenView.{Stands, TriesWrite, TurnsTo};
 ghost use Rattle.client_session.specs.inner.ReplyOf.{reply_of};
 
@@ -30,6 +30,13 @@ pub(crate) enum Open {
 }
 
 impl Open {
+    /// Whether a write transaction is open.
+    pub(crate) fn is_writing(&self) -> bool
+        ensures { result ≡ is_writing self.now }
+    {
+        matches!(self, Open::Writing(_))
+    }
+
     /// What is known of the client's pass: of the watches that it holds, ids tell cells.
     pub(crate) fn ids_tell_cells(&self)
         ensures { IdsTellCells (caller_of self.now) }

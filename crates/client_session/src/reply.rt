@@ -1,8 +1,9 @@
 //! The answers to the lines of a script.
 ghost use Rattle.std.specs.Prelude.{◌≡◌, ◌++◌, ◌∷◌, OnErr, OnOk, length, decimal, codes, map};
-ghost use Rattle.std.specs.Prelude.{option_copied, slice_get, take};
+ghost use Rattle.std.specs.Prelude.{if◌then◌else◌, option_copied, slice_get, take};
 ghost use Rattle.mdb_datum.specs.Written.{row_text};
 ghost use Rattle.mem_txn.specs.Transactions.{deferred_items};
+ghost use Rattle.client_script.specs.Legal.{number_printed};
 ghost use Rattle.client_script.specs.Reply.{answer_text, change_text, changed_lines, did_lines};
 ghost use Rattle.client_script.specs.Reply.{further, line_text, reply_text, row_lines, row_or_none};
 ghost use Rattle.client_script.specs.Turn.{changed_row, name_of};
@@ -57,6 +58,17 @@ pub(crate) enum Reply {
 }
 
 impl Reply {
+    /// Whether it tells a commit.
+    pub(crate) fn tells_commit(&self) -> bool
+        ensures { (schema : DbSchema)
+            → length (number_printed (reply_of schema self.now)) ≡ (if result then 1 else 0) }
+    {
+        match self {
+            Reply::Committed(_) => true,
+            _ => false,
+        }
+    }
+
     /// Adds `LINE: ANSWER` and a line feed. After `AllocError` the text is as before.
     pub(crate) fn add(
         &self,
@@ -185,7 +197,7 @@ pub(crate) fn write_at(word: &[u8], number: u64, out: &mut Vec<u8>) -> Result<()
 }
 
 /// Adds a number in decimal.
-fn write_number(number: u64, out: &mut Vec<u8>) -> Result<(), AllocError>
+pub(crate) fn write_number(number: u64, out: &mut Vec<u8>) -> Result<(), AllocError>
     ensures text { OnOk result (out.new.items ≡ out.old.items ++ decimal number) }
     ensures unchanged { OnErr result (out.new.items ≡ out.old.items) }
 {

@@ -1,10 +1,11 @@
 //! A client's session.
 ghost use Rattle.std.specs.Prelude.{◌≡◌, ◌+◌, IsSome, List, None, OnErr, OnOk, Some};
-ghost use Rattle.std.specs.Prelude.{◌<◌, false, true, is_err, length, slice_get};
+ghost use Rattle.std.specs.Prelude.{◌<◌, ◌^◌, false, true, is_err, length, option_map, slice_get};
 ghost use Rattle.client_script.specs.Reply.{Reply};
 ghost use Rattle.client_session.specs.Answered.{AreTold, HasAnswered, HasStopped, StaysEnded, Tells};
 ghost use Rattle.client_session.specs.Progress.{begun};
 ghost use Rattle.client_session.specs.Steps.{AnswersStep};
+ghost use Rattle.client_session.specs.Waiting.{TellsWait, awaited_of};
 ghost use Rattle.client_session.specs.declared.desk.Desk.{Desk};
 ghost use Rattle.client_session.specs.inner.OpenView.{caller_of, Stands};
 ghost use Rattle.client_session.specs.inner.StepKept.{StepsKept};
@@ -15,6 +16,8 @@ ghost use Rattle.mem_txn.specs.Database.{IsOf};
 use crate::desk::Desk;
 use crate::run::{carry_out, step_line};
 use crate::stepped::Stepped;
+use crate::transcript::Transcript;
+use crate::waits_for::WaitsFor;
 use client_script::{Line, Script};
 use mdb_ports::Gate;
 use mem_txn::{Db, Pass};
@@ -31,7 +34,7 @@ pub struct Session {
     desk: Option<Desk>,
     /// How many of the script's lines are answered.
     answered: usize,
-    text: Vec<u8>,
+    transcript: Transcript,
     failed: bool,
 }
 
@@ -48,12 +51,13 @@ impl Model for Session {
       script = s.script;
       caller = caller_in s.desk;
       answered = s.answered;
-      text = s.text.items;
+      text = s.transcript.text;
+      commits = s.transcript.commits;
       writing = writing_in s.desk;
       failed = s.failed;
     } };
 
-    ghost invariant = { λ s. HasDone s.script s.desk s.answered s.text.items s.failed };
+    ghost invariant = { λ s. HasDone s.script s.desk s.answered s.transcript s.failed };
 }
 
 impl Session {
@@ -67,7 +71,7 @@ impl Session {
             script,
             desk: Some(Desk::new(alloc, pass)),
             answered: 0,
-            text: Vec::new(alloc),
+            transcript: Transcript::new(alloc),
             failed: false,
         }
     }
@@ -87,6 +91,7 @@ impl Session {
           caller = self.new.caller;
           answered = self.new.answered;
           text = self.new.text;
+          commits = self.new.commits;
           writing = false;
           failed = is_err result;
         } }
@@ -116,6 +121,7 @@ impl Session {
           caller = self.new.caller;
           answered = self.new.answered;
           text = self.new.text;
+          commits = self.new.commits;
           writing = self.new.writing;
           failed = is_err result;
         } }
@@ -144,6 +150,7 @@ impl Session {
           caller = self.new.caller;
           answered = self.new.answered;
           text = self.new.text;
+          commits = self.new.commits;
           writing = false;
           failed = is_err result;
         } }
@@ -158,7 +165,7 @@ impl Session {
             &self.script,
             from,
             desk,
-            &mut self.text,
+            &mut self.transcript,
         );
         put_desk(&mut self.desk, desk);
         self.answered = answered;
@@ -178,13 +185,14 @@ impl Session {
           caller = self.new.caller;
           answered = self.new.answered;
           text = self.new.text;
+          commits = self.new.commits;
           writing = self.new.writing;
           failed = is_err result;
         } }
     {
         let line = line_at(&self.script, self.answered);
         let number = line.number;
-        let told = step_kept(rt, db, line, &mut self.desk, &mut self.text);
+        let told = step_kept(rt, db, line, &mut self.desk, &mut self.transcript);
         self.failed = told.is_err();
         if told? {
             self.answered = next;
@@ -201,7 +209,7 @@ impl Session {
         ensures { self.new ≡ record self.old { writing = false } }
     {
         let desk = take_desk(&mut self.desk);
-        let alloc = *self.text.allocator();
+        let alloc = self.transcript.allocator();
         put_desk(&mut self.desk, desk.closed(alloc, db));
     }
 
@@ -210,7 +218,27 @@ impl Session {
         ensures text { result.now ≡ self.now.text }
         ensures told { (replies : List Reply) × AreTold self.now replies }
     {
-        self.text.as_slice()
+        self.transcript.text()
+    }
+
+    /// How many of the answers so far tell a commit. It takes no memory.
+    pub fn commits(&self) -> u64
+        ensures { result ≡ self.now.commits }
+    {
+        self.transcript.commits()
+    }
+
+    /// What the next line waits for, where it is a wait that breaks no rule. It takes no memory.
+    /// After [`Stepped::Blocked`] at a wait these are the watches that were found quiet.
+    pub fn waits_for(&self) -> Option<WaitsFor<'_>>
+        ensures { TellsWait self.now (option_map awaited_of result) }
+    {
+        if self.failed {
+            return None;
+        }
+        let line = self.script.get(self.answered)?;
+        let desk = self.desk.as_ref()?;
+        desk.awaited(&line.command)
     }
 
     /// The pass, after what is open was aborted. It takes no memory.
@@ -223,11 +251,11 @@ impl Session {
             script,
             desk,
             answered: _,
-            text,
+            transcript,
             failed: _,
         } = self;
         drop(script);
-        drop(text);
+        drop(transcript);
         match desk {
             Some(desk) => desk.close(db),
             None => unreachable!(),
@@ -257,24 +285,25 @@ fn put_desk(kept: &mut Option<Desk>, desk: Desk)
 }
 
 /// Carries out a line on the desk, which is there, and adds its answer. It gives whether there is
-/// one. After `AllocError` nothing is open, and the text is as before.
+/// one. After `AllocError` nothing is open, and the answers are as before.
 fn step_kept<R: Wait>(
     rt: &R,
     db: &Db,
     line: &Line,
     kept: &mut Option<Desk>,
-    text: &mut Vec<u8>,
+    transcript: &mut Transcript,
 ) -> Result<bool, AllocError>
     requires here { IsSome kept.old }
     requires own { IsOf db.now (caller_in kept.old) }
     requires stands { (desk : Desk) → kept.old ≡ Some desk → Stands desk.open }
     requires holds { (desk : Desk) → kept.old ≡ Some desk
         → Holds (caller_of desk.open) desk.watching }
-    ensures { StepsKept db.now.callers line.now kept.old kept.new text.old.items text.new.items
+    requires room { transcript.old.commits + 1 < 2 ^ 64 }
+    ensures { StepsKept db.now.callers line.now kept.old kept.new transcript.old transcript.new
         result }
 {
     let desk = take_desk(kept);
-    let (desk, told) = step_line(rt, db, line, desk, text);
+    let (desk, told) = step_line(rt, db, line, desk, transcript);
     put_desk(kept, desk);
     told
 }

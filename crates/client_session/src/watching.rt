@@ -7,6 +7,7 @@ ghost use Rattle.mdb_datum.specs.Bytes.{Bytes};
 ghost use Rattle.client_script.specs.Client.{Client, Sight, nothing_watched};
 ghost use Rattle.client_script.specs.Turn.{outcome, size_turn};
 ghost use Rattle.client_script.specs.declared.command.WatchesCommand.TheVariants as watches_line;
+ghost use Rattle.client_session.specs.Waiting.{awaited_of};
 ghost use Rattle.client_session.specs.inner.ReplyOf.{reply_of};
 ghost use Rattle.client_session.specs.inner.SetsKept.{IsThere, PutsBack, RepliesOnce, RepliesWoken};
 ghost use Rattle.client_session.specs.inner.SetsKept.{awaited_in, look_reply, members_in};
@@ -21,6 +22,7 @@ use crate::named::Named;
 use crate::refusal::{question_rule, refused};
 use crate::reply::Reply;
 use crate::rule::Rule;
+use crate::waits_for::WaitsFor;
 use mdb_datum::Text;
 use mdb_schema::Query;
 use mem_txn::pass_laws::{moves_are_touches, trees_are_complete};
@@ -188,13 +190,13 @@ impl Watching {
             (reply_of pass.old.schema r)) }
         ensures looked { HasLookedOn pass.old pass.new }
     {
-        let Some((members, until)) = self.awaited(set, until) else {
+        let Some(waits) = self.awaited(set, until) else {
             return Ok(Reply::Refused(Rule::UnknownName));
         };
-        let woken = members.wait(rt, db, pass, until)?;
+        let woken = waits.set.wait(rt, db, pass, waits.until)?;
         moves_are_touches(pass);
         trees_are_complete(pass);
-        woken_reply(alloc, members, woken)
+        woken_reply(alloc, waits.set, woken)
     }
 
     /// The same, but for one look at each. It gives no reply where all are quiet.
@@ -214,25 +216,28 @@ impl Watching {
             (option_map (reply_of pass.old.schema) r)) }
         ensures looked { HasLookedOn pass.old pass.new }
     {
-        let Some((members, until)) = self.awaited(set, until) else {
+        let Some(waits) = self.awaited(set, until) else {
             return Ok(Some(Reply::Refused(Rule::UnknownName)));
         };
-        let woken = members.look_once(rt, db, pass, until)?;
+        let woken = waits.set.look_once(rt, db, pass, waits.until)?;
         moves_are_touches(pass);
         trees_are_complete(pass);
-        once_reply(alloc, members, woken)
+        once_reply(alloc, waits.set, woken)
     }
 
     /// The set of a name, and the watch that cancels a wait for it, if there is one; nothing where
     /// a name is unknown.
-    fn awaited(&self, set: &Text, until: Option<&Text>) -> Option<(&WatchSet, Option<&Held>)>
-        ensures { option_map (λ r. (r.0.now, option_copied r.1)) result
+    pub(crate) fn awaited(&self, set: &Text, until: Option<&Text>) -> Option<WaitsFor<'_>>
+        ensures { option_map awaited_of result
             ≡ awaited_in self.now set.now (option_copied until.entry) }
     {
-        let members = self.sets.get(set)?;
+        let set = self.sets.get(set)?;
         match until {
-            Some(name) => Some((members, Some(self.watches.get(name)?))),
-            None => Some((members, None)),
+            Some(name) => {
+                let until = Some(self.watches.get(name)?);
+                Some(WaitsFor { set, until })
+            }
+            None => Some(WaitsFor { set, until: None }),
         }
     }
 }

@@ -1,4 +1,5 @@
 pub mod AgesBounded
+pub mod AllAnswered
 pub mod AskedWords
 pub mod ClientItems
 pub mod CommandWords
@@ -13,12 +14,10 @@ pub mod MadeNames
 pub mod MadeRows
 pub mod MadeStep
 pub mod MakeWords
-pub mod ManySessions
 pub mod MoreScripts
 pub mod NameBytes
 pub mod NumberDigits
 pub mod OneCause
-pub mod PlacesByCaller
 pub mod PlainTexts
 pub mod PlainWords
 pub mod ReadSchema

@@ -12,12 +12,13 @@ use Rattle.client_script.specs.Reply.{Reply}
 use Rattle.client_script.specs.Session.{Session, Sessions}
 use Rattle.client_script.specs.Turn.{commit_limit}
 use Rattle.client_session.specs.Answered.{commit_at}
+use Rattle.client_session.specs.Clients.{TellOwn}
 use Rattle.mem_txn.specs.Database.{commits_by}
 use Rattle.memdb.proofs.MadeStep.{is_item, step_item}
 use Rattle.memdb.proofs.RoundsTold.{AreEverPut, IsEverPut, rounds_told}
 use Rattle.memdb.proofs.SmallHistory.{all_light, session_light, weights, weights_are, weigh, weigh_some}
 use Rattle.memdb.specs.Made.{Item, Numbers, drawn, item_of, items_behind, items_by}
-use Rattle.memdb.specs.inner.MadeHistory.{MadeAreKept, TellOwn}
+use Rattle.memdb.specs.inner.MadeHistory.{MadeAreKept}
 use Rattle.memdb.specs.inner.MadeInputs.{commit_of, made_schema, made_script, row_of, scripts_from}
 use Rattle.memdb.specs.inner.MadeItem.{IsItem, item_table}
 

@@ -1,13 +1,12 @@
 //! What clients are answered: the text of their sessions on one database.
-ghost use Rattle.std.specs.Prelude.{◌≡◌, ◌++◌, ◌≤◌, IfOk, OnOk, length};
+ghost use Rattle.std.specs.Prelude.{◌≡◌, ◌≤◌, IfOk, length};
 ghost use Rattle.client_script.specs.Legal.{Legal};
-ghost use Rattle.client_script.specs.Reply.{heading};
-ghost use Rattle.memdb.specs.inner.Sessions.{AreLater, AreReady, HaveAnswered, headed};
+ghost use Rattle.client_session.specs.Clients.{AreLater, AreReady, headed};
+ghost use Rattle.memdb.specs.inner.Sessions.{HaveAnswered};
 
-use crate::clients::Clients;
-use crate::output::{end_line, write_number};
+use crate::sessions::run_clients;
 use client_script::Scripts;
-use client_session::Session;
+use client_session::Clients;
 use mdb_datum::Text;
 use mdb_ports::Gate;
 use mdb_schema::Schema;
@@ -30,7 +29,7 @@ pub fn answers<R: Threads + Wait + Sync, G: Gate + Sync>(
     requires few { length names.now ≤ 64 }
     ensures { IfOk result (λ out. Legal schema names.now scripts out.items) }
 {
-    let mut clients = Clients::open(alloc, schema, scripts)?;
+    let mut clients = Clients::open(alloc, schema, scripts, 0)?;
     let out = answers_of(rt, alloc, gate, names, &mut clients);
     drop(clients.close(rt));
     out
@@ -54,42 +53,6 @@ fn answers_of<R: Threads + Wait + Sync, G: Gate + Sync>(
     ensures db { clients.new.db ≡ clients.old.db }
     ensures passes { clients.new.passes ≡ clients.old.passes }
 {
-    clients.run(rt, gate)?;
-    Ok(all_answers(alloc, names, clients.sessions())?)
-}
-
-/// The answers of all sessions, each under its heading.
-fn all_answers(alloc: Global, names: &[Text], sessions: &[Session]) -> Result<Vec<u8>, AllocError>
-    requires { length names.now ≡ length sessions.now }
-    ensures { IfOk result (λ out. out.items ≡ headed 1 names.now sessions.now) }
-{
-    let mut out = Vec::new(alloc);
-    for at in 0..sessions.len() {
-        write_answers(at as u64 + 1, &names[at], &sessions[at], &mut out)?;
-    }
-    Ok(out)
-}
-
-/// Adds a heading and the answers of the session under it.
-fn write_answers(
-    number: u64,
-    name: &Text,
-    session: &Session,
-    out: &mut Vec<u8>,
-) -> Result<(), AllocError>
-    ensures { OnOk result
-        (out.new.items ≡ out.old.items ++ (heading number name.now ++ session.now.text)) }
-{
-    write_heading(number, name, out)?;
-    out.extend_from_slice(session.answers())
-}
-
-/// Adds the line `client NUMBER NAME`.
-fn write_heading(number: u64, name: &Text, out: &mut Vec<u8>) -> Result<(), AllocError>
-    ensures { OnOk result (out.new.items ≡ out.old.items ++ heading number name.now) }
-{
-    out.extend_from_slice(b"client ")?;
-    write_number(number, out)?;
-    out.push(b' ')?;
-    end_line(name.as_str(), out)
+    run_clients(rt, gate, clients)?;
+    clients.answers(alloc, names)
 }

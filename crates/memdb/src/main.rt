@@ -11,7 +11,6 @@
 
 mod answers;
 mod causes;
-mod clients;
 mod made;
 mod outcome;
 mod output;

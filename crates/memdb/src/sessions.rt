@@ -1,42 +1,32 @@
-//! The sessions of all clients: their beginning, their run side by side, and their end.
-ghost use Rattle.std.specs.Prelude.{◌≡◌, ◌+◌, ◌++◌, ◌≤◌, ◌∷◌, [], IsErr, OnOk, length};
-ghost use Rattle.std.specs.Prelude.{vec_capacity};
+//! The sessions of all clients, side by side.
+ghost use Rattle.std.specs.Prelude.{◌≡◌, ◌≤◌, ◌∷◌, [], IsErr, OnOk, length};
 ghost use Rattle.std.specs.Thread.{IsSync};
-ghost use Rattle.mem_txn.specs.Database.{AreOf};
-ghost use Rattle.memdb.specs.inner.Sessions.{AreLater, AreReady, HaveAnswered, begun, callers_back};
+ghost use Rattle.client_session.specs.Clients.{AreLater, AreReady};
+ghost use Rattle.memdb.specs.inner.Sessions.{HaveAnswered};
 
-use client_script::Scripts;
-use client_session::Session;
+use client_session::{Clients, Session};
 use deep_thread::join_deep;
 use mdb_ports::Gate;
-use mem_txn::{Db, Passes};
-use std::alloc::{AllocError, Global};
+use mem_txn::Db;
+use std::alloc::AllocError;
 use std::sync::Wait;
 use std::thread::Threads;
 
-/// A session for each script, the first with the first pass, put into the room that there is.
-pub fn begin_all(
-    alloc: Global,
-    passes: &mut Passes,
-    scripts: Scripts,
-    room: Vec<Session>,
-) -> Vec<Session>
-    requires passes { length passes.old.passes ≡ length scripts }
-    requires empty { room.items ≡ [] }
-    requires room { length scripts ≤ vec_capacity room }
-    ensures sessions { result.items ≡ begun passes.old.passes scripts }
-    ensures passes { passes.new ≡ record passes.old { passes = [] } }
+/// Carries out the session of every client, each on a thread of its own but the last, which this one
+/// has.
+pub fn run_clients<R: Threads + Wait + Sync, G: Gate + Sync>(
+    rt: &R,
+    gate: &G,
+    clients: &mut Clients,
+) -> Result<(), AllocError>
+    requires ready { AreReady clients.old.db clients.old.sessions.items }
+    ensures answered { OnOk result
+        (HaveAnswered clients.old.sessions.items clients.new.sessions.items) }
+    ensures later { AreLater clients.old.sessions.items clients.new.sessions.items }
+    ensures db { clients.new.db ≡ clients.old.db }
+    ensures passes { clients.new.passes ≡ clients.old.passes }
 {
-    let mut scripts = scripts;
-    let mut sessions = room;
-    while let Some(script) = scripts.take() {
-        let Some(pass) = passes.take() else {
-            unreachable!();
-        };
-        let client = pass.number();
-        sessions.push_reserved(Session::new(alloc, client, script, pass));
-    }
-    sessions
+    run_all(rt, &clients.db, gate, clients.sessions.as_mut_slice())
 }
 
 /// The bytes of the stack of each thread that has trees in hand, whatever the host's own limit says.
@@ -44,9 +34,9 @@ pub fn begin_all(
 /// 1 MiB in the proved program, and several times as much where a program is run unproved.
 pub(crate) const STACK: usize = 8 * 1024 * 1024;
 
-/// Carries out every session, each on a thread of its own but the last, which this one has.
+/// Carries out sessions in the same way.
 #[cycle(run_all)]
-pub fn run_all<R: Threads + Wait + Sync, G: Gate + Sync>(
+fn run_all<R: Threads + Wait + Sync, G: Gate + Sync>(
     rt: &R,
     db: &Db,
     gate: &G,
@@ -89,7 +79,7 @@ fn run_one<R: Wait, G: Gate>(
 /// Carries out two lists of sessions side by side, the first on a new thread. Where that can't be had,
 /// which is want of memory, neither is begun, and the waits of all sessions are ended.
 #[cycle(run_all)]
-#[tactic(auto, using(crate::proofs::SideBySide::later_same))]
+#[tactic(auto, using(client_session::proofs::ClientLists::later_same))]
 fn run_both<R: Threads + Wait + Sync, G: Gate + Sync>(
     rt: &R,
     db: &Db,
@@ -135,19 +125,4 @@ fn without_thread(db: &Db) -> Result<(), AllocError>
 {
     db.end_waits();
     Err(AllocError)
-}
-
-/// Ends every session, and gives its pass back, the last first. It takes no memory.
-pub fn end_all(db: &Db, sessions: Vec<Session>, passes: &mut Passes)
-    requires own { AreOf db.now (callers_back sessions.items) }
-    requires room { length passes.old.passes + length sessions.items ≤ passes.old.made }
-    ensures { passes.new ≡ record passes.old {
-      passes = passes.old.passes ++ callers_back sessions.items;
-    } }
-{
-    let mut sessions = sessions;
-    while let Some(session) = sessions.pop() {
-        passes.give(session.end(db));
-    }
-    sessions.destroy_empty();
 }

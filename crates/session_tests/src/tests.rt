@@ -104,6 +104,13 @@ impl Solo {
         self.session.step(rt, &self.db)
     }
 
+    /// How many watches the set has that the next line waits for, and whether another watch cancels
+    /// the wait; nothing where it waits for none.
+    fn awaited(&self) -> Option<(usize, bool)> {
+        let waits = self.session.waits_for()?;
+        Some((waits.set.len(), waits.until.is_some()))
+    }
+
     /// Ends the session and closes its database, and gives the number of commits.
     fn close<R: Wait>(self, rt: &R) -> u64 {
         let Solo {

@@ -6,8 +6,8 @@ use Rattle.mem_txn.specs.Database.{AreNamed, View, view_after}
 use Rattle.client_script.specs.Reply.{Reply}
 use Rattle.client_script.specs.Session.{Sessions}
 use Rattle.client_script.specs.declared.line.Line.{Line}
+use Rattle.client_session.specs.Clients.{TellOwn}
 use Rattle.memdb.specs.Made.{AreInRange, Numbers}
-use Rattle.memdb.specs.inner.MadeHistory.{TellOwn}
 use Rattle.memdb.specs.inner.MadeInputs.{made_schema}
 use Rattle.memdb.specs.inner.MadeLeft.{AreLeft}
 

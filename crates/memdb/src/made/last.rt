@@ -2,8 +2,9 @@
 ghost use Rattle.std.specs.Prelude.{◌≤◌, IfOk, length};
 ghost use Rattle.memdb.specs.inner.LastState.{IsLast};
 
-use crate::clients::Clients;
+use crate::sessions::run_clients;
 use client_script::Scripts;
+use client_session::Clients;
 use mdb_ports::Gate;
 use mdb_schema::Schema;
 use mem_txn::ReadTxn;
@@ -23,8 +24,8 @@ pub(crate) fn last_state<R: Threads + Wait + Sync, G: Gate + Sync>(
     requires few { length scripts ≤ 64 }
     ensures { IfOk result (λ last. IsLast schema scripts last.view) }
 {
-    let mut clients = Clients::open(alloc, schema, scripts)?;
-    let done = clients.run(rt, gate);
+    let mut clients = Clients::open(alloc, schema, scripts, 0)?;
+    let done = run_clients(rt, gate, &mut clients);
     let last = clients.close(rt);
     match done {
         Ok(()) => Ok(last),

@@ -1,7 +1,8 @@
 //! Sessions that are carried out step by step.
 use super::{Case, Solo, Told, users};
 use client_session::Stepped;
-use std::alloc::Global;
+use mdb_ports::OpenGate;
+use std::alloc::{AllocError, Global};
 use std::sync::Wait;
 use std::test::Fail;
 
@@ -59,5 +60,70 @@ fn runs_the_rest<R: Wait>(rt: &R, alloc: Global) -> Told {
 #[test]
 fn a_run_carries_out_what_steps_have_left(rt: HostRuntime) -> Result<(), Fail> {
     assert!(rt; runs_the_rest(&rt, rt.alloc())?);
+    Ok(())
+}
+
+/// A session that waits at its seventh line for two watches, or till one of them cancels the wait.
+const WAITING: &str = "\
+read
+watch w get users id
+watch v get users age
+end
+add s w
+add s v
+wait s until w
+";
+
+/// Whether it waits for nothing before, and for these once a step was blocked there.
+fn tells_what_it_waits_for<R: Wait>(rt: &R, solo: &mut Solo) -> Told {
+    for line in 1..7 {
+        if solo.awaited().is_some() || solo.step(rt)? != (Stepped::Answered { line }) {
+            return Ok(false);
+        }
+    }
+    Ok(solo.step(rt)? == Stepped::Blocked { line: 7 } && solo.awaited() == Some((2, true)))
+}
+
+/// Whether a session tells what it waits for.
+fn waits_are_told<R: Wait>(rt: &R, alloc: Global) -> Told {
+    let mut solo = Solo::opened(alloc, WAITING)?;
+    let told = tells_what_it_waits_for(rt, &mut solo);
+    solo.close(rt);
+    told
+}
+
+/// Whether a wait within a write transaction, which is refused, waits for nothing.
+fn refused_wait_is_none<R: Wait>(rt: &R, alloc: Global) -> Told {
+    let mut solo = Solo::opened(alloc, "write\nwait s\n")?;
+    let begun = solo.step(rt);
+    let awaited = solo.awaited();
+    solo.close(rt);
+    Ok(begun? == Stepped::Answered { line: 1 } && awaited.is_none())
+}
+
+#[test]
+fn a_session_tells_what_it_waits_for(rt: HostRuntime) -> Result<(), Fail> {
+    assert!(rt; waits_are_told(&rt, rt.alloc())?);
+    assert!(rt; refused_wait_is_none(&rt, rt.alloc())?);
+    Ok(())
+}
+
+/// Three commits are asked for, and the last has no transaction.
+const TWO_COMMITS: &str = "write\ncommit\nwrite\nabort\nwrite\ncommit\ncommit\n";
+
+/// How many commits the answers to a script tell, where it is carried out.
+fn commits_told<R: Wait>(rt: &R, alloc: Global, script: &str) -> Result<u64, AllocError> {
+    let mut solo = Solo::opened(alloc, script)?;
+    let ran = solo.session.run(rt, &solo.db, &OpenGate);
+    let commits = solo.session.commits();
+    solo.close(rt);
+    ran?;
+    Ok(commits)
+}
+
+#[test]
+fn a_session_counts_the_commits_that_it_tells(rt: HostRuntime) -> Result<(), Fail> {
+    assert!(rt; commits_told(&rt, rt.alloc(), TWO_COMMITS)? == 2);
+    assert!(rt; commits_told(&rt, rt.alloc(), "read\n")? == 0);
     Ok(())
 }

@@ -3,13 +3,10 @@ use Rattle.mem_txn.specs.Database.{Caller}
 use Rattle.client_script.specs.declared.command.Command.TheVariants as command
 use Rattle.client_session.specs.inner.OpenView.{caller_of}
 use Rattle.client_session.proofs.ToldCounts.{rows_tell}
-use Rattle.client_session.proofs.DeskTurns.{looked_told, once_told, rows_told}
+use Rattle.client_session.proofs.DeskTurns.{once_told, rows_told}
 use Rattle.client_session.proofs.OpenTurns.{later_same, later_self, on_err}
 use Rattle.client_session.proofs.WatchTurns.{size_told}
 use Rattle.client_session.proofs.desk.Desk.turn.Goals as goal
-
-pub returns-in-Transaction-clause-turn : goal.returns-in-Transaction-clause-turn
-returns-in-Transaction-clause-turn g c = looked_told c.in-Transaction.command c.args.command.now c.args.self c.turn-open.result.0 _ _ c.turn-open.result.1 c.in-Transaction.is refl c.turn-open.ensures.turn
 
 pub returns-in-Write : goal.returns-in-Write
 returns-in-Write g c = record {

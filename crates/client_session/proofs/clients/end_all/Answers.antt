@@ -1,7 +1,7 @@
 use Rattle.std.proofs.Common.{◌∙◌, ◌++◌}
-use Rattle.memdb.specs.inner.Sessions.{callers_back}
-use Rattle.memdb.proofs.SideBySide.{made_same, one_back, own_last, room_left}
-use Rattle.memdb.proofs.sessions.end_all.Goals as goal
+use Rattle.client_session.specs.Clients.{callers_back}
+use Rattle.client_session.proofs.ClientLists.{made_same, one_back, own_last, room_left}
+use Rattle.client_session.proofs.clients.end_all.Goals as goal
 
 pub end-requires : goal.end-requires
 end-requires c = record {

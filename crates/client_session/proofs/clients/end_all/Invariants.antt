@@ -1,7 +1,7 @@
 use Rattle.std.proofs.Common.{◌≡◌, ◌+◌, ◌++◌, ◌≤◌, length}
 use Rattle.mem_txn.specs.Database.{AreOf}
-use Rattle.memdb.specs.inner.Sessions.{callers_back}
-use Rattle.memdb.proofs.sessions.end_all.Given as goal
+use Rattle.client_session.specs.Clients.{callers_back}
+use Rattle.client_session.proofs.clients.end_all.Given as goal
 
 -- the passes so far, and then those of the other sessions, are all
 abbrev pub invariant-loop-session : goal.invariant-loop-session
