@@ -243,9 +243,6 @@ fn set_of(alloc: Global, held: &Held) -> Result<WatchSet, AllocError>
 {
     let mut set = WatchSet::new(alloc);
     set.add(&Text::of(alloc, "mail")?, held)?;
-    if set.len() == 0 {
-        return Err(AllocError);
-    }
     Ok(set)
 }
 

@@ -192,9 +192,6 @@ pub(crate) fn set_of(alloc: Global, held: &Held) -> Result<WatchSet, AllocError>
 {
     let mut set = WatchSet::new(alloc);
     set.add(&Text::of(alloc, "a")?, held)?;
-    if set.len() == 0 {
-        return Err(AllocError);
-    }
     Ok(set)
 }
 
@@ -206,9 +203,6 @@ fn set_of_both(alloc: Global, first: &Held, second: &Held) -> Result<WatchSet, A
 {
     let mut set = set_of(alloc, first)?;
     set.add(&Text::of(alloc, "b")?, second)?;
-    if set.len() == 0 {
-        return Err(AllocError);
-    }
     Ok(set)
 }
 
