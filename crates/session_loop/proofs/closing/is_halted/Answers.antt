@@ -1,0 +1,5 @@
+use Rattle.session_loop.proofs.ClosingLook.{at_rest_ended}
+use Rattle.session_loop.proofs.closing.is_halted.Goals as goal
+
+pub returns-in-Ended-clause-rest : goal.returns-in-Ended-clause-rest
+returns-in-Ended-clause-rest c = λ quiet. at_rest_ended c.args.front.now c.args.session.now c.args.task.now.state c.in-Ended.is c.requires.stands

@@ -1,0 +1,5 @@
+pub mod Causes
+pub mod Outcome
+pub mod Polls
+pub mod Words
+pub mod inner

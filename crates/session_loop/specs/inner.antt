@@ -1,0 +1,6 @@
+pub mod Endings
+pub mod Halted
+pub mod PollParts
+pub mod Rest
+pub mod Tasks
+pub mod Turns
