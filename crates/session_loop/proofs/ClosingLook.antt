@@ -1,15 +1,16 @@
 -- The closing look, session by session and watch by watch.
 use Rattle.std.proofs.Common.{arith, ◌≡◌, ◌∙◌, refl, sym, ap, subst, ℕ, zero, suc, ◌+◌, ◌<◌, ◌++◌, Bool, true, false, List, [], ◌∷◌, drop, length, get_or, Option, Some, None}
-use Rattle.std.specs.Prelude.{not, option_map, slice_get}
+use Rattle.std.specs.Prelude.{if◌then◌else◌, not, option_map, slice_get}
+use Rattle.std.proofs.lemmas.Option.{slice_get_read}
 use Rattle.std.proofs.Math.Seq.{drop-length}
-use Rattle.std.proofs.lemmas.Bool.{not-true}
+use Rattle.std.proofs.lemmas.Bool.{not-false, not-true}
 use Rattle.client_script.specs.Client.{Watch}
 use Rattle.client_session.specs.Progress.{Progress}
 use Rattle.client_session.specs.Waiting.{AreWatchesOf, WaitsFor}
 use Rattle.mem_txn.specs.Database.{Caller, Database}
 use Rattle.mem_txn.specs.Held.{HeldWatch}
 use Rattle.run_io.proofs.ScriptsInOrder.{drop_next}
-use Rattle.watch_future.specs.Cells.{AreOfBook, cell_of, cells_of}
+use Rattle.watch_future.specs.Cells.{AreOfBook, cell_of, cells_of, has_any}
 use Rattle.watch_set.specs.Checks.{with_until}
 use Rattle.watch_set.specs.Members.{Member, watches_of}
 use Rattle.watch_word.proofs.Keys.{has_none}
@@ -17,6 +18,7 @@ use Rattle.watch_word.specs.Logs.{Cell, IsLater, Log, has_fired}
 use Rattle.session_loop.specs.declared.task.State.{State}
 use Rattle.session_loop.specs.declared.task.State.TheVariants as state
 use Rattle.session_loop.specs.declared.task.Task.{Task}
+use Rattle.session_loop.specs.inner.Awake.{CanGoOn, HasOneFired, OneCanGoOn}
 use Rattle.session_loop.specs.inner.Halted.{HasHalted, HaveHalted}
 use Rattle.session_loop.specs.inner.Rest.{AreAtRest, IsAtRest, NoneFired, done}
 use Rattle.session_loop.specs.inner.Tasks.{AreInLoop, IsDone, StandsAt, states_of}
@@ -49,6 +51,63 @@ pub not_there : (ms : List Member) (k : ℕ) → k < length ms → None ≡ opti
 not_there [] k within is = absurd (omega arith)
 not_there (m ∷ ms) zero within is = absurd (cc is)
 not_there (m ∷ ms) (suc k) within is = not_there ms k (omega arith) is
+
+-- ---- what has fired since
+
+any_first : (c : Cell) (cs : List Cell) (log : Log) → has_fired c log ≡ true → has_any (c ∷ cs) log ≡ true
+any_first c cs log is = ap (λ (b : Bool). if b then true else has_any cs log) is
+
+any_next : (c : Cell) (cs : List Cell) (log : Log) → has_any cs log ≡ true → has_any (c ∷ cs) log ≡ true
+any_next c cs log is = by_first (has_fired c log)
+  where
+    by_first : (b : Bool) → (if b then true else has_any cs log) ≡ true
+    by_first true = refl
+    by_first false = is
+
+only_one : (c : Cell) (log : Log) → has_any (c ∷ []) log ≡ true → has_fired c log ≡ true
+only_one c log is = by_first (has_fired c log) is
+  where
+    by_first : (b : Bool) → (if b then true else false) ≡ true → b ≡ true
+    by_first true e = refl
+    by_first false e = e
+
+any_member : (ms : List Member) (k : ℕ) (h : HeldWatch) (log : Log) → Some h ≡ option_map (λ (m : Member). m.held) (slice_get ms k) → has_fired (cell_of h) log ≡ true → has_any (cells_of (watches_of ms)) log ≡ true
+any_member [] k h log is fired = absurd (cc is)
+any_member (m ∷ ms) zero h log is fired =
+    let same : h ≡ m.held = cc in
+    any_first (cell_of m.held) (cells_of (watches_of ms)) log (ap (λ (x : HeldWatch). has_fired (cell_of x) log) (sym same) ∙ fired)
+any_member (m ∷ ms) (suc k) h log is fired = any_next (cell_of m.held) (cells_of (watches_of ms)) log (any_member ms k h log is fired)
+
+any-before : (hs : List HeldWatch) (h : HeldWatch) (log : Log) → has_any (cells_of hs) log ≡ true → has_any (cells_of (hs ++ h ∷ [])) log ≡ true
+any-before [] h log is = absurd (cc is)
+any-before (x ∷ xs) h log is = by_first (has_fired (cell_of x) log) is (any-before xs h log)
+  where
+    by_first : (b : Bool) → (if b then true else has_any (cells_of xs) log) ≡ true → (has_any (cells_of xs) log ≡ true → has_any (cells_of (xs ++ h ∷ [])) log ≡ true) → (if b then true else has_any (cells_of (xs ++ h ∷ [])) log) ≡ true
+    by_first true e rest = refl
+    by_first false e rest = rest e
+
+any-last : (hs : List HeldWatch) (h : HeldWatch) (log : Log) → has_any (cells_of (h ∷ [])) log ≡ true → has_any (cells_of (hs ++ h ∷ [])) log ≡ true
+any-last [] h log is = is
+any-last (x ∷ xs) h log is = any_next (cell_of x) (cells_of (xs ++ h ∷ [])) log (any-last xs h log is)
+
+pub fired_since : (h : HeldWatch) (w : Cell) (old new : Log) (fired : Bool) → w ≡ cell_of h → IsLater old new → fired ≡ has_fired w new → not fired ≡ false → HasOneFired old (h ∷ [])
+fired_since h w old new fired same later told moved = record {
+  now = new;
+  later = later;
+  fired = any_first (cell_of h) [] new (ap (λ (x : Cell). has_fired x new) (sym same) ∙ sym told ∙ not-false fired moved);
+}
+
+pub member_fired : (log : Log) (ms : List Member) (k : ℕ) (h : HeldWatch) → Some h ≡ option_map (λ (m : Member). m.held) (slice_get ms k) → HasOneFired log (h ∷ []) → HasOneFired log (watches_of ms)
+member_fired log ms k h is one = record { now = one.now; later = one.later; fired = any_member ms k h one.now is (only_one (cell_of h) one.now one.fired) }
+
+pub set_fired : (log : Log) (hs : List HeldWatch) (until : Option HeldWatch) → HasOneFired log hs → HasOneFired log (with_until hs until)
+set_fired log hs None one = one
+set_fired log hs (Some h) one = record { now = one.now; later = one.later; fired = any-before hs h one.now one.fired }
+
+pub until_fired : (log : Log) (hs : List HeldWatch) (until : Option HeldWatch) (h : HeldWatch) → until ≡ Some h → HasOneFired log (h ∷ []) → HasOneFired log (with_until hs until)
+until_fired log hs until h is one =
+    subst (λ (u : Option HeldWatch). HasOneFired log (with_until hs u)) (sym is)
+    (record { now = one.now; later = one.later; fired = any-last hs h one.now one.fired })
 
 -- ---- whose cells they are
 
@@ -129,6 +188,16 @@ module _ (log : Log) (ss : List Progress) (ts : List Task) (k : ℕ) (so : HaltS
 
     pub this_stands : StandsAt s t.state
     this_stands = both.0.stands
+
+    pub one_goes_on : CanGoOn log s t.state → OneCanGoOn log ss ts
+    one_goes_on goes = record {
+      at = k;
+      session = s;
+      task = t;
+      session_there = slice_get_read ss (length ss) k s refl within there;
+      task_there = slice_get_read ts (length ts) k t refl task_within at;
+      goes_on = goes;
+    }
 
     pub halt_next : IsAtRest log s → HasHalted t.state → HaltSoFar log ss ts (k + 1)
     halt_next rests stops = record {

@@ -1,3 +1,4 @@
+pub mod Awake
 pub mod Endings
 pub mod Halted
 pub mod PollParts

@@ -1,8 +1,12 @@
 //! The closing look: whether no client can go on.
-ghost use Rattle.std.specs.Prelude.{◌≡◌, ◌<◌, IfOk, IfSome, IsTrue, Some, false, length};
+ghost use Rattle.std.specs.Prelude.{◌≡◌, ◌<◌, ◌≤◌, ◌^◌, ◌∷◌, [], IfOk, IfSome, IsFalse, IsNone};
+ghost use Rattle.std.specs.Prelude.{IsTrue, Some, false};
+ghost use Rattle.std.specs.Prelude.{length};
 ghost use Rattle.std.specs.Prelude.{option_copied, slice_get};
 ghost use Rattle.mem_txn.specs.Database.{Database, IsOf};
 ghost use Rattle.mem_txn.specs.Transactions.{changes_of};
+ghost use Rattle.session_loop.specs.inner.Awake.{CanGoOn, FindsOneAwake, HasOneFired, IsAwake};
+ghost use Rattle.session_loop.specs.inner.Awake.{OneCanGoOn};
 ghost use Rattle.session_loop.specs.inner.Endings.{IsIdle};
 ghost use Rattle.session_loop.specs.inner.Halted.{HasHalted, HaveHalted};
 ghost use Rattle.session_loop.specs.inner.Rest.{AreAtRest, FindsRest, IsAtRest, NoneFired};
@@ -66,6 +70,8 @@ fn are_halted_within(txn: &WriteTxn<()>, sessions: &[Session], tasks: &[Task]) -
         × AreInLoop db sessions.now tasks.now }
     ensures rest { IsTrue result → FindsRest (changes_of txn.now).caller sessions.now }
     ensures halted { IsTrue result → HaveHalted (states_of tasks.now) }
+    ensures goes_on { IsFalse result
+        → FindsOneAwake (changes_of txn.now).caller sessions.now tasks.now }
 {
     match commits_told(sessions) {
         Some(count) => count == txn.number() && are_halted(&txn.front(), sessions, tasks),
@@ -76,7 +82,8 @@ fn are_halted_within(txn: &WriteTxn<()>, sessions: &[Session], tasks: &[Task]) -
 /// How many commits the sessions have told together; nothing where these are more than a `u64` can
 /// count.
 fn commits_told(sessions: &[Session]) -> Option<u64>
-    ensures { IfSome result (λ count. count ≡ commits_told sessions.now) }
+    ensures told { IfSome result (λ count. count ≡ commits_told sessions.now) }
+    ensures many { IsNone result → 2 ^ 64 ≤ commits_told sessions.now }
 {
     let mut sum: u64 = 0;
     for session in sessions {
@@ -91,6 +98,7 @@ fn are_halted(front: &Front, sessions: &[Session], tasks: &[Task]) -> bool
         × AreInLoop db sessions.now tasks.now }
     ensures rest { IsTrue result → AreAtRest front.now sessions.now }
     ensures halted { IsTrue result → HaveHalted (states_of tasks.now) }
+    ensures goes_on { IsFalse result → OneCanGoOn front.now sessions.now tasks.now }
 {
     for (at, session) in sessions.iter().enumerate() {
         if !is_halted(front, session, &tasks[at]) {
@@ -106,6 +114,7 @@ fn is_halted(front: &Front, session: &Session, task: &Task) -> bool
     requires stands { StandsAt session.now task.now.state }
     ensures rest { IsTrue result → IsAtRest front.now session.now }
     ensures halted { IsTrue result → HasHalted task.now.state }
+    ensures goes_on { IsFalse result → CanGoOn front.now session.now task.now.state }
 {
     match task.state {
         State::Ended => true,
@@ -117,7 +126,8 @@ fn is_halted(front: &Front, session: &Session, task: &Task) -> bool
 /// Whether a session waits for watches of which none has fired.
 fn waits_in_vain(front: &Front, session: &Session) -> bool
     requires { session.now.caller.book ≡ front.now.book }
-    ensures { IsTrue result → IsAtRest front.now session.now }
+    ensures rest { IsTrue result → IsAtRest front.now session.now }
+    ensures awake { IsFalse result → IsAwake front.now session.now }
 {
     match session.waits_for() {
         Some(waits) => all_quiet(front, waits.set, waits.until),
@@ -129,8 +139,10 @@ fn waits_in_vain(front: &Front, session: &Session) -> bool
 fn all_quiet(front: &Front, set: &WatchSet, until: Option<&Held>) -> bool
     requires { let hs = with_until (watches_of set.now) (option_copied until) in
         AreOfBook front.now.book (cells_of hs) }
-    ensures { let hs = with_until (watches_of set.now) (option_copied until.entry) in
+    ensures quiet { let hs = with_until (watches_of set.now) (option_copied until.entry) in
         IsTrue result → NoneFired front.now hs }
+    ensures moved { let hs = with_until (watches_of set.now) (option_copied until.entry) in
+        IsFalse result → HasOneFired front.now hs }
 {
     if !are_quiet(front, set) {
         return false;
@@ -144,7 +156,8 @@ fn all_quiet(front: &Front, set: &WatchSet, until: Option<&Held>) -> bool
 /// Whether no watch of a set has fired.
 fn are_quiet(front: &Front, set: &WatchSet) -> bool
     requires { AreOfBook front.now.book (cells_of (watches_of set.now)) }
-    ensures { IsTrue result → NoneFired front.now (watches_of set.now) }
+    ensures quiet { IsTrue result → NoneFired front.now (watches_of set.now) }
+    ensures moved { IsFalse result → HasOneFired front.now (watches_of set.now) }
 {
     for place in 0..set.len() {
         if !is_quiet_at(front, set, place) {
@@ -158,8 +171,9 @@ fn are_quiet(front: &Front, set: &WatchSet) -> bool
 fn is_quiet_at(front: &Front, set: &WatchSet, place: usize) -> bool
     requires place { place < length set.now }
     requires book { AreOfBook front.now.book (cells_of (watches_of set.now)) }
-    ensures { IsTrue result → (m : Member) → slice_get set.now place ≡ Some m
+    ensures quiet { IsTrue result → (m : Member) → slice_get set.now place ≡ Some m
         → has_fired (cell_of m.held) front.now ≡ false }
+    ensures moved { IsFalse result → HasOneFired front.now (watches_of set.now) }
 {
     match set.held(place) {
         Some(held) => is_quiet(front, held),
@@ -170,7 +184,8 @@ fn is_quiet_at(front: &Front, set: &WatchSet, place: usize) -> bool
 /// Whether a watch hasn't fired.
 fn is_quiet(front: &Front, held: &Held) -> bool
     requires { (cell_of held.now).book ≡ front.now.book }
-    ensures { IsTrue result → has_fired (cell_of held.now) front.now ≡ false }
+    ensures quiet { IsTrue result → has_fired (cell_of held.now) front.now ≡ false }
+    ensures moved { IsFalse result → HasOneFired front.now (held.now ∷ []) }
 {
     !held.watch().moved(front).fired
 }

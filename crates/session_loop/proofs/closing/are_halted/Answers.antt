@@ -1,5 +1,5 @@
 use Rattle.std.proofs.Common.{rules, arith, ◌≡◌, length}
-use Rattle.session_loop.proofs.ClosingLook.{halt_first, halt_next, halted_end, rest_end, task_within, this_book, this_stands}
+use Rattle.session_loop.proofs.ClosingLook.{halt_first, halt_next, halted_end, one_goes_on, rest_end, task_within, this_book, this_stands}
 use Rattle.session_loop.proofs.closing.are_halted.Goals as goal
 
 pub loop-at-init : goal.loop-at-init
@@ -18,6 +18,11 @@ pub is_halted-requires-clause-stands : goal.is_halted-requires-clause-stands
 is_halted-requires-clause-stands c =
     this_stands c.args.front.now c.args.sessions.now c.args.tasks.now c.loop-at.at c.loop-at.invariant c.index-sessions-at.result c.loop-at-test.true c.index-sessions-at.is
     c.index-tasks-at.result c.index-tasks-at.is
+
+pub returns-then-not-is_halted-clause-goes_on : goal.returns-then-not-is_halted-clause-goes_on
+returns-then-not-is_halted-clause-goes_on c =
+    λ none. one_goes_on c.args.front.now c.args.sessions.now c.args.tasks.now c.loop-at.at c.loop-at.invariant c.index-sessions-at.result c.loop-at-test.true c.index-sessions-at.is
+    c.index-tasks-at.result c.index-tasks-at.is (c.is_halted.ensures.goes_on c.if-not-is_halted.true)
 
 pub loop-at-preserved : goal.loop-at-preserved
 loop-at-preserved c =
