@@ -14,7 +14,7 @@ use Rattle.client_script.specs.Session.{IsAnswered, IsEntry, Runs}
 use Rattle.client_script.specs.Turn.{outcome}
 use Rattle.client_script.specs.declared.command.Command.{Command}
 use Rattle.client_script.specs.declared.line.Line.{Line}
-use Rattle.client_script.specs.inner.Within.{IsWithin}
+use Rattle.client_script.specs.Within.{IsWithin}
 use Rattle.client_script.proofs.EachTurn.{turn_answers}
 use Rattle.client_script.proofs.LongerHistory.{no_entry, next_within, turn_longer, start_within}
 use Rattle.client_script.proofs.OneClient.{IsOn, StandsOn, TellsCommit, Keeps, same, commits, keeps, within_up}

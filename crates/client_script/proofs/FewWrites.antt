@@ -23,7 +23,7 @@ use Rattle.client_script.specs.Spent.{IsWriteTold, by_turn, without_ids}
 use Rattle.client_script.specs.Turn.{Turn, write_turn, outcome, commit_limit}
 use Rattle.client_script.specs.declared.command.WriteCommand.{WriteCommand}
 use Rattle.client_script.specs.declared.line.Line.{Line}
-use Rattle.client_script.specs.inner.Within.{IsWithin}
+use Rattle.client_script.specs.Within.{IsWithin}
 use Rattle.client_script.proofs.LongerHistory.{next_within, start_within}
 use Rattle.client_script.proofs.OneClient.{AreTurns, IsOn, Keeps, same, commits, keeps, StandsOn, Prints, TellsCommit, told_here, later, later_commit, next_commit, within_history, within_up, told_each, as_many, printed_few, one_session, self_le, requested}
 use Rattle.client_script.proofs.EachTurn.{EachOutcome, turn_so}

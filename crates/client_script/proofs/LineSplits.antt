@@ -10,8 +10,13 @@ use Rattle.mdb_schema.specs.Tests.{◌>>=◌}
 use Rattle.client_script.specs.Lines.{first_from, lines_of}
 use Rattle.client_script.specs.Refusal.{ScriptRefusal}
 use Rattle.client_script.specs.Script.{line_in, lines_in}
-use Rattle.client_script.specs.inner.FirstLine.{first_line, is_ended, put_before}
+use Rattle.client_script.specs.inner.FirstLine.{first_line, is_ended}
 use Rattle.client_script.specs.declared.line.Line.{Line}
+
+-- lines that were read, and then what the others read as
+abbrev pub put_before : List Line → Result (List Line) ScriptRefusal → Result (List Line) ScriptRefusal
+put_before done (Ok lines) = Ok (done ++ lines)
+put_before done (Err why) = Err why
 
 abbrev is_feed : ℕ → Bool
 is_feed b = b == 10

@@ -16,13 +16,13 @@ use Rattle.mdb_schema.specs.Tests.{◌>>=◌, needed, passed}
 use Rattle.mdb_schema.specs.Write.{Write, put, remove}
 use Rattle.mdb_schema.specs.Wipe.{wipe, wipe_by_prefix}
 use Rattle.client_script.specs.Client.{Sight, Watching, watch_named, Writing, Transaction, closed, reading, writing, Snapshot, Client, at_start, state_seen, snapshot_named, some_open, Judged}
-use Rattle.client_script.specs.Reply.{Reply, read_at, write_at, ended, committed, aborted, inserted, replaced, deleted, wiped, deferred, answered, kept_at, kept_within, quiet_at, fired_at, sized, woken_by, stopped_at, refused}
+use Rattle.client_script.specs.Reply.{Reply, read_at, write_at, ended, committed, aborted, inserted, replaced, deleted, wiped, deferred, answered, snapshot_at, snapshot_within, quiet_at, fired_at, sized, woken_by, stopped_at, refused}
 use Rattle.client_script.specs.Alone.{Request, to_transact, to_write, to_defer, to_ask, to_name, to_size, turn}
 use Rattle.client_script.specs.Turn.{Turn, insert_reply, asked_watched, step_turn, wipe_turn, question_turn, transaction_turn, write_turn, watch_turn, with_watch, outcome, snapshot_called}
 use Rattle.client_script.specs.Legal.{number_printed}
 use Rattle.client_script.specs.Session.{IsCommit, IsEntry, IsAnswered, Answers, Runs, Session}
 use Rattle.client_script.specs.Spent.{IsSpent, by_turn, without_ids}
-use Rattle.client_script.specs.inner.Within.{AllWithin, IsWithin, StandsWithin}
+use Rattle.client_script.specs.Within.{AllWithin, IsWithin, StandsWithin}
 use Rattle.client_script.proofs.EachTurn.{EachOutcome, turn_so, told_so}
 use Rattle.client_script.proofs.WatchLines.{IsAside, aside, watch_line_longer}
 use Rattle.client_script.specs.declared.command.AskCommand.TheVariants as ask_line
@@ -186,8 +186,8 @@ entry_longer H more client t deleted entry = tt
 entry_longer H more client t (wiped k) entry = tt
 entry_longer H more client t deferred entry = tt
 entry_longer H more client t (answered a) entry = tt
-entry_longer H more client t (kept_at n) entry = tt
-entry_longer H more client t (kept_within n) entry = tt
+entry_longer H more client t (snapshot_at n) entry = tt
+entry_longer H more client t (snapshot_within n) entry = tt
 entry_longer H more client t (quiet_at n) entry = tt
 entry_longer H more client t (fired_at n) entry = tt
 entry_longer H more client t (sized k) entry = tt
@@ -208,8 +208,8 @@ no_entry H client t deleted none = tt
 no_entry H client t (wiped k) none = tt
 no_entry H client t deferred none = tt
 no_entry H client t (answered a) none = tt
-no_entry H client t (kept_at n) none = tt
-no_entry H client t (kept_within n) none = tt
+no_entry H client t (snapshot_at n) none = tt
+no_entry H client t (snapshot_within n) none = tt
 no_entry H client t (quiet_at n) none = tt
 no_entry H client t (fired_at n) none = tt
 no_entry H client t (sized k) none = tt

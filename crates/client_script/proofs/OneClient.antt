@@ -1,6 +1,6 @@
 -- A client that is alone in its database has one legal output in which no line is told that there
 -- are too few ids.
-use Rattle.std.proofs.Common.{arith, lit≤, ◌≡◌, refl, ap, subst, sym, ◌∙◌, ℕ, suc, ◌+◌, ◌<◌, ◌≤◌, ◌⊎◌, inl, inr, List, [], ◌∷◌, ◌++◌, length, map, Option, Some, None, Ok, Err, slice_get, take, drop, Contains, IsPermutation}
+use Rattle.std.proofs.Common.{arith, lit≤, ◌≡◌, ◌≢◌, refl, ap, subst, sym, ◌∙◌, ℕ, suc, ◌+◌, ◌<◌, ◌≤◌, ◌⊎◌, inl, inr, List, [], ◌∷◌, ◌++◌, length, map, Option, Some, None, Ok, Err, slice_get, take, drop, Contains, IsPermutation}
 use Rattle.std.specs.Bool.{⊤}
 use Rattle.std.specs.List.{enumerate_from}
 use Rattle.std.specs.Prelude.{reverse}
@@ -19,9 +19,9 @@ use Rattle.mdb_schema.specs.Tests.{◌>>=◌}
 use Rattle.client_script.specs.Alone.{Request, to_transact, to_write, to_defer, to_ask, to_name, to_size, as_command, AreRequests, turn, alone, then_told, joined, commit_printed}
 use Rattle.client_script.specs.Client.{Sight, Writing, Transaction, closed, reading, writing, Snapshot, Client, at_start, state_seen, none_open, no_write_open, sight_of, Judged}
 use Rattle.client_script.specs.Legal.{Legal, printed, number_printed, all_printed, callers}
-use Rattle.client_script.specs.Reply.{Changed, Reply, read_at, write_at, ended, committed, aborted, inserted, replaced, deleted, wiped, deferred, answered, kept_at, kept_within, quiet_at, fired_at, sized, woken_by, stopped_at, refused, output_text}
+use Rattle.client_script.specs.Reply.{Changed, Reply, read_at, write_at, ended, committed, aborted, inserted, replaced, deleted, wiped, deferred, answered, snapshot_at, snapshot_within, quiet_at, fired_at, sized, woken_by, stopped_at, refused, output_text}
 use Rattle.client_script.specs.Session.{IsEntry, IsAnswered, Answers, Runs, Session, Sessions}
-use Rattle.client_script.specs.Spent.{HaveIds, AllHaveIds}
+use Rattle.client_script.specs.Spent.{ids_spent}
 use Rattle.client_script.proofs.CommitChanges.{entry_taken}
 use Rattle.client_script.proofs.EachTurn.{EachOutcome, turn_so, told_so, turn_told}
 use Rattle.client_script.proofs.WatchLines.{IsAside, aside, prints_none}
@@ -29,7 +29,7 @@ use Rattle.client_script.specs.Turn.{Turn, outcome, insert_reply, snapshot_reply
 use Rattle.client_script.specs.declared.command.Command.{Command}
 use Rattle.client_script.specs.declared.command.TransactionCommand.TheVariants as transaction_line
 use Rattle.client_script.specs.declared.line.Line.{Line}
-use Rattle.client_script.specs.inner.Within.{AllWithin, IsWithin, StandsWithin}
+use Rattle.client_script.specs.Within.{AllWithin, IsWithin, StandsWithin}
 use Rattle.client_script.proofs.LongerHistory.{next_within, turn_longer, start_within}
 
 -- ---- the open transaction stands on the last number that was told
@@ -196,16 +196,16 @@ all_rise schema H client v (l ∷ ls) (r ∷ rs) end (next, a, runs) from =
 
 -- ---- a line gives the same at any number, or tells the number
 
-Tells : (now : ℕ) → Reply × Client → Reply × Client → Type 0
-Tells now p q = (p ≡ q) ⊎ ((p.1.last ≡ now) × (number_printed p.0 ≡ []))
+TellsSame : (now : ℕ) → Reply × Client → Reply × Client → Type 0
+TellsSame now p q = (p ≡ q) ⊎ ((p.1.last ≡ now) × (number_printed p.0 ≡ []))
 
-tells_then : {A : Type 0} (now : ℕ) (v : Client) (j : Judged A) (f g : A → Turn) → ((a : A) → Tells now (outcome v (f a)) (outcome v (g a))) → Tells now (outcome v (j >>= f)) (outcome v (j >>= g))
-unfolding Tells
+tells_then : {A : Type 0} (now : ℕ) (v : Client) (j : Judged A) (f g : A → Turn) → ((a : A) → TellsSame now (outcome v (f a)) (outcome v (g a))) → TellsSame now (outcome v (j >>= f)) (outcome v (j >>= g))
+unfolding TellsSame
 tells_then now v (Ok a) f g each = each a
 tells_then now v (Err rule) f g each = inl refl
 
-tells : (schema : DbSchema) (H : History) (k now : ℕ) (v : Client) (q : Request) → k < commit_limit → now < commit_limit → Tells now (outcome v (turn schema H now v q)) (outcome v (turn schema H k v q))
-unfolding Tells
+tells : (schema : DbSchema) (H : History) (k now : ℕ) (v : Client) (q : Request) → k < commit_limit → now < commit_limit → TellsSame now (outcome v (turn schema H now v q)) (outcome v (turn schema H k v q))
+unfolding TellsSame
 tells schema H k now v (to_transact transaction_line.Read) few few' = tells_then now v (none_open v.transaction) _ _ (λ u. inr (refl, refl))
 tells schema H k now v (to_transact transaction_line.Write) few few' = rw (lt-ltb k commit_limit few, lt-ltb now commit_limit few') (tells_then now v (none_open v.transaction) _ _ (λ u. inr (refl, refl)))
 tells schema H k now v (to_transact transaction_line.End) few few' = inl refl
@@ -229,6 +229,16 @@ AreTurns schema H client v (l ∷ ls) (q ∷ qs) (r ∷ rs) end (next, a, runs) 
 -- a line with the command of a request is answered as that request
 pub requested : (schema : DbSchema) (H : History) (client now : ℕ) (v : Client) (c : Command) (q : Request) (r : Reply) (next : Client) → c ≡ as_command q → IsAnswered schema H client now v c r next → IsAnswered schema H client now v (as_command q) r next
 requested schema H client now v c q r next is told = subst (λ (x : Command). IsAnswered schema H client now v x r next) is told
+
+-- no line is told that there are too few ids
+abbrev pub HaveIds : List Reply → Type 0
+HaveIds [] = ⊤
+HaveIds (r ∷ rs) = (r ≢ ids_spent) × HaveIds rs
+
+-- the same of all clients
+abbrev pub AllHaveIds : List (List Reply) → Type 0
+AllHaveIds [] = ⊤
+AllHaveIds (rs ∷ rss) = HaveIds rs × AllHaveIds rss
 
 -- where none is told that there are too few ids
 with_ids : (schema : DbSchema) (H : History) (client : ℕ) (v : Client) (ls : List Line) (qs : List Request) (rs : List Reply) (end : Client) (runs : Runs schema H client v ls rs end) → AreRequests ls qs → HaveIds rs → AreTurns schema H client v ls qs rs end runs
@@ -262,7 +272,7 @@ turn_here schema H k v q there within =
 
 -- so it is the line's turn at number k that was told
 pub told_here : (schema : DbSchema) (H : History) (k : ℕ) (v next : Client) (l : Line) (ls : List Line) (q : Request) (r : Reply) (rs : List Reply) (end : Client) → (a : Answers schema H 1 v l.command r next) → outcome v (turn schema H a.now v q) ≡ (r, next) → Runs schema H 1 next ls rs end → IsOn k v → length H < commit_limit → Prints k (length H) (number_printed r ++ printed rs) → outcome v (turn schema H k v q) ≡ (r, next)
-unfolding Tells
+unfolding TellsSame
 told_here schema H k v next l ls q r rs end a says runs on few prints = elim (cases_lt k a.now) [
   | inl lt ↦ elim (tells schema H k a.now v q (let there = a.there in omega arith) (let there = a.there in omega arith)) [
     | inl e ↦ sym e ∙ says
@@ -383,8 +393,8 @@ number_few deleted = lit≤ tt
 number_few (wiped k) = lit≤ tt
 number_few deferred = lit≤ tt
 number_few (answered a) = lit≤ tt
-number_few (kept_at n) = lit≤ tt
-number_few (kept_within n) = lit≤ tt
+number_few (snapshot_at n) = lit≤ tt
+number_few (snapshot_within n) = lit≤ tt
 number_few (quiet_at n) = lit≤ tt
 number_few (fired_at n) = lit≤ tt
 number_few (sized k) = lit≤ tt

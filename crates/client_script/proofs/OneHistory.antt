@@ -13,13 +13,13 @@ use Rattle.mdb_schema.specs.State.{State}
 use Rattle.mdb_schema.specs.History.{Commit, History, state_at}
 use Rattle.mdb_schema.specs.Schema.{DbSchema}
 use Rattle.mdb_schema.specs.Tests.{◌>>=◌, passed}
-use Rattle.client_script.specs.inner.Within.{IsWithin}
+use Rattle.client_script.specs.Within.{IsWithin}
 use Rattle.client_script.proofs.LongerHistory.{aside_within, each_within, turn_longer, start_within}
 use Rattle.client_script.proofs.CommitChanges.{seen_after}
 use Rattle.client_script.proofs.OneClient.{TellsCommit, insert_prints, snapshot_prints, StandsFrom, all_rise, above_each, answered_rises, Rises, numbered, self_le}
 use Rattle.client_script.specs.Client.{Writing, Transaction, reading, writing, Client, at_start, state_seen, none_open, sight_of, Judged}
 use Rattle.client_script.specs.Legal.{Legal, printed, number_printed, all_printed, callers}
-use Rattle.client_script.specs.Reply.{Changed, Reply, read_at, write_at, ended, committed, aborted, inserted, replaced, deleted, wiped, deferred, answered, kept_at, kept_within, quiet_at, fired_at, sized, woken_by, stopped_at, refused}
+use Rattle.client_script.specs.Reply.{Changed, Reply, read_at, write_at, ended, committed, aborted, inserted, replaced, deleted, wiped, deferred, answered, snapshot_at, snapshot_within, quiet_at, fired_at, sized, woken_by, stopped_at, refused}
 use Rattle.client_script.specs.Alone.{Request, to_transact, to_write, to_defer, to_ask, to_name, to_size, turn}
 use Rattle.client_script.specs.Session.{IsCommit, IsEntry, IsAnswered, Answers, Runs, Sessions}
 use Rattle.client_script.specs.Spent.{IsWriteTold, by_turn, without_ids}
@@ -95,10 +95,10 @@ each_within_told k schema H now v within =
 
 -- ---- an entry is told with its writes
 
-only_one : (n m : ℕ) → Contains (n ∷ []) m → n ≡ m
+pub only_one : (n m : ℕ) → Contains (n ∷ []) m → n ≡ m
 only_one n m within = elim (Contains-cons_cases n [] m within) [ inl e ↦ e | inr later ↦ absurd (Contains-nil m later) ]
 
-number_told : (r : Reply) (m : ℕ) → Contains (number_printed r) m → TellsCommit m r
+pub number_told : (r : Reply) (m : ℕ) → Contains (number_printed r) m → TellsCommit m r
 number_told (committed n changed texts) m within = record { changed = changed; texts = texts; is = ap (λ (x : ℕ). committed x changed texts) (only_one n m within) }
 number_told (read_at n) m within = absurd (Contains-nil m within)
 number_told (write_at n) m within = absurd (Contains-nil m within)
@@ -110,8 +110,8 @@ number_told deleted m within = absurd (Contains-nil m within)
 number_told (wiped k) m within = absurd (Contains-nil m within)
 number_told deferred m within = absurd (Contains-nil m within)
 number_told (answered a) m within = absurd (Contains-nil m within)
-number_told (kept_at n) m within = absurd (Contains-nil m within)
-number_told (kept_within n) m within = absurd (Contains-nil m within)
+number_told (snapshot_at n) m within = absurd (Contains-nil m within)
+number_told (snapshot_within n) m within = absurd (Contains-nil m within)
 number_told (quiet_at n) m within = absurd (Contains-nil m within)
 number_told (fired_at n) m within = absurd (Contains-nil m within)
 number_told (sized k) m within = absurd (Contains-nil m within)
@@ -129,7 +129,7 @@ either (x ∷ ms) ns m within = elim (Contains-cons_cases x (ms ++ ns) m within)
 ]
 
 -- its next number is told by just this reply
-entry_is : (H : History) (client k : ℕ) (t : Transaction) (r : Reply) → TellsCommit (suc k) r → (x : Writing) → t ≡ writing x → x.number ≡ k → IsEntry H client t r → slice_get H k ≡ Some (record { caller = client; writes = x.writes })
+pub entry_is : (H : History) (client k : ℕ) (t : Transaction) (r : Reply) → TellsCommit (suc k) r → (x : Writing) → t ≡ writing x → x.number ≡ k → IsEntry H client t r → slice_get H k ≡ Some (record { caller = client; writes = x.writes })
 entry_is H client k t r told x is stands made = subst (λ (n : ℕ). slice_get H n ≡ Some (record { caller = client; writes = x.writes })) stands (subst (λ (q : Reply). IsEntry H client (writing x) q) told.is (subst (λ (u : Transaction). IsEntry H client u r) is made))
 
 -- what a reply tells of a commit's changes
@@ -201,7 +201,7 @@ module _ (schema : DbSchema) (H H' : History) (client : ℕ) where
       ∙ sym (turn_longer schema (take k H') (drop k H') now v q (subst (λ (n : ℕ). IsWithin n v) (sym (length-take-le k H' there')) within))
       ∙ ap (λ (G : History). turn schema G now v q) (take-append-drop k H')
 
-  next_same : (k : ℕ) → k ≤ length H → k ≤ length H' → take k H ≡ take k H' → (now now' : ℕ) (v : Client) (c : Command) (r : Reply) (next next' : Client) → IsWithin k v → IsAnswered schema H client now v c r next → IsAnswered schema H' client now' v c r next' → next ≡ next'
+  pub next_same : (k : ℕ) → k ≤ length H → k ≤ length H' → take k H ≡ take k H' → (now now' : ℕ) (v : Client) (c : Command) (r : Reply) (next next' : Client) → IsWithin k v → IsAnswered schema H client now v c r next → IsAnswered schema H' client now' v c r next' → next ≡ next'
   unfolding Agree
   next_same k there there' same now now' v c r next next' within = answers c
     where
@@ -226,7 +226,7 @@ module _ (schema : DbSchema) (H H' : History) (client : ℕ) where
       answers (command.Size set) is is' = turns (to_size set) is is'
       answers (command.Watches w) is is' = watch_next schema H H' client now now' v r next next' w is is'
 
-  one_entry : (k : ℕ) (v : Client) (c : Command) (r : Reply) (next next' : Client) → Answers schema H client v c r next → Answers schema H' client v c r next' → Contains (number_printed r) (suc k) → slice_get H k ≡ slice_get H' k
+  pub one_entry : (k : ℕ) (v : Client) (c : Command) (r : Reply) (next next' : Client) → Answers schema H client v c r next → Answers schema H' client v c r next' → Contains (number_printed r) (suc k) → slice_get H k ≡ slice_get H' k
   one_entry k v c r next next' a a' here =
       let told = number_told r (suc k) here in
       let open_one = commit_told schema H client v next c r (suc k) a here in
@@ -234,7 +234,7 @@ module _ (schema : DbSchema) (H H' : History) (client : ℕ) where
       entry_is H client k v.transaction r told open_one.0 open_one.1 stands a.entry
       ∙ sym (entry_is H' client k v.transaction r told open_one.0 open_one.1 stands a'.entry)
 
-  within_next : (k : ℕ) (v : Client) (c : Command) (r : Reply) (next : Client) → IsWithin k v → Answers schema H client v c r next → next.last ≤ k → IsWithin k next
+  pub within_next : (k : ℕ) (v : Client) (c : Command) (r : Reply) (next : Client) → IsWithin k v → Answers schema H client v c r next → next.last ≤ k → IsWithin k next
   unfolding Within
   within_next k v c r next within a le =
       told_so schema H a.now v (Within k v) (each_within_told k schema H a.now v within) client c r next a.says (λ w says le'. aside_within k a.now v r next (aside a.now v schema H client w r next says) within) le
@@ -288,7 +288,7 @@ module _ (schema : DbSchema) (H H' : History) where
         let at = numbered 1 (callers H) (suc k) (search (arith)) (rw (length-map H (λ (c : Commit). c.caller)) (omega arith)) in
         sessions_entry k at.0 (omega arith) (omega arith) same 1 scripts replies sessions sessions' (Contains-permutation _ _ (suc k, at.0) numbers at.1)
 
-    grows : (k : ℕ) → k < length H → k < length H' → slice_get H k ≡ slice_get H' k → take k H ≡ take k H' → take (suc k) H ≡ take (suc k) H'
+    pub grows : (k : ℕ) → k < length H → k < length H' → slice_get H k ≡ slice_get H' k → take k H ≡ take k H' → take (suc k) H ≡ take (suc k) H'
     grows k lt lt' entry same =
         take-suc H k none lt
         ∙ ap (λ (G : History). G ++ get_or H k none ∷ []) same

@@ -7,7 +7,7 @@ use Rattle.mdb_schema.specs.Tests.{◌>>=◌, passed}
 use Rattle.client_script.specs.Lines.{lines_of}
 use Rattle.client_script.specs.Refusal.{ScriptRefusal, script_error, not_text, too_many_lines, broken_line, unknown_word, bad_shape, bad_name, bad_doc}
 use Rattle.client_script.specs.Script.{line_limit, lines_in, script_in, AnswersScript}
-use Rattle.client_script.specs.inner.ScriptAnswer.{Answers}
+use Rattle.client_script.specs.inner.ScriptAnswer.{IsScriptResult}
 use Rattle.client_script.specs.declared.line.Line.{Line}
 use Rattle.client_script.specs.declared.script_error.ScriptError.{ScriptError}
 use Rattle.client_script.specs.declared.script_error.ScriptError.TheVariants as script_errors
@@ -24,7 +24,7 @@ lines_told (Err why) lines is = cc
 pub refused_told : (told : Result (List Line) ScriptRefusal) (why : ScriptRefusal) → told ≡ Err why → AnswersScript told (Err (script_error why))
 refused_told told why is = subst (λ (t : Result (List Line) ScriptRefusal). AnswersScript t (Err (script_error why))) (sym is) (inl refl)
 
-pub told_from_kept : (told : Result (List Line) ScriptRefusal) (result : Result (List Line) ScriptError) → Answers (λ s. s) told result → AnswersScript told result
+pub told_from_kept : (told : Result (List Line) ScriptRefusal) (result : Result (List Line) ScriptError) → IsScriptResult (λ s. s) told result → AnswersScript told result
 told_from_kept told (Ok lines) is = lines_told told lines is
 told_from_kept told (Err script_errors.Memory) is = memory_told told
 told_from_kept told (Err script_errors.NotText) is = refused_told told not_text is
@@ -37,7 +37,7 @@ told_from_kept told (Err (script_errors.BadDoc n)) is = refused_told told (broke
 -- a refusal of a part is one of the whole, where each rule that the part breaks the whole breaks
 -- too
 pub refusal_kept : {A B C D : Type 0} (view : A → B) (seen : C → D) (part : Result B ScriptRefusal) (whole : Result D ScriptRefusal) (e : ScriptError)
-    → ((why : ScriptRefusal) → part ≡ Err why → whole ≡ Err why) → Answers view part (Err e) → Answers seen whole (Err e)
+    → ((why : ScriptRefusal) → part ≡ Err why → whole ≡ Err why) → IsScriptResult view part (Err e) → IsScriptResult seen whole (Err e)
 refusal_kept view seen part whole script_errors.Memory same is = tt
 refusal_kept view seen part whole script_errors.NotText same is = same not_text is
 refusal_kept view seen part whole script_errors.TooManyLines same is = same too_many_lines is

@@ -1,22 +1,23 @@
 -- What the lines of watches leave as it is, and that their replies tell what the client then knows.
-use Rattle.std.proofs.Common.{arith, ◌≡◌, refl, ap, subst, sym, ◌∙◌, ℕ, zero, suc, ◌+◌, ◌-◌, ◌<◌, ◌≤◌, ◌⊎◌, inl, inr, List, [], ◌∷◌, ◌++◌, length, take, Ok, Err, slice_get}
+use Rattle.std.proofs.Common.{arith, ◌≡◌, refl, ap, subst, sym, ◌∙◌, ℕ, ◌+◌, ◌-◌, ◌≤◌, ◌⊎◌, inl, inr, List, [], ◌∷◌, ◌++◌, length, take, Ok, Err}
 use Rattle.std.specs.Prelude.{codes, is_some, not}
 use Rattle.mdb_datum.specs.Bytes.{Bytes}
+use Rattle.mdb_datum.proofs.ListPlaces.{get_first}
 use Rattle.mdb_schema.specs.Answer.{Lookup, ask}
-use Rattle.mdb_schema.specs.Guarded.{IsGuarded}
+use Rattle.mdb_schema.specs.Guarded.{IsGuarded, IsUnchanged}
 use Rattle.mdb_schema.specs.History.{History, IsMadeBy, state_at}
 use Rattle.mdb_schema.specs.Query.{Query}
 use Rattle.mdb_schema.specs.Schema.{DbSchema}
 use Rattle.mdb_schema.specs.State.{State}
 use Rattle.mdb_schema.specs.Tests.{◌>>=◌, passed}
 use Rattle.mdb_schema.specs.Touched.{Touch}
-use Rattle.mdb_schema.specs.Watchable.{HasFound, is_watchable}
+use Rattle.mdb_schema.specs.Watchable.{HasFound, IsTouched, is_watchable}
 use Rattle.mdb_schema.specs.declared.answer.Answer.{Answer}
 use Rattle.client_script.specs.Client.{Client, Judged, Sight, Transaction, closed, no_write_open, reading, writing, Watch, WatchSet, state_seen, watch_named}
 use Rattle.client_script.specs.Legal.{number_printed}
 use Rattle.client_script.specs.Reply.{Reply, answered, fired_at, quiet_at, refused, sized, stopped_at, woken_by}
 use Rattle.client_script.specs.Turn.{Turn, asked_watched, outcome, set_called, size_turn, watch_turn, with_watch}
-use Rattle.client_script.specs.Watching.{AreQuiet, HasFired, IsAdded, IsChecked, IsJudged, IsQuiet, IsStopped, IsWatchTold, IsWoken, check_judged, limit_judged, set_for, told_number, until_judged, wait_judged, watch_called}
+use Rattle.client_script.specs.Watching.{AreUnchanged, IsAdded, IsChecked, IsJudged, IsStopped, IsWatchTold, IsWoken, check_judged, limit_judged, set_for, told_number, until_judged, wait_judged, watch_called}
 use Rattle.client_script.specs.declared.command.WatchesCommand.{WatchesCommand}
 use Rattle.client_script.specs.declared.command.WatchesCommand.TheVariants as watches_line
 
@@ -174,14 +175,6 @@ module _ (schema : DbSchema) (H H' : History) (client now now' : ℕ) (v : Clien
 
 -- ---- a longer history
 
-get_first : {A : Type 0} (xs more : List A) (n : ℕ) → n < length xs → slice_get (xs ++ more) n ≡ slice_get xs n
-get_first [] more n lt = absurd (none lt)
-  where
-    none : n < 0 → ⊥
-    none lt = omega arith
-get_first (x ∷ xs) more zero lt = refl
-get_first (x ∷ xs) more (suc n) lt = get_first xs more n (omega arith)
-
 module _ (schema : DbSchema) (H more : History) (client : ℕ) (states : (n : ℕ) → n ≤ length H → state_at schema (H ++ more) n ≡ state_at schema H n) where
   guarded_longer : (q : Query) (v n : ℕ) → n ≤ length H → IsGuarded schema H q v n → IsGuarded schema (H ++ more) q v n
   guarded_longer q v n there g j low high =
@@ -190,13 +183,13 @@ module _ (schema : DbSchema) (H more : History) (client : ℕ) (states : (n : �
   own_first : (n : ℕ) → n ≤ length H → IsMadeBy (H ++ more) client n → IsMadeBy H client n
   own_first n there own = (own.0, own.1, sym (get_first H more (n - 1) (let low = own.0 in omega arith)) ∙ own.2, own.3)
 
-  quiet_longer : (w : Watch) (n : ℕ) → n ≤ length H → IsQuiet schema H client w n → IsQuiet schema (H ++ more) client w n
+  quiet_longer : (w : Watch) (n : ℕ) → n ≤ length H → IsUnchanged schema H client w.query w.number n → IsUnchanged schema (H ++ more) client w.query w.number n
   quiet_longer w n there quiet = record {
     before_last = guarded_longer w.query w.number (n - 1) (omega arith) quiet.before_last;
     own = λ own. guarded_longer w.query w.number n there (quiet.own (own_first n there own));
   }
 
-  all_quiet_longer : (ws : List Watch) (n : ℕ) → n ≤ length H → AreQuiet schema H client ws n → AreQuiet schema (H ++ more) client ws n
+  all_quiet_longer : (ws : List Watch) (n : ℕ) → n ≤ length H → AreUnchanged schema H client ws n → AreUnchanged schema (H ++ more) client ws n
   all_quiet_longer [] n there quiet = tt
   all_quiet_longer (w ∷ ws) n there quiet = (quiet_longer w n there quiet.0, all_quiet_longer ws n there quiet.1)
 
@@ -207,7 +200,7 @@ module _ (schema : DbSchema) (H more : History) (client : ℕ) (states : (n : �
     found = sym (ap (λ (s : State). ask schema s w.query) (states w.number there)) ∙ found.found;
   }
 
-  fired_longer : (w : Watch) (n : ℕ) → n ≤ length H → HasFired schema H w n → HasFired schema (H ++ more) w n
+  fired_longer : (w : Watch) (n : ℕ) → n ≤ length H → IsTouched schema H w.query w.number n → IsTouched schema (H ++ more) w.query w.number n
   fired_longer w n there f =
       let low = f.since in
       let high = f.reached in

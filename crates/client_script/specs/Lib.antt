@@ -1,8 +1,8 @@
 pub mod Alone
 pub mod Client
+pub mod Codes
 pub mod CommandWord
 pub mod Grammar
-pub mod inner
 pub mod Laws
 pub mod Legal
 pub mod Lines
@@ -16,4 +16,6 @@ pub mod Spent
 pub mod Stuck
 pub mod Turn
 pub mod Watching
+pub mod Within
+pub mod inner
 pub mod worked

@@ -38,13 +38,13 @@ script_error (broken_line n bad_name) = script_errors.BadName n
 script_error (broken_line n bad_doc) = script_errors.BadDoc n
 
 -- its name, as it is printed
-abbrev pub rule_word : ScriptRefusal → Bytes
-rule_word not_text = codes "not-text"
-rule_word too_many_lines = codes "too-many-lines"
-rule_word (broken_line n unknown_word) = codes "unknown-word"
-rule_word (broken_line n bad_shape) = codes "bad-shape"
-rule_word (broken_line n bad_name) = codes "bad-name"
-rule_word (broken_line n bad_doc) = codes "bad-doc"
+abbrev pub script_rule_word : ScriptRefusal → Bytes
+script_rule_word not_text = codes "not-text"
+script_rule_word too_many_lines = codes "too-many-lines"
+script_rule_word (broken_line n unknown_word) = codes "unknown-word"
+script_rule_word (broken_line n bad_shape) = codes "bad-shape"
+script_rule_word (broken_line n bad_name) = codes "bad-name"
+script_rule_word (broken_line n bad_doc) = codes "bad-doc"
 
 -- the number of the line that breaks it
 abbrev pub rule_line : ScriptRefusal → Option ℕ
@@ -55,12 +55,12 @@ rule_line (broken_line n r) = Some n
 -- the word that tells an error: that of its rule, and of want of memory a word of its own
 abbrev pub error_word : ScriptError → Bytes
 error_word script_errors.Memory = codes "memory"
-error_word script_errors.NotText = rule_word not_text
-error_word script_errors.TooManyLines = rule_word too_many_lines
-error_word (script_errors.UnknownWord n) = rule_word (broken_line n unknown_word)
-error_word (script_errors.BadShape n) = rule_word (broken_line n bad_shape)
-error_word (script_errors.BadName n) = rule_word (broken_line n bad_name)
-error_word (script_errors.BadDoc n) = rule_word (broken_line n bad_doc)
+error_word script_errors.NotText = script_rule_word not_text
+error_word script_errors.TooManyLines = script_rule_word too_many_lines
+error_word (script_errors.UnknownWord n) = script_rule_word (broken_line n unknown_word)
+error_word (script_errors.BadShape n) = script_rule_word (broken_line n bad_shape)
+error_word (script_errors.BadName n) = script_rule_word (broken_line n bad_name)
+error_word (script_errors.BadDoc n) = script_rule_word (broken_line n bad_doc)
 
 -- the number of the line that an error names
 abbrev pub error_line : ScriptError → Option ℕ

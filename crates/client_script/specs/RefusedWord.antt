@@ -31,12 +31,12 @@ key_word too_many = codes "too-many"
 key_word too_long = codes "too-long"
 
 -- a blank and the name of an index
-abbrev pub name_part : Option IndexSchema → Bytes
-name_part None = []
-name_part (Some i) = 32 ∷ i.name
+abbrev pub index_name_part : Option IndexSchema → Bytes
+index_name_part None = []
+index_name_part (Some i) = 32 ∷ i.name
 
 abbrev pub index_part : List IndexSchema → ℕ → Bytes
-index_part is place = name_part (slice_get is place)
+index_part is place = index_name_part (slice_get is place)
 
 -- of a write to a table with these indexes; a rule of an index is followed by its name
 abbrev pub write_word : List IndexSchema → written.WriteRefusal → Bytes

@@ -32,8 +32,8 @@ pub data Reply : Type 0 where
   answered : Answer → Reply
   -- the number of the commit on which a snapshot stands; in a write transaction it has the
   -- transaction's writes so far as well
-  kept_at : ℕ → Reply
-  kept_within : ℕ → Reply
+  snapshot_at : ℕ → Reply
+  snapshot_within : ℕ → Reply
   -- a watch is quiet, or has fired, after so many commits
   quiet_at : ℕ → Reply
   fired_at : ℕ → Reply
@@ -94,8 +94,8 @@ reply_text deleted = codes "deleted"
 reply_text (wiped k) = codes "deleted " ++ decimal k
 reply_text deferred = codes "deferred"
 reply_text (answered a) = answer_text a
-reply_text (kept_at n) = codes "snapshot @" ++ decimal n
-reply_text (kept_within n) = codes "snapshot @" ++ (decimal n ++ codes "+")
+reply_text (snapshot_at n) = codes "snapshot @" ++ decimal n
+reply_text (snapshot_within n) = codes "snapshot @" ++ (decimal n ++ codes "+")
 reply_text (quiet_at n) = codes "quiet @" ++ decimal n
 reply_text (fired_at n) = codes "fired @" ++ decimal n
 reply_text (sized k) = codes "size " ++ decimal k

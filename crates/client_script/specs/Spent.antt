@@ -1,5 +1,5 @@
 -- What a line that writes rows may be told in place of its turn: that there are too few ids.
-use Rattle.std.specs.Prelude.{◌≡◌, ◌≢◌, ◌≤◌, ◌+◌, ◌^◌, List, [], ◌∷◌, length, take, Ok, codes, ⊤}
+use Rattle.std.specs.Prelude.{◌≡◌, ◌≤◌, ◌+◌, ◌^◌, length, take, Ok, codes}
 use Rattle.mdb_schema.specs.History.{History, writes_in}
 use Rattle.mdb_schema.specs.Schema.{DbSchema}
 use Rattle.client_script.specs.Client.{Client, Writing, writing}
@@ -33,13 +33,3 @@ pub data IsWriteTold (schema : DbSchema) (H : History) (v : Client) (w : WriteCo
     (next : Client) : Type 0 where
   by_turn : outcome v (write_turn schema H v w) ≡ (r, next) → IsWriteTold schema H v w r next
   without_ids : IsSpent schema H v w r next → IsWriteTold schema H v w r next
-
--- no line is told that there are too few ids
-abbrev pub HaveIds : List Reply → Type 0
-HaveIds [] = ⊤
-HaveIds (r ∷ rs) = (r ≢ ids_spent) × HaveIds rs
-
--- the same of all clients
-abbrev pub AllHaveIds : List (List Reply) → Type 0
-AllHaveIds [] = ⊤
-AllHaveIds (rs ∷ rss) = HaveIds rs × AllHaveIds rss

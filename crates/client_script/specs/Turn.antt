@@ -16,7 +16,7 @@ use Rattle.mdb_schema.specs.Write.{Write, put, remove, Stepped, step}
 use Rattle.mdb_schema.specs.declared.answer.Answer.{Answer}
 use Rattle.client_script.specs.Client.{Sight, Writing, Transaction, closed, reading, writing, Client, WatchSet, state_seen, sight_of, snapshot_named, watch_named, set_named, Judged, none_open, some_open, read_open, write_open}
 use Rattle.client_script.specs.RefusedWord.{question_word, write_word}
-use Rattle.client_script.specs.Reply.{Changed, Reply, read_at, write_at, ended, committed, aborted, inserted, replaced, deleted, wiped, deferred, answered, kept_at, kept_within, sized, refused}
+use Rattle.client_script.specs.Reply.{Changed, Reply, read_at, write_at, ended, committed, aborted, inserted, replaced, deleted, wiped, deferred, answered, snapshot_at, snapshot_within, sized, refused}
 use Rattle.client_script.specs.declared.command.AskCommand.{AskCommand}
 use Rattle.client_script.specs.declared.command.AskCommand.TheVariants as ask_line
 use Rattle.client_script.specs.declared.command.NameCommand.{NameCommand}
@@ -143,8 +143,8 @@ commit_reply schema H t =
 
 -- of a new snapshot, by the transaction that it is made in
 abbrev pub snapshot_reply : Transaction → Sight → Reply
-snapshot_reply (writing t) s = kept_within s.number
-snapshot_reply t s = kept_at s.number
+snapshot_reply (writing t) s = snapshot_within s.number
+snapshot_reply t s = snapshot_at s.number
 
 -- ---- parts of turns
 

@@ -18,19 +18,12 @@ use Rattle.client_script.specs.declared.command.WatchesCommand.TheVariants as wa
 
 -- ---- quiet and fired
 
--- a watch may be told to be quiet after n commits
-abbrev pub IsQuiet : DbSchema → History → ℕ → Watch → ℕ → Type 0
-IsQuiet schema H client w n = IsUnchanged schema H client w.query w.number n
-
-abbrev pub AreQuiet : DbSchema → History → ℕ → List Watch → ℕ → Type 0
-AreQuiet schema H client [] n = ⊤
-AreQuiet schema H client (w ∷ ws) n =
-    IsQuiet schema H client w n × AreQuiet schema H client ws n
-
--- A watch may be told to have fired after n commits where one of the commits since its question was
--- asked touched what the question looks at. The answer need not have changed.
-abbrev pub HasFired : DbSchema → History → Watch → ℕ → Type 0
-HasFired schema H w n = IsTouched schema H w.query w.number n
+-- Watches may be told to be quiet after n commits where the answer to each one's question is unchanged
+-- since it was asked.
+abbrev pub AreUnchanged : DbSchema → History → ℕ → List Watch → ℕ → Type 0
+AreUnchanged schema H client [] n = ⊤
+AreUnchanged schema H client (w ∷ ws) n =
+    IsUnchanged schema H client w.query w.number n × AreUnchanged schema H client ws n
 
 -- ---- what the client knows then
 
@@ -108,11 +101,13 @@ abbrev pub IsJudged : {A : Type 0} → Client → Judged A → Reply → Client 
 IsJudged v (Err rule) r next said = (r ≡ refused rule) × (next ≡ v)
 IsJudged v (Ok a) r next said = said a
 
--- a check finds the watch quiet or fired, after `now` commits
+-- A check tells that the watch is quiet, where its question's answer is unchanged after `now` commits
+-- since it was asked; or that it has fired, where one of the commits since touched what the question
+-- looks at. The answer need not have changed.
 abbrev pub IsChecked : DbSchema → History → ℕ → ℕ → Watch → Reply → Type 0
 IsChecked schema H client now w r =
-    ((r ≡ quiet_at now) × IsQuiet schema H client w now)
-    ⊎ ((r ≡ fired_at now) × HasFired schema H w now)
+    ((r ≡ quiet_at now) × IsUnchanged schema H client w.query w.number now)
+    ⊎ ((r ≡ fired_at now) × IsTouched schema H w.query w.number now)
 
 -- two questions are of one index
 abbrev pub AreOfOneIndex : Query → Query → Type 0
@@ -157,15 +152,15 @@ pub record IsWoken (schema : DbSchema) (H : History) (client now : ℕ) (v : Cli
   pub place : ℕ
   pub member : Watch
   pub there : slice_get s.members place ≡ Some member
-  pub fired : HasFired schema H member now
-  pub quiet : AreQuiet schema H client (take place s.members) v.last
+  pub fired : IsTouched schema H member.query member.number now
+  pub quiet : AreUnchanged schema H client (take place s.members) v.last
   pub reply : r ≡ woken_by member.name now
 
 -- the watch that cancels has fired, and all members were quiet
 pub record IsStopped (schema : DbSchema) (H : History) (client now : ℕ) (v : Client) (s : WatchSet)
     (until : Watch) (r : Reply) : Type 0 where
-  pub fired : HasFired schema H until now
-  pub quiet : AreQuiet schema H client s.members v.last
+  pub fired : IsTouched schema H until.query until.number now
+  pub quiet : AreUnchanged schema H client s.members v.last
   pub reply : r ≡ stopped_at now
 
 -- A line that looks at watches, or adds one to a set, is told so after `now` commits. A check and a

@@ -4,6 +4,4 @@ pub mod LaterWord
 pub mod LineAnswer
 pub mod LineDoc
 pub mod ScriptAnswer
-pub mod StoredScript
-pub mod Within
 pub mod WordView

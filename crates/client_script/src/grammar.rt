@@ -9,7 +9,7 @@ ghost use Rattle.client_script.specs.inner.GrammarParts.{table_and_row, named_ro
 ghost use Rattle.client_script.specs.inner.GrammarParts.{watch_kept, watch_by, asked_of, one_word};
 ghost use Rattle.client_script.specs.inner.GrammarParts.{one_name, two_words, two_names};
 ghost use Rattle.client_script.specs.inner.GrammarParts.{limit_words, words_behind, until_word};
-ghost use Rattle.client_script.specs.inner.LineAnswer.{Answers, rule_of};
+ghost use Rattle.client_script.specs.inner.LineAnswer.{IsLineResult, rule_of};
 ghost use Rattle.client_script.specs.inner.WordView.{word_of, question_view, limit_words_view};
 ghost use Rattle.client_script.specs.declared.command.Command.TheVariants as commands;
 ghost use Rattle.client_script.specs.declared.command.AskCommand.TheVariants as ask_line;
@@ -42,7 +42,7 @@ struct LimitWords<'a> {
 
 /// `read`.
 fn of_read(rest: &str) -> Result<Command, LineError>
-    ensures { Answers (λ c. c) (alone transaction_line.Read rest.now) result }
+    ensures { IsLineResult (λ c. c) (alone transaction_line.Read rest.now) result }
 {
     nothing(rest)?;
     Ok(Command::Transaction(TransactionCommand::Read))
@@ -50,7 +50,7 @@ fn of_read(rest: &str) -> Result<Command, LineError>
 
 /// `write`.
 fn of_write(rest: &str) -> Result<Command, LineError>
-    ensures { Answers (λ c. c) (alone transaction_line.Write rest.now) result }
+    ensures { IsLineResult (λ c. c) (alone transaction_line.Write rest.now) result }
 {
     nothing(rest)?;
     Ok(Command::Transaction(TransactionCommand::Write))
@@ -58,7 +58,7 @@ fn of_write(rest: &str) -> Result<Command, LineError>
 
 /// `end`.
 fn of_end(rest: &str) -> Result<Command, LineError>
-    ensures { Answers (λ c. c) (alone transaction_line.End rest.now) result }
+    ensures { IsLineResult (λ c. c) (alone transaction_line.End rest.now) result }
 {
     nothing(rest)?;
     Ok(Command::Transaction(TransactionCommand::End))
@@ -66,7 +66,7 @@ fn of_end(rest: &str) -> Result<Command, LineError>
 
 /// `commit`.
 fn of_commit(rest: &str) -> Result<Command, LineError>
-    ensures { Answers (λ c. c) (alone transaction_line.Commit rest.now) result }
+    ensures { IsLineResult (λ c. c) (alone transaction_line.Commit rest.now) result }
 {
     nothing(rest)?;
     Ok(Command::Transaction(TransactionCommand::Commit))
@@ -74,7 +74,7 @@ fn of_commit(rest: &str) -> Result<Command, LineError>
 
 /// `abort`.
 fn of_abort(rest: &str) -> Result<Command, LineError>
-    ensures { Answers (λ c. c) (alone transaction_line.Abort rest.now) result }
+    ensures { IsLineResult (λ c. c) (alone transaction_line.Abort rest.now) result }
 {
     nothing(rest)?;
     Ok(Command::Transaction(TransactionCommand::Abort))
@@ -82,7 +82,7 @@ fn of_abort(rest: &str) -> Result<Command, LineError>
 
 /// The table and the row of `insert` and `delete`.
 fn table_and_row(alloc: Global, rest: &str) -> Result<(Text, Row), LineError>
-    ensures { Answers (λ p. p) (table_and_row rest.now) result }
+    ensures { IsLineResult (λ p. p) (table_and_row rest.now) result }
 {
     let table = next_word(rest)?;
     let document = something(table.rest)?;
@@ -91,7 +91,7 @@ fn table_and_row(alloc: Global, rest: &str) -> Result<(Text, Row), LineError>
 
 /// A name and a row.
 fn named_row(alloc: Global, name: &str, document: &str) -> Result<(Text, Row), LineError>
-    ensures { Answers (λ p. p) (named_row name.now document.now) result }
+    ensures { IsLineResult (λ p. p) (named_row name.now document.now) result }
 {
     let name = name_in(alloc, name)?;
     let row = row_in(alloc, document)?;
@@ -100,7 +100,7 @@ fn named_row(alloc: Global, name: &str, document: &str) -> Result<(Text, Row), L
 
 /// `insert TABLE DOC`.
 fn of_insert(alloc: Global, rest: &str) -> Result<Command, LineError>
-    ensures { Answers (λ c. c) (of_row write_line.Insert rest.now) result }
+    ensures { IsLineResult (λ c. c) (of_row write_line.Insert rest.now) result }
 {
     let (table, row) = table_and_row(alloc, rest)?;
     Ok(Command::Write(WriteCommand::Insert { table, row }))
@@ -108,7 +108,7 @@ fn of_insert(alloc: Global, rest: &str) -> Result<Command, LineError>
 
 /// `delete TABLE DOC`.
 fn of_delete(alloc: Global, rest: &str) -> Result<Command, LineError>
-    ensures { Answers (λ c. c) (of_row write_line.Delete rest.now) result }
+    ensures { IsLineResult (λ c. c) (of_row write_line.Delete rest.now) result }
 {
     let (table, row) = table_and_row(alloc, rest)?;
     Ok(Command::Write(WriteCommand::Delete { table, row }))
@@ -116,7 +116,7 @@ fn of_delete(alloc: Global, rest: &str) -> Result<Command, LineError>
 
 /// The question of `delete-all`, of `delete-prefix` and of a question's word.
 fn asked_of(alloc: Global, ask: Ask, rest: &str) -> Result<Query, LineError>
-    ensures { Answers (λ q. q) (asked_of ask rest.now) result }
+    ensures { IsLineResult (λ q. q) (asked_of ask rest.now) result }
 {
     let question = question_of(ask, rest)?;
     query_in(alloc, &question)
@@ -124,7 +124,7 @@ fn asked_of(alloc: Global, ask: Ask, rest: &str) -> Result<Query, LineError>
 
 /// `delete-all TABLE INDEX ARGS`.
 fn of_delete_all(alloc: Global, rest: &str) -> Result<Command, LineError>
-    ensures { Answers (λ c. c) (of_query (λ q. commands.Write (write_line.DeleteAll q)) Ask.Get rest.now) result }
+    ensures { IsLineResult (λ c. c) (of_query (λ q. commands.Write (write_line.DeleteAll q)) Ask.Get rest.now) result }
 {
     let query = asked_of(alloc, Ask::Get, rest)?;
     Ok(Command::Write(WriteCommand::DeleteAll { query }))
@@ -132,7 +132,7 @@ fn of_delete_all(alloc: Global, rest: &str) -> Result<Command, LineError>
 
 /// `delete-prefix TABLE INDEX ARGS`.
 fn of_delete_prefix(alloc: Global, rest: &str) -> Result<Command, LineError>
-    ensures { Answers (λ c. c) (of_query (λ q. commands.Write (write_line.DeletePrefix q)) Ask.Get rest.now) result }
+    ensures { IsLineResult (λ c. c) (of_query (λ q. commands.Write (write_line.DeletePrefix q)) Ask.Get rest.now) result }
 {
     let query = asked_of(alloc, Ask::Get, rest)?;
     Ok(Command::Write(WriteCommand::DeletePrefix { query }))
@@ -140,7 +140,7 @@ fn of_delete_prefix(alloc: Global, rest: &str) -> Result<Command, LineError>
 
 /// A question behind its word.
 fn of_question(alloc: Global, ask: Ask, rest: &str) -> Result<Command, LineError>
-    ensures { Answers (λ c. c) (of_query (λ q. commands.Ask (ask_line.Question q)) ask rest.now) result }
+    ensures { IsLineResult (λ c. c) (of_query (λ q. commands.Ask (ask_line.Question q)) ask rest.now) result }
 {
     let query = asked_of(alloc, ask, rest)?;
     Ok(Command::Ask(AskCommand::Question { query }))
@@ -148,7 +148,7 @@ fn of_question(alloc: Global, ask: Ask, rest: &str) -> Result<Command, LineError
 
 /// `defer TEXT`.
 fn of_text(alloc: Global, rest: &str) -> Result<Command, LineError>
-    ensures { Answers (λ c. c) (of_text rest.now) result }
+    ensures { IsLineResult (λ c. c) (of_text rest.now) result }
 {
     let text = something(rest)?;
     Ok(Command::Defer {
@@ -167,7 +167,7 @@ fn one_word(rest: &str) -> Result<&str, LineRule>
 
 /// The one name of `snapshot`, `check` and `size`.
 fn one_name(alloc: Global, rest: &str) -> Result<Text, LineError>
-    ensures { Answers (λ t. t) (one_name rest.now) result }
+    ensures { IsLineResult (λ t. t) (one_name rest.now) result }
 {
     let name = one_word(rest)?;
     name_in(alloc, name)
@@ -184,7 +184,7 @@ fn two_words(rest: &str) -> Result<(&str, &str), LineRule>
 
 /// Two names.
 fn two_names(alloc: Global, first: &str, second: &str) -> Result<(Text, Text), LineError>
-    ensures { Answers (λ p. p) (two_names first.now second.now) result }
+    ensures { IsLineResult (λ p. p) (two_names first.now second.now) result }
 {
     let first = name_in(alloc, first)?;
     let second = name_in(alloc, second)?;
@@ -193,7 +193,7 @@ fn two_names(alloc: Global, first: &str, second: &str) -> Result<(Text, Text), L
 
 /// `snapshot NAME`.
 fn of_keep(alloc: Global, rest: &str) -> Result<Command, LineError>
-    ensures { Answers (λ c. c) (of_name (λ n. commands.Name (name_line.Snapshot n)) rest.now) result }
+    ensures { IsLineResult (λ c. c) (of_name (λ n. commands.Name (name_line.Snapshot n)) rest.now) result }
 {
     let name = one_name(alloc, rest)?;
     Ok(Command::Name(NameCommand::Snapshot { name }))
@@ -201,7 +201,7 @@ fn of_keep(alloc: Global, rest: &str) -> Result<Command, LineError>
 
 /// `check NAME`.
 fn of_check(alloc: Global, rest: &str) -> Result<Command, LineError>
-    ensures { Answers (λ c. c) (of_name (λ n. commands.Watches (watches_line.Check n)) rest.now) result }
+    ensures { IsLineResult (λ c. c) (of_name (λ n. commands.Watches (watches_line.Check n)) rest.now) result }
 {
     let name = one_name(alloc, rest)?;
     Ok(Command::Watches(WatchesCommand::Check { name }))
@@ -209,7 +209,7 @@ fn of_check(alloc: Global, rest: &str) -> Result<Command, LineError>
 
 /// `size SET`.
 fn of_size(alloc: Global, rest: &str) -> Result<Command, LineError>
-    ensures { Answers (λ c. c) (of_name commands.Size rest.now) result }
+    ensures { IsLineResult (λ c. c) (of_name commands.Size rest.now) result }
 {
     let set = one_name(alloc, rest)?;
     Ok(Command::Size { set })
@@ -217,7 +217,7 @@ fn of_size(alloc: Global, rest: &str) -> Result<Command, LineError>
 
 /// `in NAME QUESTION`.
 fn of_snapshot(alloc: Global, rest: &str) -> Result<Command, LineError>
-    ensures { Answers (λ c. c) (of_snapshot rest.now) result }
+    ensures { IsLineResult (λ c. c) (of_snapshot rest.now) result }
 {
     let word = next_word(rest)?;
     let question = question_in(word.rest)?;
@@ -227,7 +227,7 @@ fn of_snapshot(alloc: Global, rest: &str) -> Result<Command, LineError>
 
 /// A name and a question.
 fn named_query(alloc: Global, name: &str, question: &Question) -> Result<(Text, Query), LineError>
-    ensures { Answers (λ p. p) (named_query name.now (question_view question.now)) result }
+    ensures { IsLineResult (λ p. p) (named_query name.now (question_view question.now)) result }
 {
     let name = name_in(alloc, name)?;
     let query = query_in(alloc, question)?;
@@ -236,7 +236,7 @@ fn named_query(alloc: Global, name: &str, question: &Question) -> Result<(Text, 
 
 /// `watch NAME QUESTION`, behind the name and the next word.
 fn watch_of(alloc: Global, word: &Word, asked: &Word) -> Result<Command, LineError>
-    ensures { Answers (λ c. c) (watch_of (word_of word.now) (word_of asked.now)) result }
+    ensures { IsLineResult (λ c. c) (watch_of (word_of word.now) (word_of asked.now)) result }
 {
     let question = question_by(asked)?;
     let (name, query) = named_query(alloc, word.text, &question)?;
@@ -245,7 +245,7 @@ fn watch_of(alloc: Global, word: &Word, asked: &Word) -> Result<Command, LineErr
 
 /// `watch NAME in NAME QUESTION`, behind `in`.
 fn watch_in(alloc: Global, word: &Word, rest: &str) -> Result<Command, LineError>
-    ensures { Answers (λ c. c) (watch_in (word_of word.now) rest.now) result }
+    ensures { IsLineResult (λ c. c) (watch_in (word_of word.now) rest.now) result }
 {
     let kept = next_word(rest)?;
     let question = question_in(kept.rest)?;
@@ -259,7 +259,7 @@ fn watch_kept(
     snapshot: &str,
     question: &Question,
 ) -> Result<Command, LineError>
-    ensures { Answers (λ c. c)
+    ensures { IsLineResult (λ c. c)
         (watch_kept name.now snapshot.now (question_view question.now)) result }
 {
     let name = name_in(alloc, name)?;
@@ -273,7 +273,7 @@ fn watch_kept(
 
 /// `watch`, in both forms.
 fn of_watch(alloc: Global, rest: &str) -> Result<Command, LineError>
-    ensures { Answers (λ c. c) (of_watch rest.now) result }
+    ensures { IsLineResult (λ c. c) (of_watch rest.now) result }
 {
     let word = next_word(rest)?;
     let next = next_word(word.rest)?;
@@ -282,7 +282,7 @@ fn of_watch(alloc: Global, rest: &str) -> Result<Command, LineError>
 
 /// The same, behind the name and the next word, which tells the form.
 fn watch_by(alloc: Global, word: &Word, next: &Word) -> Result<Command, LineError>
-    ensures { Answers (λ c. c) (watch_by (word_of word.now) (word_of next.now)) result }
+    ensures { IsLineResult (λ c. c) (watch_by (word_of word.now) (word_of next.now)) result }
 {
     if next.text == "in" {
         watch_in(alloc, word, next.rest)
@@ -293,7 +293,7 @@ fn watch_by(alloc: Global, word: &Word, next: &Word) -> Result<Command, LineErro
 
 /// `add SET NAME`.
 fn of_add(alloc: Global, rest: &str) -> Result<Command, LineError>
-    ensures { Answers (λ c. c) (of_add rest.now) result }
+    ensures { IsLineResult (λ c. c) (of_add rest.now) result }
 {
     let (set, name) = two_words(rest)?;
     let (set, name) = two_names(alloc, set, name)?;
@@ -326,7 +326,7 @@ fn words_behind<'a>(set: &'a str, limit: &Word<'a>) -> Result<LimitWords<'a>, Li
 
 /// `add-limit SET LIMIT NAME NAME`.
 fn of_add_limit(alloc: Global, rest: &str) -> Result<Command, LineError>
-    ensures { Answers (λ c. c) (of_add_limit rest.now) result }
+    ensures { IsLineResult (λ c. c) (of_add_limit rest.now) result }
 {
     let words = limit_words(rest)?;
     let set = name_in(alloc, words.set)?;
@@ -352,7 +352,7 @@ fn until_word(rest: &str) -> Result<&str, LineRule>
 
 /// `wait SET until NAME`, behind the set.
 fn wait_until(alloc: Global, set: &Word, rest: &str) -> Result<Command, LineError>
-    ensures { Answers (λ c. c) (wait_until (word_of set.now) rest.now) result }
+    ensures { IsLineResult (λ c. c) (wait_until (word_of set.now) rest.now) result }
 {
     let name = until_word(rest)?;
     let (set, until) = two_names(alloc, set.text, name)?;
@@ -361,7 +361,7 @@ fn wait_until(alloc: Global, set: &Word, rest: &str) -> Result<Command, LineErro
 
 /// `wait`, in both forms.
 fn of_wait(alloc: Global, rest: &str) -> Result<Command, LineError>
-    ensures { Answers (λ c. c) (of_wait rest.now) result }
+    ensures { IsLineResult (λ c. c) (of_wait rest.now) result }
 {
     let set = next_word(rest)?;
     if !set.rest.is_empty() {
@@ -373,7 +373,7 @@ fn of_wait(alloc: Global, rest: &str) -> Result<Command, LineError>
 
 /// The command behind its first word, which stands alone or is followed by rows or a question.
 fn command_of(alloc: Global, word: CommandWord, rest: &str) -> Result<Command, LineError>
-    ensures { Answers (λ c. c) (command_of word rest.now) result }
+    ensures { IsLineResult (λ c. c) (command_of word rest.now) result }
 {
     match word {
         CommandWord::Read => of_read(rest),
@@ -400,7 +400,7 @@ fn command_of(alloc: Global, word: CommandWord, rest: &str) -> Result<Command, L
 
 /// The command of a line that isn't empty and begins with no blank.
 pub(crate) fn command_in(alloc: Global, line: &str) -> Result<Command, LineError>
-    ensures { Answers (λ c. c) (command_in line.now) result }
+    ensures { IsLineResult (λ c. c) (command_in line.now) result }
 {
     let word = first_word(line);
     match command_named(word.text) {

@@ -9,7 +9,7 @@ ghost use Rattle.mdb_schema.specs.Shapes.{list_in};
 ghost use Rattle.client_script.specs.Parts.{next_word, something, nothing, name_in, is_index_word};
 ghost use Rattle.client_script.specs.Parts.{index_name_in, object_in, row_in, is_scalar};
 ghost use Rattle.client_script.specs.Parts.{scalars_in, args_in, is_digit, is_limit, limit_in};
-ghost use Rattle.client_script.specs.inner.LineAnswer.{Answers, rule_of};
+ghost use Rattle.client_script.specs.inner.LineAnswer.{IsLineResult, rule_of};
 ghost use Rattle.client_script.specs.inner.LineDoc.{doc_in};
 ghost use Rattle.client_script.specs.inner.WordView.{word_of};
 
@@ -59,7 +59,7 @@ pub(crate) fn nothing(rest: &str) -> Result<(), LineRule>
 
 /// The name of a table, a snapshot, a watch or a set.
 pub(crate) fn name_in(alloc: Global, word: &str) -> Result<Text, LineError>
-    ensures { Answers (λ t. t) (name_in word.now) result }
+    ensures { IsLineResult (λ t. t) (name_in word.now) result }
 {
     if !is_word(word.as_bytes()) {
         return Err(LineError::Broken(LineRule::BadName));
@@ -86,7 +86,7 @@ fn is_index_word(bytes: &[u8]) -> bool
 
 /// The name of an index, perhaps with `_prefix` at its end.
 pub(crate) fn index_name_in(alloc: Global, word: &str) -> Result<Text, LineError>
-    ensures { Answers (λ t. t) (index_name_in word.now) result }
+    ensures { IsLineResult (λ t. t) (index_name_in word.now) result }
 {
     if !is_index_word(word.as_bytes()) {
         return Err(LineError::Broken(LineRule::BadName));
@@ -96,7 +96,7 @@ pub(crate) fn index_name_in(alloc: Global, word: &str) -> Result<Text, LineError
 
 /// The document that the rest of a line is.
 fn doc_in(alloc: Global, rest: &str) -> Result<Datum, LineError>
-    ensures { Answers doc_of (doc_in (reading rest.now)) result }
+    ensures { IsLineResult doc_of (doc_in (reading rest.now)) result }
 {
     match read_doc(alloc, rest.as_bytes()) {
         Ok(document) => Ok(document),
@@ -118,7 +118,7 @@ fn object_in(document: Datum) -> Option<Members>
 
 /// The row that the rest of a line is.
 pub(crate) fn row_in(alloc: Global, rest: &str) -> Result<Row, LineError>
-    ensures { Answers (λ r. r) (row_in rest.now) result }
+    ensures { IsLineResult (λ r. r) (row_in rest.now) result }
 {
     let document = doc_in(alloc, rest)?;
     match object_in(document) {
@@ -174,7 +174,7 @@ fn scalars_in(document: Datum) -> Option<Items>
 
 /// The arguments that the rest of a line is: a list of scalars, empty where nothing is left.
 pub(crate) fn args_in(alloc: Global, rest: &str) -> Result<Items, LineError>
-    ensures { Answers (λ p. p) (args_in rest.now) result }
+    ensures { IsLineResult (λ p. p) (args_in rest.now) result }
 {
     if rest.is_empty() {
         return Ok(Items::new(alloc));

@@ -3,7 +3,7 @@ ghost use Rattle.std.specs.Prelude.{◌≡◌};
 ghost use Rattle.std.specs.Result.{result_map_both};
 ghost use Rattle.client_script.specs.Parts.{question_of, question_by, question_in, query_in};
 ghost use Rattle.client_script.specs.inner.GrammarParts.{query_of};
-ghost use Rattle.client_script.specs.inner.LineAnswer.{Answers, rule_of};
+ghost use Rattle.client_script.specs.inner.LineAnswer.{IsLineResult, rule_of};
 ghost use Rattle.client_script.specs.inner.WordView.{word_of, question_view};
 
 use crate::command_word::ask_named;
@@ -58,7 +58,7 @@ pub(crate) fn question_in(rest: &str) -> Result<Question<'_>, LineRule>
 
 /// The question with its names and arguments. It takes memory for both.
 pub(crate) fn query_in(alloc: Global, question: &Question) -> Result<Query, LineError>
-    ensures { Answers (λ q. q) (query_in (question_view question.now)) result }
+    ensures { IsLineResult (λ q. q) (query_in (question_view question.now)) result }
 {
     let table = name_in(alloc, question.table)?;
     let index = index_name_in(alloc, question.index)?;
@@ -72,7 +72,7 @@ fn query_of(
     table: Text,
     index: Text,
 ) -> Result<Query, LineError>
-    ensures { Answers (λ q. q) (query_of (question_view question.now) table index) result }
+    ensures { IsLineResult (λ q. q) (query_of (question_view question.now) table index) result }
 {
     let args = args_in(alloc, question.args)?;
     Ok(Query::from_parts(alloc, question.ask, table, index, args)?)

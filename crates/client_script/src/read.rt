@@ -4,7 +4,7 @@ ghost use Rattle.client_script.specs.Lines.{lines_of};
 ghost use Rattle.client_script.specs.Script.{line_limit, text_in, line_in, lines_in, script_in};
 ghost use Rattle.client_script.specs.Script.{AnswersScript};
 ghost use Rattle.client_script.specs.inner.FirstLine.{is_silent};
-ghost use Rattle.client_script.specs.inner.ScriptAnswer.{Answers};
+ghost use Rattle.client_script.specs.inner.ScriptAnswer.{IsScriptResult};
 
 use crate::grammar::command_in;
 use crate::line::Line;
@@ -24,7 +24,7 @@ fn is_silent(text: &str) -> bool
 
 /// The command of a line without blanks at its ends, with the number of the line.
 fn text_in(alloc: Global, number: u32, text: &str) -> Result<Option<Line>, ScriptError>
-    ensures { Answers option_to_list (text_in number text.now) result }
+    ensures { IsScriptResult option_to_list (text_in number text.now) result }
 {
     if is_silent(text) {
         return Ok(None);
@@ -37,7 +37,7 @@ fn text_in(alloc: Global, number: u32, text: &str) -> Result<Option<Line>, Scrip
 
 /// The command of a line, with the number of the line.
 fn line_in(alloc: Global, number: u32, line: &str) -> Result<Option<Line>, ScriptError>
-    ensures { Answers option_to_list (line_in number line.now) result }
+    ensures { IsScriptResult option_to_list (line_in number line.now) result }
 {
     text_in(alloc, number, trimmed(without_return(line)))
 }
@@ -56,7 +56,7 @@ fn add(lines: &mut Vec<Line>, found: Option<Line>) -> Result<(), AllocError>
 /// The script of a text that has few enough lines.
 fn lines_in(alloc: Global, text: &str) -> Result<Script, ScriptError>
     requires { length (lines_of text.now) ≤ line_limit }
-    ensures { Answers (λ s. s) (lines_in 1 (lines_of text.now)) result }
+    ensures { IsScriptResult (λ s. s) (lines_in 1 (lines_of text.now)) result }
 {
     let mut lines = Vec::new(alloc);
     let mut number = 0u32;

@@ -15,7 +15,7 @@ pub struct Script {
 impl Model for Script {
     ghost use Rattle.std.specs.Prelude.{List};
     ghost use Rattle.client_script.specs.declared.line.Line.{Line};
-    ghost use Rattle.client_script.specs.inner.StoredScript.{script_code};
+    ghost use Rattle.client_script.specs.Codes.{script_code};
 
     ghost Value = { List Line };
 

@@ -16,7 +16,7 @@ pub struct Scripts {
 impl Model for Scripts {
     ghost use Rattle.std.specs.Prelude.{List};
     ghost use Rattle.client_script.specs.declared.line.Line.{Line};
-    ghost use Rattle.client_script.specs.inner.StoredScript.{scripts_code};
+    ghost use Rattle.client_script.specs.Codes.{scripts_code};
 
     ghost Value = { List (List Line) };
 

@@ -1,4 +1,4 @@
--- What a line waits for, as the desk has it.
+-- What a line waits for, as the session's state has it.
 use Rattle.std.proofs.Common.{◌≡◌, ◌∙◌, ◌++◌, ◌⊎◌, ◌<◌, ◌≤◌, ℕ, List, [], ◌∷◌, Bool, true, false, Option, Some, None, Ok, Err, IsSome, refl, sym, ap, subst, inl, inr, map, length, slice_get, arith}
 use Rattle.std.specs.Prelude.{codes, option_map}
 use Rattle.std.specs.BTreeMap.{get_by_text}
@@ -20,9 +20,9 @@ use Rattle.client_script.specs.declared.command.WatchesCommand.TheVariants as wa
 use Rattle.client_script.specs.declared.line.Line.{Line}
 use Rattle.client_session.specs.Progress.{Progress}
 use Rattle.client_session.specs.Waiting.{AreWatchesOf, IsAtLine, IsWatchOf, TellsWait, awaited_at, client_at}
-use Rattle.client_session.specs.declared.desk.Desk.{Desk}
+use Rattle.client_session.specs.declared.session_state.SessionState.{SessionState}
 use Rattle.client_session.specs.inner.Awaited.{Awaits, AwaitsFor}
-use Rattle.client_session.specs.inner.DeskView.{Follows}
+use Rattle.client_session.specs.inner.StateView.{Follows}
 use Rattle.client_session.specs.inner.OpenView.{caller_of, is_writing, transaction_of, writes}
 use Rattle.client_session.specs.inner.SetsKept.{awaited_in, beside}
 use Rattle.client_session.specs.inner.StoredSession.{HasDone, caller_in}
@@ -56,7 +56,7 @@ taken_then closed busy = cc
 taken_then (reading n) busy = cc
 taken_then (writing w) busy = refl
 
-module _ (d : Desk) (busy : is_writing d.«open» ≡ true) (v : Client) (follows : Follows d v) where
+module _ (d : SessionState) (busy : is_writing d.«open» ≡ true) (v : Client) (follows : Follows d v) where
   taken : no_write_open v.transaction ≡ Err (codes "write-open")
   taken = ap no_write_open follows.transaction ∙ taken_then (transaction_of d.«open») busy
 
@@ -85,7 +85,7 @@ module _ (d : Desk) (busy : is_writing d.«open» ≡ true) (v : Client) (follow
 
 -- ---- none is open
 
-module _ (d : Desk) (idle : is_writing d.«open» ≡ false) (v : Client) (follows : Follows d v) where
+module _ (d : SessionState) (idle : is_writing d.«open» ≡ false) (v : Client) (follows : Follows d v) where
   may : MayLook (caller_of d.«open») d.watching v
   may = record {
     knows = follows.knows;
@@ -138,15 +138,15 @@ module _ (d : Desk) (idle : is_writing d.«open» ≡ false) (v : Client) (follo
 
 -- ---- a line, by what its names give
 
-awaits_set : (d : Desk) (set : Bytes) → is_writing d.«open» ≡ false → (found : Option (List Member × Option HeldWatch)) → awaited_in d.watching set None ≡ found → Awaits d (command.Watches (watches_line.Wait set)) found
+awaits_set : (d : SessionState) (set : Bytes) → is_writing d.«open» ≡ false → (found : Option (List Member × Option HeldWatch)) → awaited_in d.watching set None ≡ found → Awaits d (command.Watches (watches_line.Wait set)) found
 awaits_set d set idle None there v follows = waits_for_no_set d idle v follows set there
 awaits_set d set idle (Some found) there v follows = waits_for_set d idle v follows set found.0 found.1 there
 
-awaits_until : (d : Desk) (set until : Bytes) → is_writing d.«open» ≡ false → (found : Option (List Member × Option HeldWatch)) → awaited_in d.watching set (Some until) ≡ found → Awaits d (command.Watches (watches_line.WaitUntil set until)) found
+awaits_until : (d : SessionState) (set until : Bytes) → is_writing d.«open» ≡ false → (found : Option (List Member × Option HeldWatch)) → awaited_in d.watching set (Some until) ≡ found → Awaits d (command.Watches (watches_line.WaitUntil set until)) found
 awaits_until d set until idle None there v follows = waits_for_no_until d idle v follows set until there
 awaits_until d set until idle (Some found) there v follows = waits_for_until d idle v follows set until found.0 found.1 there
 
-module _ (d : Desk) (w : WatchesCommand) (found : Option (List Member × Option HeldWatch)) (idle : is_writing d.«open» ≡ false) where
+module _ (d : SessionState) (w : WatchesCommand) (found : Option (List Member × Option HeldWatch)) (idle : is_writing d.«open» ≡ false) where
   pub wait_awaits : (set : Bytes) → w ≡ watches_line.Wait set → found ≡ awaited_in d.watching set None → Awaits d (command.Watches w) found
   wait_awaits set is there = subst (λ (x : WatchesCommand). Awaits d (command.Watches x) found) (sym is) (awaits_set d set idle found (sym there))
 
@@ -167,13 +167,13 @@ no_wait (command.Watches (watches_line.AddLimit set limit name other)) wait unti
 no_wait (command.Watches (watches_line.Wait set)) wait until v = absurd (wait set refl)
 no_wait (command.Watches (watches_line.WaitUntil set until)) wait cancels v = absurd (cancels set until refl)
 
-pub other_awaits : (d : Desk) (c : Command) → ((set : Bytes) → c ≡ command.Watches (watches_line.Wait set) → ⊥) → ((set until : Bytes) → c ≡ command.Watches (watches_line.WaitUntil set until) → ⊥) → Awaits d c None
+pub other_awaits : (d : SessionState) (c : Command) → ((set : Bytes) → c ≡ command.Watches (watches_line.Wait set) → ⊥) → ((set until : Bytes) → c ≡ command.Watches (watches_line.WaitUntil set until) → ⊥) → Awaits d c None
 other_awaits d c wait until v follows = ([], no_wait c wait until v)
 
 -- ---- a session
 
--- what the desk waits for at a line, by what the client knows there
-waits_at : (s : Progress) (at : IsAtLine s) (d : Desk) (found : Option (List Member × Option HeldWatch)) → caller_of d.«open» ≡ s.caller → (let l = at.line in AwaitsFor d l.command (client_at s at) found) → TellsWait s found
+-- what the session's state waits for at a line, by what the client knows there
+waits_at : (s : Progress) (at : IsAtLine s) (d : SessionState) (found : Option (List Member × Option HeldWatch)) → caller_of d.«open» ≡ s.caller → (let l = at.line in AwaitsFor d l.command (client_at s at) found) → TellsWait s found
 waits_at s at d None is none = inr (inr (record { at = at; rule = none.0; judged = none.1 }))
 waits_at s at d (Some found) is some = record {
   at = at;
@@ -182,12 +182,12 @@ waits_at s at d (Some found) is some = record {
   watches = subst (λ (p : Caller). AreWatchesOf p some.0 (with_until (watches_of found.0) found.1)) is some.2;
 }
 
--- what its desk waits for at the next line
-module _ (s : Progress) (client : ℕ) (script : List Line) (desk : Option Desk) (n : ℕ) (t : Transcript) (failed : Bool) (view_is : progress_of client script desk n t failed ≡ s) (h : HasDone script desk n t failed) where
-  pub tells_awaited : (d : Desk) (l : Line) → failed ≡ false → desk ≡ Some d → slice_get script n ≡ Some l → (found : Option (List Member × Option HeldWatch)) → Awaits d l.command found → TellsWait s found
+-- what its state waits for at the next line
+module _ (s : Progress) (client : ℕ) (script : List Line) (state : Option SessionState) (n : ℕ) (t : Transcript) (failed : Bool) (view_is : progress_of client script state n t failed ≡ s) (h : HasDone script state n t failed) where
+  pub tells_awaited : (d : SessionState) (l : Line) → failed ≡ false → state ≡ Some d → slice_get script n ≡ Some l → (found : Option (List Member × Option HeldWatch)) → Awaits d l.command found → TellsWait s found
   unfolding are_told
   tells_awaited d l ok is there found awaits =
-      let x = progress_of client script desk n t failed in
+      let x = progress_of client script state n t failed in
       let more = slice_get_within script n l there in
       let at : IsAtLine x = record { replies = h.replies; told = are_told x h.replies h.client h.runs h.written h.counted h.made; line = l; next = there } in
       subst (λ (y : Progress). TellsWait y found) view_is (waits_at x at d found (sym (ap caller_in is)) (awaits h.client (h.follows ok more d is)))

@@ -14,7 +14,7 @@ use Rattle.mem_txn.specs.CellHistory.{cell_at}
 use Rattle.mem_txn.specs.Checked.{IdsTellCells, IsHeldBy}
 use Rattle.mem_txn.specs.Database.{Caller, cells_seen}
 use Rattle.mem_txn.specs.Held.{HeldWatch}
-use Rattle.mem_txn.specs.inner.Looks.{IsAsked}
+use Rattle.mem_txn.specs.AskedSpots.{IsAsked}
 use Rattle.mem_txn.proofs.HeldAlong.{held_asked}
 use Rattle.watch_set.specs.Members.{AreHeldBy, Member, cell_id, has_cell, watches_of}
 use Rattle.client_script.specs.Watching.{AreOfOneIndex}

@@ -18,7 +18,7 @@ use Rattle.mem_txn.specs.Database.{Caller, cells_seen}
 use Rattle.mem_txn.specs.Held.{HeldWatch}
 use Rattle.mem_txn.proofs.HeldAlong.{length_longer, state_longer}
 use Rattle.client_script.proofs.LongerHistory.{answered_within, answers_longer, start_within}
-use Rattle.client_script.specs.inner.Within.{IsWithin}
+use Rattle.client_script.specs.Within.{IsWithin}
 use Rattle.client_script.specs.Client.{Client, Watch, WatchSet, at_start}
 use Rattle.client_script.specs.Reply.{Reply, fired_at, refused, sized, stopped_at, woken_by}
 use Rattle.client_script.specs.Session.{Answers, Runs}

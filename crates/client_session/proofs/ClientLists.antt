@@ -3,12 +3,12 @@ use Rattle.std.proofs.Common.{arith, ap, refl, ◌∙◌, ◌≡◌, subst, sym,
 use Rattle.std.proofs.lemmas.List.{append-nil, append_assoc, length-append}
 use Rattle.client_script.specs.declared.line.Line.{Line}
 use Rattle.client_session.specs.Answered.{IsLater}
-use Rattle.client_session.specs.Clients.{AreLater, begun_each, callers_back}
+use Rattle.client_session.specs.Clients.{AreLater, new_sessions, callers_back}
 use Rattle.client_session.specs.Progress.{Progress}
 use Rattle.mem_txn.proofs.OneHistory.{later_itself}
 use Rattle.mem_txn.specs.Database.{AreOf, Caller, Callers, Database, IsOf}
 
--- ---- sessions that aren't begun are as before
+-- ---- sessions that are still new are as before
 
 later_self : (p : Caller) → IsLater p p
 later_self p = record {
@@ -36,12 +36,12 @@ no_more : {A : Type 0} (xs : List A) → None ≡ slice_get xs 0 → xs ≡ []
 no_more [] e = refl
 no_more (x ∷ xs) e = cc
 
-no_begun : (ps : List Caller) (ss : List (List Line)) → ss ≡ [] → begun_each ps ss ≡ []
-no_begun [] ss none = refl
-no_begun (p ∷ ps) ss none = ap (begun_each (p ∷ ps)) none
+no_sessions : (ps : List Caller) (ss : List (List Line)) → ss ≡ [] → new_sessions ps ss ≡ []
+no_sessions [] ss none = refl
+no_sessions (p ∷ ps) ss none = ap (new_sessions (p ∷ ps)) none
 
-pub all_begun : (items whole : List Progress) (ps : List Caller) (ss : List (List Line)) → None ≡ slice_get ss 0 → items ++ begun_each ps ss ≡ whole → items ≡ whole
-all_begun items whole ps ss last so_far = sym (append-nil items) ∙ ap (λ (xs : List Progress). items ++ xs) (sym (no_begun ps ss (no_more ss last))) ∙ so_far
+pub all_sessions : (items whole : List Progress) (ps : List Caller) (ss : List (List Line)) → None ≡ slice_get ss 0 → items ++ new_sessions ps ss ≡ whole → items ≡ whole
+all_sessions items whole ps ss last so_far = sym (append-nil items) ∙ ap (λ (xs : List Progress). items ++ xs) (sym (no_sessions ps ss (no_more ss last))) ∙ so_far
 
 -- the passes that are left then
 pub rest_left : (rest : Callers) (ss : List (List Line)) (made : ℕ) (left : List Caller) → None ≡ slice_get ss 0 → drop (length ss) rest.passes ≡ left → rest.made ≡ made → rest ≡ record { passes = left; made = made }

@@ -9,7 +9,7 @@ use Rattle.mem_txn.specs.CellHistory.{CellHistory, cell_at}
 use Rattle.mem_txn.specs.Checked.{IdsTellCells, IsHeldBy}
 use Rattle.mem_txn.specs.Database.{Caller, cells_seen}
 use Rattle.mem_txn.specs.Held.{HeldWatch}
-use Rattle.watch_set.specs.Members.{AreDistinct, AreHeldBy, Member, cell_id, has_cell, watches_of}
+use Rattle.watch_set.specs.Members.{HaveDistinctCells, AreHeldBy, Member, cell_id, has_cell, watches_of}
 use Rattle.client_script.specs.Client.{Watch, WatchSet}
 use Rattle.client_script.specs.Watching.{AreOfOneIndex}
 use Rattle.client_session.specs.Cells.{AreOfOneCell, AreOfOtherCells, HasCell, HasEachCellOnce}
@@ -44,7 +44,7 @@ module _ (p : Caller) where
       ap (λ (d : Cell). d.id) (cell ∙ sym twin)
 
   -- so members that watch cells of other ids have other cells
-  others : (ms : List Member) → AreDistinct ms → AreHeldBy p (watches_of ms) → AreOfOtherCells J (map member_of ms)
+  others : (ms : List Member) → HaveDistinctCells ms → AreHeldBy p (watches_of ms) → AreOfOtherCells J (map member_of ms)
   others [] distinct held = tt
   others (m ∷ ms) distinct held = (
     λ x within one.
@@ -83,7 +83,7 @@ module _ (p : Caller) where
           },
         )
 
-    pub each_once : (s : WatchSet) → IsSet p ms s → AreDistinct ms → HasEachCellOnce (cells_seen p) s
+    pub each_once : (s : WatchSet) → IsSet p ms s → HaveDistinctCells ms → HasEachCellOnce (cells_seen p) s
     each_once s is distinct = record {
       some = is.some;
       all = λ w within.

@@ -1,4 +1,4 @@
--- What a client knows fits the desk once its caller has seen more.
+-- What a client knows fits its session's state once its caller has seen more.
 use Rattle.std.proofs.Common.{arith, ◌≡◌, refl, ap, subst, sym, ◌∙◌, ℕ, ◌≤◌, List, [], ◌∷◌, ◌++◌, length, Option, Some, None}
 use Rattle.std.specs.Prelude.{option_map, if◌then◌else◌, Bool, true, false}
 use Rattle.std.specs.BTreeMap.{get_by_text}
@@ -9,17 +9,17 @@ use Rattle.mdb_schema.specs.History.{History}
 use Rattle.mem_txn.proofs.SeenBegins.{begins_twice}
 use Rattle.mem_txn.specs.Checked.{IsBeginning}
 use Rattle.mem_txn.specs.Database.{Caller, Reading, View}
-use Rattle.client_script.specs.inner.Within.{AllWithin, IsWithin, StandsWithin}
+use Rattle.client_script.specs.Within.{AllWithin, IsWithin, StandsWithin}
 use Rattle.client_script.specs.Client.{Client, Sight, Snapshot, Transaction, closed, reading, snapshot_named, state_seen, writing}
 use Rattle.client_session.proofs.HeldOn.{holds_longer, knows_longer}
 use Rattle.client_session.proofs.OpenTurns.{beginning_later}
-use Rattle.client_session.specs.declared.desk.Desk.{Desk}
-use Rattle.client_session.specs.declared.kept.Kept.{Kept}
-use Rattle.client_session.specs.declared.kept.Kept.TheVariants as kept
+use Rattle.client_session.specs.declared.session_state.SessionState.{SessionState}
+use Rattle.client_session.specs.declared.any_snapshot.AnySnapshot.{AnySnapshot}
+use Rattle.client_session.specs.declared.any_snapshot.AnySnapshot.TheVariants as kinds
 use Rattle.client_session.specs.declared.named.Named.{Named}
 use Rattle.client_session.specs.declared.«open».Open.TheVariants as opens
-use Rattle.client_session.specs.inner.DeskView.{Follows, IsKeptOf, view_of}
-use Rattle.client_session.specs.inner.KeptView.{seen_in}
+use Rattle.client_session.specs.inner.StateView.{Follows, IsSnapshotOf, view_of}
+use Rattle.client_session.specs.inner.SnapshotView.{seen_in}
 use Rattle.client_session.specs.inner.OpenView.{Looks, Stands, WasRead, caller_of, transaction_of}
 use Rattle.client_session.specs.inner.WatchingView.{Holds, IsReadBy, Knows}
 use Rattle.client_script.proofs.LongerHistory.{seen_longer}
@@ -63,12 +63,12 @@ read_by_longer : (p q : Caller) (r : Reading) (s : Sight) → IsBeginning p q �
 read_by_longer p q r s more by = record { committed = by.committed; writes = by.writes; number = by.number; read = was_read_longer p q r more by.read }
 
 -- a snapshot is still of what was read
-kept_longer : (p q : Caller) (k : Option Kept) (s : Option Sight) → IsBeginning p q → IsKeptOf p k s → IsKeptOf q k s
-kept_longer p q None None more is = tt
-kept_longer p q None (Some s) more is = absurd is
-kept_longer p q (Some k) None more is = absurd is
-kept_longer p q (Some (kept.Committed r)) (Some s) more is = read_by_longer p q r s more is
-kept_longer p q (Some (kept.Uncommitted view)) (Some s) more is = is
+snapshot_longer : (p q : Caller) (k : Option AnySnapshot) (s : Option Sight) → IsBeginning p q → IsSnapshotOf p k s → IsSnapshotOf q k s
+snapshot_longer p q None None more is = tt
+snapshot_longer p q None (Some s) more is = absurd is
+snapshot_longer p q (Some k) None more is = absurd is
+snapshot_longer p q (Some (kinds.Committed r)) (Some s) more is = read_by_longer p q r s more is
+snapshot_longer p q (Some (kinds.Uncommitted view)) (Some s) more is = is
 
 -- a read transaction stands as before
 pub reading_longer : (p q : Caller) (txn : Reading) → IsBeginning p q → Stands (opens.Reading p txn) → Stands (opens.Reading q txn)
@@ -84,19 +84,19 @@ reading_longer p q txn more stands =
 -- ---- what a client knows
 
 -- what is watched is known and held as before
-pub knows_on : (d d' : Desk) (v next : Client) → IsBeginning (caller_of d.«open») (caller_of d'.«open») → d'.watching ≡ d.watching → next.watching ≡ v.watching → Knows (caller_of d.«open») d.watching v.watching → Knows (caller_of d'.«open») d'.watching next.watching
+pub knows_on : (d d' : SessionState) (v next : Client) → IsBeginning (caller_of d.«open») (caller_of d'.«open») → d'.watching ≡ d.watching → next.watching ≡ v.watching → Knows (caller_of d.«open») d.watching v.watching → Knows (caller_of d'.«open») d'.watching next.watching
 knows_on d d' v next more same known knows =
     let q = caller_of d'.«open» in
     subst (λ g. Knows q g next.watching) (sym same)
     (subst (λ k. Knows q d.watching k) (sym known) (knows_longer (caller_of d.«open») q d.watching v.watching more knows))
 
-pub holds_on : (d d' : Desk) → IsBeginning (caller_of d.«open») (caller_of d'.«open») → d'.watching ≡ d.watching → Holds (caller_of d.«open») d.watching → Holds (caller_of d'.«open») d'.watching
+pub holds_on : (d d' : SessionState) → IsBeginning (caller_of d.«open») (caller_of d'.«open») → d'.watching ≡ d.watching → Holds (caller_of d.«open») d.watching → Holds (caller_of d'.«open») d'.watching
 holds_on d d' more same holds =
     let q = caller_of d'.«open» in
     subst (λ g. Holds q g) (sym same) (holds_longer (caller_of d.«open») q d.watching more holds)
 
 -- a client that knows of another transaction and of other watches
-pub follows_then : (d d' : Desk) (v next : Client) → IsBeginning (caller_of d.«open») (caller_of d'.«open») → next.transaction ≡ transaction_of d'.«open» → next.last ≤ length (caller_of d'.«open»).seen → IsWithin (length (caller_of d'.«open»).seen) next → next.snapshots ≡ v.snapshots → d'.snapshots ≡ d.snapshots → Knows (caller_of d'.«open») d'.watching next.watching → Holds (caller_of d'.«open») d'.watching → Stands d'.«open» → Follows d v → Follows d' next
+pub follows_then : (d d' : SessionState) (v next : Client) → IsBeginning (caller_of d.«open») (caller_of d'.«open») → next.transaction ≡ transaction_of d'.«open» → next.last ≤ length (caller_of d'.«open»).seen → IsWithin (length (caller_of d'.«open»).seen) next → next.snapshots ≡ v.snapshots → d'.snapshots ≡ d.snapshots → Knows (caller_of d'.«open») d'.watching next.watching → Holds (caller_of d'.«open») d'.watching → Stands d'.«open» → Follows d v → Follows d' next
 follows_then d d' v next more transaction last within named same knows holds stands follows =
     let p = caller_of d.«open» in
     let q = caller_of d'.«open» in
@@ -110,16 +110,16 @@ follows_then d d' v next more transaction last within named same knows holds sta
           ∙ sym (views_more p q more.seen.0 name v.snapshots more.schema more.seen.1 follows.within.snapshots)
           ∙ ap (λ ss. option_map (view_of q) (snapshot_named name ss)) (sym named);
       kept = λ name.
-          subst (λ (s : Named _). IsKeptOf q (get_by_text s.kept name) (snapshot_named name next.snapshots)) (sym same)
-          (subst (λ ss. IsKeptOf q (get_by_text d.snapshots.kept name) (snapshot_named name ss)) (sym named)
-          (kept_longer p q (get_by_text d.snapshots.kept name) (snapshot_named name v.snapshots) more (follows.kept name)));
+          subst (λ (s : Named _). IsSnapshotOf q (get_by_text s.kept name) (snapshot_named name next.snapshots)) (sym same)
+          (subst (λ ss. IsSnapshotOf q (get_by_text d.snapshots.kept name) (snapshot_named name ss)) (sym named)
+          (snapshot_longer p q (get_by_text d.snapshots.kept name) (snapshot_named name v.snapshots) more (follows.kept name)));
       knows = knows;
       holds = holds;
       stands = stands;
     }
 
 -- a client's knowledge fits a caller that has seen more
-pub follows_longer : (d at : Desk) (v : Client) → Looks d.«open» at.«open» → at.snapshots ≡ d.snapshots → at.watching ≡ d.watching → Follows d v → Follows at v
+pub follows_longer : (d at : SessionState) (v : Client) → Looks d.«open» at.«open» → at.snapshots ≡ d.snapshots → at.watching ≡ d.watching → Follows d v → Follows at v
 follows_longer d at v looks same watching follows =
     let p = caller_of d.«open» in
     let q = caller_of at.«open» in

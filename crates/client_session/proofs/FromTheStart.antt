@@ -11,7 +11,7 @@ use Rattle.client_script.specs.Session.{Runs, Session}
 use Rattle.client_script.specs.declared.line.Line.{Line}
 use Rattle.client_session.specs.Answered.{AreRising, HasAnswered, IsLater, commit_at}
 use Rattle.client_session.specs.Counts.{AreAmong, counts_told}
-use Rattle.client_session.specs.Progress.{Progress, begun}
+use Rattle.client_session.specs.Progress.{Progress, new_session}
 
 -- the replies to a whole script, all of which were told since this pass
 pub record HasToldAll (script : List Line) (old : Caller) (t : Progress) : Type 0 where
@@ -60,5 +60,5 @@ told_from_the_start s t start same all h =
     }
 
 -- so of a new session
-pub told_from_new : (client : ℕ) (script : List Line) (caller : Caller) (t : Progress) → t.script ≡ script → t.answered ≡ length script → HasAnswered (begun client script caller) t → HasToldAll script caller t
-told_from_new client script caller t same all h = told_from_the_start (begun client script caller) t refl same all h
+pub told_from_new : (client : ℕ) (script : List Line) (caller : Caller) (t : Progress) → t.script ≡ script → t.answered ≡ length script → HasAnswered (new_session client script caller) t → HasToldAll script caller t
+told_from_new client script caller t same all h = told_from_the_start (new_session client script caller) t refl same all h

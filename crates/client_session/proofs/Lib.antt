@@ -2,13 +2,13 @@ mod AwaitedLines
 mod CellsOfSets
 mod CellsTold
 pub mod ClientLists
-mod DeskTurns
+mod StateTurns
 mod EachCellOnce
 mod FollowsOn
 mod FromTheStart
 mod HeldOn
 mod IndexPlaces
-mod KeptSteps
+mod SnapshotSteps
 mod LooksTold
 mod MadeSoFar
 pub mod ManyClients

@@ -6,12 +6,12 @@ use Rattle.mem_txn.specs.CellHistory.{CellHistory}
 use Rattle.mem_txn.specs.Database.{Caller, cells_seen}
 use Rattle.client_script.specs.Client.{Client, at_start}
 use Rattle.client_script.specs.Legal.{number_printed, printed}
-use Rattle.client_script.specs.Reply.{Reply, read_at, write_at, ended, committed, aborted, inserted, replaced, deleted, wiped, deferred, answered, kept_at, kept_within, quiet_at, fired_at, sized, woken_by, stopped_at, refused}
+use Rattle.client_script.specs.Reply.{Reply, read_at, write_at, ended, committed, aborted, inserted, replaced, deleted, wiped, deferred, answered, snapshot_at, snapshot_within, quiet_at, fired_at, sized, woken_by, stopped_at, refused}
 use Rattle.client_script.specs.declared.line.Line.{Line}
 use Rattle.client_session.proofs.OneMoreLine.{rising_wider, told_longer}
 use Rattle.client_session.specs.Answered.{AreMade, AreRising, IsLater, commit_at}
 use Rattle.client_session.specs.Cells.{RunsByCells}
-use Rattle.client_session.specs.declared.desk.Desk.{Desk}
+use Rattle.client_session.specs.declared.session_state.SessionState.{SessionState}
 use Rattle.client_session.specs.inner.Carried.{CarriedOn}
 use Rattle.client_session.specs.inner.OpenView.{caller_of}
 use Rattle.client_session.specs.inner.Transcript.{Transcript}
@@ -34,8 +34,8 @@ one_at_most deleted = omega arith
 one_at_most (wiped k) = omega arith
 one_at_most deferred = omega arith
 one_at_most (answered a) = omega arith
-one_at_most (kept_at n) = omega arith
-one_at_most (kept_within n) = omega arith
+one_at_most (snapshot_at n) = omega arith
+one_at_most (snapshot_within n) = omega arith
 one_at_most (quiet_at n) = omega arith
 one_at_most (fired_at n) = omega arith
 one_at_most (sized k) = omega arith
@@ -65,7 +65,7 @@ room_for_one J n script at count rs end runs counted within few =
     let taken = length-take-le at script within in
     omega (arith, counted, printed_few, lines, taken, few)
 
-pub room_carried : (pass : Caller) (script : List Line) (from at : ℕ) (old : Transcript) (d : Desk) (t : Transcript) → CarriedOn pass script from at old d t → at ≤ length script → at + 1 < 2 ^ 64 → t.commits + 1 < 2 ^ 64
+pub room_carried : (pass : Caller) (script : List Line) (from at : ℕ) (old : Transcript) (d : SessionState) (t : Transcript) → CarriedOn pass script from at old d t → at ≤ length script → at + 1 < 2 ^ 64 → t.commits + 1 < 2 ^ 64
 room_carried pass script from at old d t on within few =
     let c = on.carried in
     room_for_one (cells_seen (caller_of d.«open»)) pass.number script at t.commits (on.before.replies ++ c.replies) c.client c.runs c.counted within few

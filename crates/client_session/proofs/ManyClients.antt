@@ -21,8 +21,9 @@ use Rattle.client_script.specs.declared.line.Line.{Line}
 use Rattle.client_session.proofs.FromTheStart.{told_from_new}
 use Rattle.client_session.proofs.PlacesByCaller.{AreAmong, all_counted, by_callers, places, places_are}
 use Rattle.client_session.specs.Answered.{AreRising, HasAnswered, IsLater, commit_at}
-use Rattle.client_session.specs.Clients.{AreLater, AreOpened, ArePassesLater, AreReady, TellOwn, begun_each, callers_back, headed}
-use Rattle.client_session.specs.Progress.{Progress, begun}
+use Rattle.client_session.specs.Clients.{AreLater, AreOpened, ArePassesLater, AreReady, TellOwn, new_sessions, callers_back, headed}
+use Rattle.client_session.specs.Progress.{Progress, new_session}
+use Rattle.client_session.proofs.OneMoreLine.{rising_wider}
 
 -- ---- the passes of a new database
 
@@ -71,25 +72,25 @@ rest_from db opening k further (s ∷ ss) =
 -- ---- the sessions before and behind their run
 
 -- those of a new database, numbered from k
-abbrev pub begun_from : Database → Forest → ℕ → List (List Line) → List Progress
-begun_from db opening k scripts = begun_each (passes_from db opening k (length scripts)) scripts
+abbrev pub sessions_from : Database → Forest → ℕ → List (List Line) → List Progress
+sessions_from db opening k scripts = new_sessions (passes_from db opening k (length scripts)) scripts
 
-first_begun : (db : Database) (opening : Forest) (k further : ℕ) (scripts : List (List Line)) → begun_each (passes_from db opening k (length scripts + further)) scripts ≡ begun_from db opening k scripts
-first_begun db opening k further [] = none (passes_from db opening k (0 + further))
+first_sessions : (db : Database) (opening : Forest) (k further : ℕ) (scripts : List (List Line)) → new_sessions (passes_from db opening k (length scripts + further)) scripts ≡ sessions_from db opening k scripts
+first_sessions db opening k further [] = none (passes_from db opening k (0 + further))
   where
-    none : (ps : List Caller) → begun_each ps [] ≡ []
+    none : (ps : List Caller) → new_sessions ps [] ≡ []
     none [] = refl
     none (p ∷ ps) = refl
-first_begun db opening k further (s ∷ ss) =
+first_sessions db opening k further (s ∷ ss) =
     let more : suc (length ss) + further ≡ suc (length ss + further) = omega arith in
-    ap (λ (n : ℕ). begun_each (passes_from db opening k n) (s ∷ ss)) more
-    ∙ ap (λ (ts : List Progress). begun k s (new_pass db opening k) ∷ ts) (first_begun db opening (k + 1) further ss)
+    ap (λ (n : ℕ). new_sessions (passes_from db opening k n) (s ∷ ss)) more
+    ∙ ap (λ (ts : List Progress). new_session k s (new_pass db opening k) ∷ ts) (first_sessions db opening (k + 1) further ss)
 
-ready_from : (db : Database) (opening : Forest) (k : ℕ) (scripts : List (List Line)) → AreReady db (begun_from db opening k scripts)
+ready_from : (db : Database) (opening : Forest) (k : ℕ) (scripts : List (List Line)) → AreReady db (sessions_from db opening k scripts)
 ready_from db opening k [] = tt
 ready_from db opening k (s ∷ ss) = ((refl, refl, refl), ready_from db opening (k + 1) ss)
 
-long_from : (db : Database) (opening : Forest) (k : ℕ) (scripts : List (List Line)) → length (begun_from db opening k scripts) ≡ length scripts
+long_from : (db : Database) (opening : Forest) (k : ℕ) (scripts : List (List Line)) → length (sessions_from db opening k scripts) ≡ length scripts
 long_from db opening k [] = refl
 long_from db opening k (s ∷ ss) = ap suc (long_from db opening (k + 1) ss)
 
@@ -145,7 +146,7 @@ has_right : (c : ℕ) (ps qs : List Caller) → HasPass c qs → HasPass c (ps +
 has_right c [] qs h = h
 has_right c (p ∷ ps) qs h = inr (has_right c ps qs h)
 
-has_back : (db : Database) (opening : Forest) (k : ℕ) (scripts : List (List Line)) (ts : List Progress) → AreLater (begun_from db opening k scripts) ts
+has_back : (db : Database) (opening : Forest) (k : ℕ) (scripts : List (List Line)) (ts : List Progress) → AreLater (sessions_from db opening k scripts) ts
     → (c : ℕ) → k ≤ c → c < k + length scripts → HasPass c (callers_back ts)
 has_back db opening k [] ts l c low high = absurd (omega (arith, low, high))
 has_back db opening k (s ∷ ss) [] l c low high = absurd l
@@ -204,7 +205,7 @@ module _ (db : Database) (opening : Forest) (k : ℕ) (script : List Line) (t : 
   pub lines_are : answered_lines t ≡ script
   lines_are = ap (take t.answered) same ∙ ap (λ (n : ℕ). take n script) all ∙ take-length script
 
-  pub answered_is_told : HasAnswered (begun k script (new_pass db opening k)) t → TellsAllMade db.schema k t
+  pub answered_is_told : HasAnswered (new_session k script (new_pass db opening k)) t → TellsAllMade db.schema k t
   answered_is_told h =
       let told = told_from_new k script (new_pass db opening k) t same all h in
       record {
@@ -226,10 +227,6 @@ get_front (c ∷ H) more (suc n) less = get_front H more n (omega (arith, less))
 rising_long : (low high : ℕ) (ms : List ℕ) → AreRising low ms high → low ≤ high
 rising_long low high [] r = r
 rising_long low high (m ∷ ms) r = let a = r.0 in let b = rising_long m high ms r.1 in omega (arith, a, b)
-
-rising_more : (low high top : ℕ) (ms : List ℕ) → high ≤ top → AreRising low ms high → AreRising low ms top
-rising_more low high top [] le r = omega (arith, le, r)
-rising_more low high top (m ∷ ms) le r = (r.0, rising_more m high top ms le r.1)
 
 same_commits : (H more : History) (low : ℕ) (ms : List ℕ) → AreRising low ms (length H) → map (commit_at (H ++ more)) ms ≡ map (commit_at H) ms
 same_commits H more low [] r = refl
@@ -260,7 +257,7 @@ module _ (schema : DbSchema) (H : History) (k : ℕ) (t : Progress) (own : commi
       let ms = printed h.replies in
       let long = length-append p.seen seen.0 in
       let all = ap length seen.1 in
-      let rising : AreRising 0 ms (length H) = rising_more 0 (length p.seen) (length H) ms (omega (arith, long, all)) h.rising in
+      let rising : AreRising 0 ms (length H) = rising_wider 0 (length p.seen) (length H) ms (omega (arith, long, all)) h.rising in
       places_are (λ (c : Commit). caller_of c == k) H ms rising own_told
 
   session_in : Session schema H k (answered_lines t) h.replies
@@ -337,8 +334,8 @@ module _ (db : Database) (scripts : List (List Line)) (further : ℕ) (left : Ca
   all_from : opened.all.passes ≡ passes_from db opened.opening 1 (length scripts + further)
   all_from = ap (λ (c : Callers). c.passes) opened.are_all ∙ from_first db opened.opening (length scripts + further)
 
-  pub items_are : items ≡ begun_from db opened.opening 1 scripts
-  items_are = opened.sessions ∙ ap (λ (ps : List Caller). begun_each ps scripts) all_from ∙ first_begun db opened.opening 1 further scripts
+  pub items_are : items ≡ sessions_from db opened.opening 1 scripts
+  items_are = opened.sessions ∙ ap (λ (ps : List Caller). new_sessions ps scripts) all_from ∙ first_sessions db opened.opening 1 further scripts
 
   pub left_are : left.passes ≡ passes_from db opened.opening (1 + length scripts) further
   left_are = ap (λ (c : Callers). c.passes) opened.rest ∙ ap (drop (length scripts)) all_from ∙ rest_from db opened.opening 1 further scripts
@@ -354,7 +351,7 @@ module _ (db : Database) (scripts : List (List Line)) (further : ℕ) (left : Ca
 
   -- behind their run
   module _ (ts : List Progress) (later : AreLater items ts) where
-    pub later_from : AreLater (begun_from db opened.opening 1 scripts) ts
+    pub later_from : AreLater (sessions_from db opened.opening 1 scripts) ts
     later_from = subst (λ (ss : List Progress). AreLater ss ts) items_are later
 
     pub as_many_after : length ts ≡ length scripts

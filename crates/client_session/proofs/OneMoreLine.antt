@@ -27,14 +27,14 @@ use Rattle.client_session.proofs.FollowsOn.{follows_longer}
 use Rattle.client_session.proofs.OpenTurns.{beginning_later, later_self}
 use Rattle.client_session.specs.Cells.{RunsByCells}
 use Rattle.client_session.specs.Answered.{AreRising, IsLater, IsUntold, commit_at}
-use Rattle.client_session.specs.declared.desk.Desk.{Desk}
+use Rattle.client_session.specs.declared.session_state.SessionState.{SessionState}
 use Rattle.client_session.specs.declared.open.Open.TheVariants as opens
-use Rattle.client_session.specs.declared.kept.Kept.{Kept}
+use Rattle.client_session.specs.declared.any_snapshot.AnySnapshot.{AnySnapshot}
 use Rattle.client_session.specs.declared.named.Named.{Named}
 use Rattle.client_session.specs.declared.watching.Watching.{Watching}
-use Rattle.client_session.specs.inner.KeptView.{kept_view}
+use Rattle.client_session.specs.inner.SnapshotView.{snapshot_view}
 use Rattle.client_session.specs.inner.Carried.{Adds, AddsSome, AnswersLine, Carried, CarriedOn, CarriesOut, IsOfCommit, SoFar, Stops, StopsLine}
-use Rattle.client_session.specs.inner.DeskView.{Follows, IsKeptOf, Replied}
+use Rattle.client_session.specs.inner.StateView.{Follows, IsSnapshotOf, Replied}
 use Rattle.client_session.specs.inner.OpenView.{Looks, caller_of, transaction_of, made}
 use Rattle.client_session.specs.inner.Transcript.{Transcript}
 use Rattle.client_session.specs.inner.WatchingView.{Holds, Knows}
@@ -135,7 +135,7 @@ later_again p q r one two = record {
   log = (two.log.0 ∙ one.log.0, prefix_twice p.log.fired q.log.fired r.log.fired one.log.1 two.log.1);
 }
 
-module _ (pass : Caller) (before : List Reply) (done : List Line) (d at : Desk) (now : Transcript) (carried : Carried pass before done d now) (looks : Looks d.«open» at.«open») (same : at.snapshots ≡ d.snapshots) (watching : at.watching ≡ d.watching) where
+module _ (pass : Caller) (before : List Reply) (done : List Line) (d at : SessionState) (now : Transcript) (carried : Carried pass before done d now) (looks : Looks d.«open» at.«open») (same : at.snapshots ≡ d.snapshots) (watching : at.watching ≡ d.watching) where
   old : Caller
   old = caller_of d.«open»
 
@@ -168,7 +168,7 @@ module _ (pass : Caller) (before : List Reply) (done : List Line) (d at : Desk) 
     loads = among_more (counts_told carried.replies) carried.read looks.read carried.loads;
   }
 
-module _ (pass : Caller) (before : List Reply) (done : List Line) (d d' : Desk) (now after : Transcript) (l : Line) (r : Reply) (carried : Carried pass before done d now) (step : Replied l.command d d' r carried.client) (written : after.text ≡ now.text ++ line_text l.number r) (counted : after.commits ≡ now.commits + length (number_printed r)) (loads : AreAmong (counts_told carried.replies ++ count_told r) carried.read) where
+module _ (pass : Caller) (before : List Reply) (done : List Line) (d d' : SessionState) (now after : Transcript) (l : Line) (r : Reply) (carried : Carried pass before done d now) (step : Replied l.command d d' r carried.client) (written : after.text ≡ now.text ++ line_text l.number r) (counted : after.commits ≡ now.commits + length (number_printed r)) (loads : AreAmong (counts_told carried.replies ++ count_told r) carried.read) where
   p : Caller
   p = caller_of d.«open»
 
@@ -259,21 +259,21 @@ module _ (pass : Caller) (before : List Reply) (done : List Line) (d d' : Desk) 
 
 -- ---- the loop over the lines
 
--- a desk at the start of a session
-pub first : (pass : Caller) (snaps : Named Kept) (g : Watching) → ((name : Bytes) → get_by_text snaps.kept name ≡ None) → Knows pass g nothing_watched → Holds pass g → Follows (record { «open» = opens.Nothing pass; snapshots = snaps; watching = g }) at_start
+-- a state at the start of a session
+pub first : (pass : Caller) (snaps : Named AnySnapshot) (g : Watching) → ((name : Bytes) → get_by_text snaps.kept name ≡ None) → Knows pass g nothing_watched → Holds pass g → Follows (record { «open» = opens.Nothing pass; snapshots = snaps; watching = g }) at_start
 first pass snaps g none knows holds = record {
   transaction = refl;
   last = search (arith);
   within = start_within (length pass.seen);
-  snapshots = λ name. ap (option_map kept_view) (none name);
-  kept = λ name. subst (λ (k : Option Kept). IsKeptOf pass k None) (sym (none name)) tt;
+  snapshots = λ name. ap (option_map snapshot_view) (none name);
+  kept = λ name. subst (λ (k : Option AnySnapshot). IsSnapshotOf pass k None) (sym (none name)) tt;
   knows = knows;
   holds = holds;
   stands = tt;
 }
 
 -- nothing is carried out yet of what is left
-pub from_here : (script : List Line) (at : ℕ) (d : Desk) (text : Transcript) → SoFar script at d text → CarriedOn (caller_of d.«open») script at at text d text
+pub from_here : (script : List Line) (at : ℕ) (d : SessionState) (text : Transcript) → SoFar script at d text → CarriedOn (caller_of d.«open») script at at text d text
 from_here script at d text so_far =
     let pass = caller_of d.«open» in
     let none : so_far.replies ≡ so_far.replies ++ [] = sym (append-nil so_far.replies) in
@@ -300,14 +300,14 @@ from_here script at d text so_far =
 one_more_is : (n : ℕ) → n + 1 ≡ suc n
 one_more_is n = search (arith)
 
-line_more : (pass : Caller) (before : List Reply) (done : List Line) (d d' : Desk) (now after : Transcript) (l : Line) → Carried pass before done d now → AnswersLine l d d' now after → Carried pass before (done ++ l ∷ []) d' after
+line_more : (pass : Caller) (before : List Reply) (done : List Line) (d d' : SessionState) (now after : Transcript) (l : Line) → Carried pass before done d now → AnswersLine l d d' now after → Carried pass before (done ++ l ∷ []) d' after
 unfolding seen_more
 line_more pass before done d d' now after l carried line =
     let more = seen_more pass before done d line.replies.at now carried line.replies.looks line.replies.snapshots line.replies.watching in
     one_more pass before done line.replies.at d' now after l line.reply more (line.replies.replied carried.client carried.follows more.follows) line.written line.counted
     (among_append (counts_told carried.replies) (count_told line.reply) carried.read line.replies.looks.read carried.loads (line.replies.loads carried.client more.follows))
 
-pub next : (pass : Caller) (lines : List Line) (from at : ℕ) (d d' : Desk) (text now after : Transcript) (l : Line) → slice_get lines at ≡ Some l → CarriedOn pass lines from at text d now → AnswersLine l d d' now after → CarriedOn pass lines from (at + 1) text d' after
+pub next : (pass : Caller) (lines : List Line) (from at : ℕ) (d d' : SessionState) (text now after : Transcript) (l : Line) → slice_get lines at ≡ Some l → CarriedOn pass lines from at text d now → AnswersLine l d d' now after → CarriedOn pass lines from (at + 1) text d' after
 next pass lines from at d d' text now after l there c line = record {
   before = c.before;
   carried = subst (λ (done : List Line). Carried pass c.before.replies done d' after) (grown there) (line_more pass c.before.replies (take at lines) d d' now after l c.carried line);
@@ -317,7 +317,7 @@ next pass lines from at d d' text now after l there c line = record {
     grown e = sym (ap (λ (n : ℕ). take n lines) (one_more_is at) ∙ take-suc lines at l (slice_get_within lines at l e) ∙ ap (λ (x : Line). take at lines ++ x ∷ []) (get_or_from_slice_get lines at l l e))
 
 -- what is kept when the caller has seen more
-kept_lines : (pass new : Caller) (before : List Reply) (lines : List Line) (d : Desk) (now after : Transcript) → IsLater (caller_of d.«open») new → after ≡ now → Carried pass before lines d now → Adds pass new before lines after
+kept_lines : (pass new : Caller) (before : List Reply) (lines : List Line) (d : SessionState) (now after : Transcript) → IsLater (caller_of d.«open») new → after ≡ now → Carried pass before lines d now → Adds pass new before lines after
 kept_lines pass new before lines d now after later same c =
     let p = caller_of d.«open» in
     let more = later.counts in
@@ -333,11 +333,11 @@ kept_lines pass new before lines d now after later same c =
       loads = among_more (counts_told c.replies) c.read more.0 c.loads;
     }
 
-pub kept_some : (pass new : Caller) (script : List Line) (from to : ℕ) (d : Desk) (text now after : Transcript) → IsLater (caller_of d.«open») new → after ≡ now → CarriedOn pass script from to text d now → AddsSome pass new script from to text after
+pub kept_some : (pass new : Caller) (script : List Line) (from to : ℕ) (d : SessionState) (text now after : Transcript) → IsLater (caller_of d.«open») new → after ≡ now → CarriedOn pass script from to text d now → AddsSome pass new script from to text after
 kept_some pass new script from to d text now after later same c = record { before = c.before; adds = kept_lines pass new c.before.replies (take to script) d now after later same c.carried }
 
 -- where nothing was carried out yet, the replies are those before
-pub nothing_added : (d : Desk) (new : Caller) (script : List Line) (at : ℕ) (text after : Transcript) (later : IsLater (caller_of d.«open») new) (same : after ≡ text) (so_far : SoFar script at d text)
+pub nothing_added : (d : SessionState) (new : Caller) (script : List Line) (at : ℕ) (text after : Transcript) (later : IsLater (caller_of d.«open») new) (same : after ≡ text) (so_far : SoFar script at d text)
     → (let kept = kept_some (caller_of d.«open») new script at at d text text after later same (from_here script at d text so_far) in kept.before.replies ++ kept.adds.replies ≡ so_far.replies)
 unfolding from_here kept_lines kept_some
 nothing_added d _ script at text after later same so_far = append-nil so_far.replies
@@ -348,7 +348,7 @@ untold_here script at l [] there one = tt
 untold_here script at l (c ∷ []) there one = (l, there, one)
 untold_here script at l (c ∷ d ∷ cs) there one = absurd one
 
-pub stops_here : (pass new : Caller) (script : List Line) (from at : ℕ) (d : Desk) (text now after : Transcript) (l : Line) → slice_get script at ≡ Some l → IsLater (caller_of d.«open») new → after ≡ now → StopsLine l d new → CarriedOn pass script from at text d now → Stops pass new script from at text after
+pub stops_here : (pass new : Caller) (script : List Line) (from at : ℕ) (d : SessionState) (text now after : Transcript) (l : Line) → slice_get script at ≡ Some l → IsLater (caller_of d.«open») new → after ≡ now → StopsLine l d new → CarriedOn pass script from at text d now → Stops pass new script from at text after
 unfolding kept_lines kept_some
 stops_here pass new script from at d text now after l there later same stops on =
     let c = on.carried in
@@ -370,7 +370,7 @@ pub stopped_err : (pass p back : Caller) (script : List Line) (from to : ℕ) (t
 stopped_err pass p back script from to text after r is stops = subst (λ (q : Caller). OnErr r (Stops pass q script from to text after)) (sym is) stops
 
 -- and the pass is back
-pub all_carried : (pass back : Caller) (script : List Line) (from to : ℕ) (d : Desk) (text after : Transcript) → back ≡ caller_of d.«open» → CarriedOn pass script from to text d after → CarriesOut pass back script from to text after
+pub all_carried : (pass back : Caller) (script : List Line) (from to : ℕ) (d : SessionState) (text after : Transcript) → back ≡ caller_of d.«open» → CarriedOn pass script from to text d after → CarriesOut pass back script from to text after
 all_carried pass back script from to d text after is carried = subst (λ (p : Caller). CarriesOut pass p script from to text after) (sym is) (of carried)
   where
     of : CarriedOn pass script from to text d after → CarriesOut pass (caller_of d.«open») script from to text after
@@ -387,7 +387,7 @@ all_carried pass back script from to d text after is carried = subst (λ (p : Ca
           rising = c.rising;
         }
 
-pub carried_ok : (pass back : Caller) (script : List Line) (from to : ℕ) (d : Desk) (text after : Transcript) (r : Result (Unit {0}) AllocError) → back ≡ caller_of d.«open» → OnOk r (CarriedOn pass script from to text d after) → OnOk r (CarriesOut pass back script from to text after)
+pub carried_ok : (pass back : Caller) (script : List Line) (from to : ℕ) (d : SessionState) (text after : Transcript) (r : Result (Unit {0}) AllocError) → back ≡ caller_of d.«open» → OnOk r (CarriedOn pass script from to text d after) → OnOk r (CarriesOut pass back script from to text after)
 carried_ok pass back script from to d text after (Ok x) is carried = all_carried pass back script from to d text after is carried
 carried_ok pass back script from to d text after (Err e) is carried = tt
 
@@ -396,7 +396,7 @@ pub own_later : (db : Database) (p q : Caller) → IsOf db p → IsLater p q →
 own_later db p q own later = (later.database ∙ own.0, later.schema ∙ own.1, later.book ∙ own.2)
 
 -- and holds what is watched
-pub holds_now : (pass : Caller) (script : List Line) (from at : ℕ) (d : Desk) (text now : Transcript) → CarriedOn pass script from at text d now → Holds (caller_of d.«open») d.watching
+pub holds_now : (pass : Caller) (script : List Line) (from at : ℕ) (d : SessionState) (text now : Transcript) → CarriedOn pass script from at text d now → Holds (caller_of d.«open») d.watching
 holds_now pass script from at d text now on = let c = on.carried in let follows = c.follows in follows.holds
 
 pub was_ok : {P : Type 0} (r : Result (Unit {0}) AllocError) → is_err r ≡ false → OnOk r P → P

@@ -9,11 +9,11 @@ use Rattle.watch_word.specs.Logs.{Log}
 use Rattle.mdb_schema.specs.History.{History}
 use Rattle.mem_txn.specs.CellHistory.{Forest}
 use Rattle.mem_txn.proofs.OneHistory.{later_itself}
-use Rattle.mem_txn.specs.Changes.{Changes, after_commit, begun}
+use Rattle.mem_txn.specs.DbTxn.{DbTxn, after_commit, new_txn}
 use Rattle.mem_txn.specs.Checked.{IsBeginning}
 use Rattle.mem_txn.proofs.SeenBegins.{begins_itself}
 use Rattle.mem_txn.specs.Database.{Caller, HasRead, HasSeen, Reading, reading_of}
-use Rattle.mem_txn.specs.Transactions.{AnswersBegin, AnswersTry, HasWon, IsCommitted, IsRefused, changes_of, items_of, deferred_items}
+use Rattle.mem_txn.specs.Transactions.{AnswersBegin, AnswersTry, HasWon, IsCommitted, IsRefused, txn_of, items_of, deferred_items}
 use Rattle.mem_txn.specs.declared.outcome.BeginRefused.{BeginRefused}
 use Rattle.mem_txn.specs.declared.outcome.Committed.{Committed}
 use Rattle.mem_txn.specs.declared.outcome.Tried.{Tried}
@@ -142,27 +142,27 @@ ended_turns self pass txn is = subst (λ (s : Open). TurnsTo (command.Transactio
 new_writing : ℕ → Transaction
 new_writing n = writing (record { number = n; writes = []; texts = [] })
 
-write_turns : (old : Caller) (txn : WriteTxn Bytes) → length old.seen < 2 ^ 63 → changes_of txn ≡ begun old → items_of txn ≡ [] → TurnsTo (command.Transaction transaction_line.Write) (opens.Nothing old) (opens.Writing txn) (write_at (length old.seen))
+write_turns : (old : Caller) (txn : WriteTxn Bytes) → length old.seen < 2 ^ 63 → txn_of txn ≡ new_txn old → items_of txn ≡ [] → TurnsTo (command.Transaction transaction_line.Write) (opens.Nothing old) (opens.Writing txn) (write_at (length old.seen))
 unfolding new_writing
 write_turns old txn few changes items = record {
   turns = λ v is le. record {
     next = record { last = length old.seen; transaction = new_writing (length old.seen); snapshots = v.snapshots; watching = v.watching };
     says = rw (is, lt-ltb (length old.seen) commit_limit few) refl;
-    transaction = sym (ap (λ (c : Changes). writing (record { number = length c.caller.seen; writes = c.writes; texts = items_of txn })) changes ∙ ap (λ (texts : List Bytes). writing (record { number = length old.seen; writes = []; texts = texts })) items);
+    transaction = sym (ap (λ (c : DbTxn). writing (record { number = length c.caller.seen; writes = c.writes; texts = items_of txn })) changes ∙ ap (λ (texts : List Bytes). writing (record { number = length old.seen; writes = []; texts = texts })) items);
     snapshots = refl;
     watching = refl;
-    last = subst (λ (c : Changes). length old.seen ≤ length c.caller.seen) (sym changes) (search (arith));
+    last = subst (λ (c : DbTxn). length old.seen ≤ length c.caller.seen) (sym changes) (search (arith));
   };
-  stands = ap (λ (c : Changes). c.spoiled) changes;
-  grows = none_made old (changes_of txn).caller [] refl (ap (λ (c : Changes). c.caller) changes);
+  stands = ap (λ (c : DbTxn). c.spoiled) changes;
+  grows = none_made old (txn_of txn).caller [] refl (ap (λ (c : DbTxn). c.caller) changes);
   numbered = refl;
 }
 
-pub begun_write : (self : Open) (old : Caller) (txn : WriteTxn Bytes) (n : ℕ) → self ≡ opens.Nothing old → HasSeen old (changes_of txn).caller → HasRead old (changes_of txn).caller (length (changes_of txn).caller.seen) → length (changes_of txn).caller.seen < 2 ^ 63 → changes_of txn ≡ begun (changes_of txn).caller → items_of txn ≡ [] → n ≡ length (changes_of txn).caller.seen
+pub begun_write : (self : Open) (old : Caller) (txn : WriteTxn Bytes) (n : ℕ) → self ≡ opens.Nothing old → HasSeen old (txn_of txn).caller → HasRead old (txn_of txn).caller (length (txn_of txn).caller.seen) → length (txn_of txn).caller.seen < 2 ^ 63 → txn_of txn ≡ new_txn (txn_of txn).caller → items_of txn ≡ [] → n ≡ length (txn_of txn).caller.seen
     → LooksAndTurns transaction_line.Write self (opens.Writing txn) (write_at n)
 unfolding looked
 begun_write self old txn n is seen read few changes items number =
-    let new = (changes_of txn).caller in
+    let new = (txn_of txn).caller in
     subst (λ (s : Open). LooksAndTurns transaction_line.Write s (opens.Writing txn) (write_at n)) (sym is) (record {
       at = opens.Nothing new;
       looks = looked old new (length new.seen) seen read;
@@ -196,14 +196,14 @@ spent_write self old r is cause seen why =
       loads = λ v is' le. tt;
     })
 
-pub try_began : (callers : ℕ) (p : Caller) (t : Tried Bytes) (txn : WriteTxn Bytes) → t ≡ tried.Begun txn → AnswersTry callers p (Ok t) → AnswersBegin p (Ok txn) × HasWon p (changes_of txn).caller
+pub try_began : (callers : ℕ) (p : Caller) (t : Tried Bytes) (txn : WriteTxn Bytes) → t ≡ tried.Begun txn → AnswersTry callers p (Ok t) → AnswersBegin p (Ok txn) × HasWon p (txn_of txn).caller
 try_began callers p t txn is answers = subst (λ (x : Tried Bytes). AnswersTry callers p (Ok x)) is answers
 
 -- the one try found the turn free
 pub won_from : (self : Open) (old new : Caller) → self ≡ opens.Nothing old → HasWon old new → HasDoneOnce (command.Transaction transaction_line.Write) (caller_of self) new
 won_from self old new is won = inr (subst (λ (s : Open). HasWon (caller_of s) new) (sym is) won)
 
-abort_turns : (pass : Caller) (txn : WriteTxn Bytes) → pass ≡ (changes_of txn).caller → TurnsTo (command.Transaction transaction_line.Abort) (opens.Writing txn) (opens.Nothing pass) aborted
+abort_turns : (pass : Caller) (txn : WriteTxn Bytes) → pass ≡ (txn_of txn).caller → TurnsTo (command.Transaction transaction_line.Abort) (opens.Writing txn) (opens.Nothing pass) aborted
 abort_turns pass txn same = record {
   turns = λ v is le. record {
     next = record { last = v.last; transaction = closed; snapshots = v.snapshots; watching = v.watching };
@@ -214,36 +214,36 @@ abort_turns pass txn same = record {
     last = subst (λ (p : Caller). v.last ≤ length p.seen) (sym same) le;
   };
   stands = tt;
-  grows = none_made (changes_of txn).caller pass [] refl same;
+  grows = none_made (txn_of txn).caller pass [] refl same;
   numbered = refl;
 }
 
-pub aborted_turns : (self : Open) (pass : Caller) (txn : WriteTxn Bytes) → self ≡ opens.Writing txn → pass ≡ (changes_of txn).caller → TurnsTo (command.Transaction transaction_line.Abort) self (opens.Nothing pass) aborted
+pub aborted_turns : (self : Open) (pass : Caller) (txn : WriteTxn Bytes) → self ≡ opens.Writing txn → pass ≡ (txn_of txn).caller → TurnsTo (command.Transaction transaction_line.Abort) self (opens.Nothing pass) aborted
 aborted_turns self pass txn is same = subst (λ (s : Open). TurnsTo (command.Transaction transaction_line.Abort) s (opens.Nothing pass) aborted) (sym is) (abort_turns pass txn same)
 
 -- the reply to a commit
 abbrev said_by : WriteTxn Bytes → Committed Bytes → Reply
-said_by txn c = committed c.receipt.number (map (changed_row (changes_of txn).caller.schema) c.receipt.changes) (deferred_items c.receipt.items)
+said_by txn c = committed c.receipt.number (map (changed_row (txn_of txn).caller.schema) c.receipt.changes) (deferred_items c.receipt.items)
 
 commit_turns : (txn : WriteTxn Bytes) (c : Committed Bytes) → IsCommitted txn c → TurnsTo (command.Transaction transaction_line.Commit) (opens.Writing txn) (opens.Nothing c.pass) (said_by txn c)
 commit_turns txn c is_committed = record {
   turns = λ v is le. record {
-    next = record { last = length (changes_of txn).caller.seen + 1; transaction = closed; snapshots = v.snapshots; watching = v.watching };
+    next = record { last = length (txn_of txn).caller.seen + 1; transaction = closed; snapshots = v.snapshots; watching = v.watching };
     says = rw (is, is_committed.number, is_committed.changes, is_committed.items) refl;
     transaction = refl;
     snapshots = refl;
     watching = refl;
-    last = rw (is_committed.pass, length-append (changes_of txn).caller.seen _) (search (arith));
+    last = rw (is_committed.pass, length-append (txn_of txn).caller.seen _) (search (arith));
   };
   stands = tt;
-  grows = (is_committed.trees ∷ [], is_committed.pass ∙ ap (λ (l : Log). after_commit (changes_of txn) is_committed.trees l) (sym (ap (λ (p : Caller). p.log) is_committed.pass)), subst (λ (p : Caller). logs.IsLater (changes_of txn).caller.log p.log) (sym is_committed.pass) is_committed.later);
+  grows = (is_committed.trees ∷ [], is_committed.pass ∙ ap (λ (l : Log). after_commit (txn_of txn) is_committed.trees l) (sym (ap (λ (p : Caller). p.log) is_committed.pass)), subst (λ (p : Caller). logs.IsLater (txn_of txn).caller.log p.log) (sym is_committed.pass) is_committed.later);
   numbered = numbers is_committed.number;
 }
   where
     told : ℕ → List (ℕ × ℕ)
-    told n = (n, (changes_of txn).caller.number) ∷ []
+    told n = (n, (txn_of txn).caller.number) ∷ []
 
-    numbers : c.receipt.number ≡ length (changes_of txn).caller.seen + 1 → told c.receipt.number ≡ told (length (changes_of txn).caller.seen + 1)
+    numbers : c.receipt.number ≡ length (txn_of txn).caller.seen + 1 → told c.receipt.number ≡ told (length (txn_of txn).caller.seen + 1)
     numbers e = ap told e
 
 committed_turns : (self : Open) (txn : WriteTxn Bytes) (c : Committed Bytes) → self ≡ opens.Writing txn → IsCommitted txn c → TurnsTo (command.Transaction transaction_line.Commit) self (opens.Nothing c.pass) (reply_of (caller_of self).schema (replies.Committed c.receipt))
@@ -283,12 +283,12 @@ open_turns t o stands grows numbered says = refused_once t o (codes "transaction
 pub read_refused : (o : Open) → Stands o → ((p : Caller) → o ≡ opens.Nothing p → ⊥) → LooksAndTurns transaction_line.Read o o (refused (codes "transaction-open"))
 read_refused (opens.Nothing p) stands not = absurd (not p refl)
 read_refused (opens.Reading p txn) stands not = open_turns transaction_line.Read (opens.Reading p txn) stands (none_made p p [] refl refl) refl (λ v is. rw is refl)
-read_refused (opens.Writing txn) stands not = open_turns transaction_line.Read (opens.Writing txn) stands (none_made (changes_of txn).caller (changes_of txn).caller [] refl refl) refl (λ v is. rw is refl)
+read_refused (opens.Writing txn) stands not = open_turns transaction_line.Read (opens.Writing txn) stands (none_made (txn_of txn).caller (txn_of txn).caller [] refl refl) refl (λ v is. rw is refl)
 
 pub write_refused : (o : Open) → Stands o → ((p : Caller) → o ≡ opens.Nothing p → ⊥) → LooksAndTurns transaction_line.Write o o (refused (codes "transaction-open"))
 write_refused (opens.Nothing p) stands not = absurd (not p refl)
 write_refused (opens.Reading p txn) stands not = open_turns transaction_line.Write (opens.Reading p txn) stands (none_made p p [] refl refl) refl (λ v is. rw is refl)
-write_refused (opens.Writing txn) stands not = open_turns transaction_line.Write (opens.Writing txn) stands (none_made (changes_of txn).caller (changes_of txn).caller [] refl refl) refl (λ v is. rw is refl)
+write_refused (opens.Writing txn) stands not = open_turns transaction_line.Write (opens.Writing txn) stands (none_made (txn_of txn).caller (txn_of txn).caller [] refl refl) refl (λ v is. rw is refl)
 
 -- ---- a rule is broken
 
@@ -320,7 +320,7 @@ end_refused (opens.Reading p txn) stands not nor = absurd (nor p txn refl)
 end_refused (opens.Writing txn) stands not nor = record {
   turns = λ v is le. record { next = v; says = rw is refl; transaction = is; snapshots = refl; watching = refl; last = le };
   stands = stands;
-  grows = none_made (changes_of txn).caller (changes_of txn).caller [] refl refl;
+  grows = none_made (txn_of txn).caller (txn_of txn).caller [] refl refl;
   numbered = refl;
 }
 

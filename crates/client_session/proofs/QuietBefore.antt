@@ -2,13 +2,13 @@
 use Rattle.std.proofs.Common.{◌≡◌, ◌∙◌, ◌-◌, ◌<◌, ◌≤◌, ◌⊎◌, inl, inr, ℕ, length, slice_get, sym, ap, subst, arith}
 use Rattle.std.proofs.Math.Nat.{eq-or-lt_of_le}
 use mathlib.Core.List.{IsPrefix}
+use Rattle.mdb_datum.proofs.ListPlaces.{get_first}
 use Rattle.mdb_schema.specs.Answer.{ask}
 use Rattle.mdb_schema.specs.Guarded.{IsGuarded, IsUnchanged}
 use Rattle.mdb_schema.specs.History.{History, IsMadeBy}
 use Rattle.mdb_schema.specs.Query.{Query}
 use Rattle.mdb_schema.specs.Schema.{DbSchema}
 use Rattle.mdb_schema.specs.State.{State}
-use Rattle.watch_set.proofs.GuardedChains.{item-there}
 use Rattle.mem_txn.proofs.HeldAlong.{state_longer}
 
 -- ---- fewer commits
@@ -40,7 +40,7 @@ module _ (schema : DbSchema) (old new : History) (more : IsPrefix old new) where
       let some = own.0 in (
         own.0,
         own.1,
-        sym (item-there old more.0 (n - 1) (omega (arith, within, some))) ∙ ap (λ (H : History). slice_get H (n - 1)) more.1 ∙ own.2,
+        sym (get_first old more.0 (n - 1) (omega (arith, within, some))) ∙ ap (λ (H : History). slice_get H (n - 1)) more.1 ∙ own.2,
         own.3,
       )
 

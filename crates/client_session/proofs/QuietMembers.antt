@@ -35,21 +35,21 @@ module _ (old mid new : Caller) (more : Follows mid new) (n : ℕ) (few : n ≤ 
       let same : x ≡ y = (λ i. (sym more.schema i, sym more.number i)) in
       subst (λ (z : DbSchema × ℕ). IsUnchanged z.0 new.seen z.1 h.query h.number n) same then
 
-  members_still : (ms : List Member) → AreGuarded old mid (watches_of ms) → told.AreQuiet new.schema new.seen new.number (map member_of ms) n
+  members_still : (ms : List Member) → AreGuarded old mid (watches_of ms) → told.AreUnchanged new.schema new.seen new.number (map member_of ms) n
   members_still [] all = tt
   members_still (m ∷ ms) all = (quiet_still m.held all.0, members_still ms all.1)
 
-  first_still : (place : ℕ) (ms : List Member) → AreGuarded old mid (take place (watches_of ms)) → told.AreQuiet new.schema new.seen new.number (take place (map member_of ms)) n
+  first_still : (place : ℕ) (ms : List Member) → AreGuarded old mid (take place (watches_of ms)) → told.AreUnchanged new.schema new.seen new.number (take place (map member_of ms)) n
   first_still zero ms all = tt
   first_still (suc place) [] all = tt
   first_still (suc place) (m ∷ ms) all = (quiet_still m.held all.0, first_still place ms all.1)
 
   -- all members
-  pub members_quiet : (ms : List Member) → IsQuietLook old (watches_of ms) mid → told.AreQuiet new.schema new.seen new.number (map member_of ms) n
+  pub members_quiet : (ms : List Member) → IsQuietLook old (watches_of ms) mid → told.AreUnchanged new.schema new.seen new.number (map member_of ms) n
   members_quiet ms quiet = members_still ms (quiet_is_guarded old mid (watches_of ms) quiet)
 
   -- those before a place
-  pub first_quiet : (place : ℕ) (ms : List Member) → IsQuietLook old (take place (watches_of ms)) mid → told.AreQuiet new.schema new.seen new.number (take place (map member_of ms)) n
+  pub first_quiet : (place : ℕ) (ms : List Member) → IsQuietLook old (take place (watches_of ms)) mid → told.AreUnchanged new.schema new.seen new.number (take place (map member_of ms)) n
   first_quiet place ms quiet = first_still place ms (quiet_is_guarded old mid (take place (watches_of ms)) quiet)
 
 -- ---- quiet at one look

@@ -1,43 +1,33 @@
 -- One more line of an answer.
-use Rattle.std.proofs.Common.{◌≡◌, ap, sym, ◌∙◌, ℕ, zero, suc, ◌+◌, List, [], ◌∷◌, ◌++◌, drop, length, take, refl, Some, slice_get, Result, Ok, Err, OnOk, arith}
+use Rattle.std.proofs.Common.{◌≡◌, ap, sym, ◌∙◌, ℕ, ◌+◌, List, [], ◌∷◌, ◌++◌, drop, length, take, refl, Some, slice_get, Result, Ok, Err, OnOk}
 use Rattle.std.specs.Prelude.{codes}
 use Rattle.std.specs.declared.alloc.AllocError.{AllocError}
 use Rattle.std.proofs.lemmas.List.{append_assoc}
 use Rattle.mdb_datum.specs.Bytes.{Bytes}
 use Rattle.mdb_datum.specs.Row.{Fields}
 use Rattle.mdb_datum.specs.Written.{row_text}
+use Rattle.mdb_datum.proofs.ListPlaces.{drop_at}
 use Rattle.client_script.specs.Reply.{Changed, change_text, changed_lines, did_lines, further, row_lines}
-
-one_more : (n : ℕ) → suc n ≡ n + 1
-one_more n = search (arith)
-
-pub drop_next : {A : Type 0} (xs : List A) (at : ℕ) (x : A) → slice_get xs at ≡ Some x → drop at xs ≡ x ∷ drop (at + 1) xs
-drop_next xs at x e = from xs at e ∙ ap (λ (n : ℕ). x ∷ drop n xs) (one_more at)
-  where
-    from : (ys : List _) (n : ℕ) → slice_get ys n ≡ Some x → drop n ys ≡ x ∷ drop (suc n) ys
-    from [] n e' = cc
-    from (y ∷ ys) zero e' = cc
-    from (y ∷ ys) (suc n) e' = from ys n e'
 
 pub did_step : (out more : Bytes) (texts : List Bytes) (at : ℕ) (text : Bytes) (whole : Bytes) → slice_get texts at ≡ Some text → more ≡ out ++ further (codes "did " ++ text) → out ++ did_lines (drop at texts) ≡ whole → more ++ did_lines (drop (at + 1) texts) ≡ whole
 did_step out more texts at text whole there added so_far =
     ap (λ (b : Bytes). b ++ did_lines (drop (at + 1) texts)) added
     ∙ append_assoc out (further (codes "did " ++ text)) (did_lines (drop (at + 1) texts))
-    ∙ ap (λ (b : Bytes). out ++ b) (sym (ap did_lines (drop_next texts at text there)))
+    ∙ ap (λ (b : Bytes). out ++ b) (sym (ap did_lines (drop_at texts at text there)))
     ∙ so_far
 
 pub row_step : (out more : Bytes) (rows : List Fields) (at : ℕ) (row : Fields) (whole : Bytes) → slice_get rows at ≡ Some row → more ≡ out ++ further (row_text row) → out ++ row_lines (drop at rows) ≡ whole → more ++ row_lines (drop (at + 1) rows) ≡ whole
 row_step out more rows at row whole there added so_far =
     ap (λ (b : Bytes). b ++ row_lines (drop (at + 1) rows)) added
     ∙ append_assoc out (further (row_text row)) (row_lines (drop (at + 1) rows))
-    ∙ ap (λ (b : Bytes). out ++ b) (sym (ap row_lines (drop_next rows at row there)))
+    ∙ ap (λ (b : Bytes). out ++ b) (sym (ap row_lines (drop_at rows at row there)))
     ∙ so_far
 
 pub change_step : (out more : Bytes) (changes : List Changed) (at : ℕ) (change : Changed) (whole : Bytes) → slice_get changes at ≡ Some change → more ≡ out ++ further (change_text change) → out ++ changed_lines (drop at changes) ≡ whole → more ++ changed_lines (drop (at + 1) changes) ≡ whole
 change_step out more changes at change whole there added so_far =
     ap (λ (b : Bytes). b ++ changed_lines (drop (at + 1) changes)) added
     ∙ append_assoc out (further (change_text change)) (changed_lines (drop (at + 1) changes))
-    ∙ ap (λ (b : Bytes). out ++ b) (sym (ap changed_lines (drop_next changes at change there)))
+    ∙ ap (λ (b : Bytes). out ++ b) (sym (ap changed_lines (drop_at changes at change there)))
     ∙ so_far
 
 -- a text that is added in four steps

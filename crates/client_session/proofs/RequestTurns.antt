@@ -17,10 +17,10 @@ use Rattle.mdb_schema.specs.Write as written
 use Rattle.mdb_schema.specs.Write.{Write, put, remove, step, Stepped, table_of}
 use Rattle.mdb_schema.specs.declared.answer.Answer.{Answer}
 use Rattle.mdb_schema.specs.declared.write_error.WriteError.TheVariants as write_errors
-use Rattle.mem_txn.specs.Changes.{Changes, AnswersTxnWrite, AnswersStep, AnswersTxnAsk, AnswersTxnWipe, AnswersRemovals, gives_replaced, gives_row, present, table_seen}
-use Rattle.mem_txn.specs.Changes as changed
+use Rattle.mem_txn.specs.DbTxn.{DbTxn, AnswersTxnWrite, AnswersStep, AnswersTxnAsk, AnswersTxnWipe, AnswersRemovals, gives_replaced, gives_row, present, table_seen}
+use Rattle.mem_txn.specs.DbTxn as changed
 use Rattle.mem_txn.specs.Database.{Caller, Reading, View}
-use Rattle.mem_txn.specs.Transactions.{changes_of, items_of}
+use Rattle.mem_txn.specs.Transactions.{txn_of, items_of}
 use Rattle.mem_txn.specs.declared.txn_error.TxnWriteError.{TxnWriteError}
 use Rattle.mem_txn.specs.declared.txn_error.TxnWriteError.TheVariants as write_refused
 use Rattle.mem_txn.specs.declared.txn_error.TxnAskError.{TxnAskError}
@@ -69,23 +69,23 @@ none_numbered p t r prints makes = ap (map (λ m. (m, p.number))) prints ∙ sym
 pub IsWrite : WriteCommand → Write → Bytes → (Option Fields → said.Reply) → Type 0
 IsWrite c w table reply = (schema : DbSchema) (H : History) (v : Client) → write_turn schema H v c ≡ step_turn schema H v w table reply
 
-next_changes : Client → Changes → List Bytes → Client
+next_changes : Client → DbTxn → List Bytes → Client
 next_changes v t texts = record v { transaction = writing (record { number = length t.caller.seen; writes = t.writes; texts = texts }) }
 
-pub accepted : (c : WriteCommand) (w : Write) (table : Bytes) (reply : Option Fields → said.Reply) → IsWrite c w table reply → (txn txn' : WriteTxn Bytes) (after : State × Option Fields) → step (changes_of txn).caller.schema (present (changes_of txn)) w ≡ Ok after → changes_of txn' ≡ changed.with_writes (changes_of txn) (w ∷ []) → items_of txn' ≡ items_of txn → (changes_of txn).spoiled ≡ false → ((n : ℕ) (t : Transaction) → made n t (reply after.1) ≡ []) → number_printed (reply after.1) ≡ [] → TurnsTo (command.Write c) (opens.Writing txn) (opens.Writing txn') (reply after.1)
+pub accepted : (c : WriteCommand) (w : Write) (table : Bytes) (reply : Option Fields → said.Reply) → IsWrite c w table reply → (txn txn' : WriteTxn Bytes) (after : State × Option Fields) → step (txn_of txn).caller.schema (present (txn_of txn)) w ≡ Ok after → txn_of txn' ≡ changed.with_writes (txn_of txn) (w ∷ []) → items_of txn' ≡ items_of txn → (txn_of txn).spoiled ≡ false → ((n : ℕ) (t : Transaction) → made n t (reply after.1) ≡ []) → number_printed (reply after.1) ≡ [] → TurnsTo (command.Write c) (opens.Writing txn) (opens.Writing txn') (reply after.1)
 unfolding IsWrite next_changes
 accepted c w table reply is_write txn txn' after steps changes items sound makes prints = record {
   turns = λ v is le. record {
-    next = next_changes v (changed.with_writes (changes_of txn) (w ∷ [])) (items_of txn);
-    says = by_turn (ap (outcome v) (is_write (changes_of txn).caller.schema (changes_of txn).caller.seen v) ∙ rw (is, steps) refl);
-    transaction = ap (λ (t : Changes). (next_changes v t (items_of txn)).transaction) (sym changes) ∙ ap (λ (texts : List Bytes). (next_changes v (changes_of txn') texts).transaction) (sym items);
+    next = next_changes v (changed.with_writes (txn_of txn) (w ∷ [])) (items_of txn);
+    says = by_turn (ap (outcome v) (is_write (txn_of txn).caller.schema (txn_of txn).caller.seen v) ∙ rw (is, steps) refl);
+    transaction = ap (λ (t : DbTxn). (next_changes v t (items_of txn)).transaction) (sym changes) ∙ ap (λ (texts : List Bytes). (next_changes v (txn_of txn') texts).transaction) (sym items);
     snapshots = refl;
     watching = refl;
-    last = subst (λ (t : Changes). v.last ≤ length t.caller.seen) (sym changes) le;
+    last = subst (λ (t : DbTxn). v.last ≤ length t.caller.seen) (sym changes) le;
   };
-  stands = ap (λ (t : Changes). t.spoiled) changes ∙ sound;
-  grows = none_made (changes_of txn).caller (changes_of txn').caller _ (makes (changes_of txn).caller.number (transaction_of (opens.Writing txn))) (ap (λ (t : Changes). t.caller) changes);
-  numbered = none_numbered (changes_of txn).caller (transaction_of (opens.Writing txn)) (reply after.1) prints (makes (changes_of txn).caller.number (transaction_of (opens.Writing txn)));
+  stands = ap (λ (t : DbTxn). t.spoiled) changes ∙ sound;
+  grows = none_made (txn_of txn).caller (txn_of txn').caller _ (makes (txn_of txn).caller.number (transaction_of (opens.Writing txn))) (ap (λ (t : DbTxn). t.caller) changes);
+  numbered = none_numbered (txn_of txn).caller (transaction_of (opens.Writing txn)) (reply after.1) prints (makes (txn_of txn).caller.number (transaction_of (opens.Writing txn)));
 }
 
 insert_makes : (was : Option Fields) (n : ℕ) (t : Transaction) → made n t (insert_reply was) ≡ []
@@ -99,13 +99,13 @@ insert_makes (Some row) n (writing t) = refl
 -- ---- what the answer to a write says
 
 -- a write that was accepted: what the step gives, and what the transaction becomes
-record Accepts {A : Type 0} (gives : Option Fields → A → Type 0) (w : Write) (x : A) (old new : Changes) : Type 0 where
+record Accepts {A : Type 0} (gives : Option Fields → A → Type 0) (w : Write) (x : A) (old new : DbTxn) : Type 0 where
   pub after : State × Option Fields
   pub steps : step old.caller.schema (present old) w ≡ Ok after
   pub given : gives after.1 x
   pub changes : new ≡ changed.with_writes old (w ∷ [])
 
-accepts_step : {A : Type 0} (gives : Option Fields → A → Type 0) (w : Write) (x : A) (old new : Changes) (s : Stepped) → step old.caller.schema (present old) w ≡ s → AnswersStep gives w s (Ok x) old new → Accepts gives w x old new
+accepts_step : {A : Type 0} (gives : Option Fields → A → Type 0) (w : Write) (x : A) (old new : DbTxn) (s : Stepped) → step old.caller.schema (present old) w ≡ s → AnswersStep gives w s (Ok x) old new → Accepts gives w x old new
 accepts_step gives w x old new (Ok after) is answers = record { after = after; steps = is; given = answers.0; changes = answers.1 }
 accepts_step gives w x old new (Err why) is answers = absurd answers
 
@@ -115,12 +115,12 @@ err_of e = Err e
 ok_of : {A : Type 0} → A → Result A TxnWriteError
 ok_of x = Ok x
 
-accepts_table : {A : Type 0} (gives : Option Fields → A → Type 0) (w : Write) (x : A) (old new : Changes) (table : Option Table) → MatchOption table ((ok_of x ≡ Err write_refused.UnknownTable) × (new ≡ old)) (λ t. AnswersStep gives w (step old.caller.schema (present old) w) (Ok x) old new) → Accepts gives w x old new
+accepts_table : {A : Type 0} (gives : Option Fields → A → Type 0) (w : Write) (x : A) (old new : DbTxn) (table : Option Table) → MatchOption table ((ok_of x ≡ Err write_refused.UnknownTable) × (new ≡ old)) (λ t. AnswersStep gives w (step old.caller.schema (present old) w) (Ok x) old new) → Accepts gives w x old new
 unfolding ok_of
 accepts_table gives w x old new None answers = let e = answers.0 in cc
 accepts_table gives w x old new (Some table) answers = accepts_step gives w x old new (step old.caller.schema (present old) w) refl answers
 
-accepts : {A : Type 0} (gives : Option Fields → A → Type 0) (w : Write) (x : A) (old new : Changes) → old.spoiled ≡ false → AnswersTxnWrite gives w old.spoiled (Ok x) old new → Accepts gives w x old new
+accepts : {A : Type 0} (gives : Option Fields → A → Type 0) (w : Write) (x : A) (old new : DbTxn) → old.spoiled ≡ false → AnswersTxnWrite gives w old.spoiled (Ok x) old new → Accepts gives w x old new
 unfolding ok_of
 accepts gives w x old new sound answers = accepts_table gives w x old new (table_seen old (table_of w)) (subst (λ b. AnswersTxnWrite gives w b (Ok x) old new) sound answers)
 
@@ -128,18 +128,18 @@ inserted_is : (was : Option Fields) (replaced : Bool) → gives_replaced was rep
 inserted_is None replaced is = rw is refl
 inserted_is (Some row) replaced is = rw is refl
 
-pub insert_turns : (self : Open) (txn txn' : WriteTxn Bytes) (table : Bytes) (row : Fields) (replaced : Bool) → self ≡ opens.Writing txn → (changes_of txn).spoiled ≡ false → AnswersTxnWrite gives_replaced (put table row) (changes_of txn).spoiled (Ok replaced) (changes_of txn) (changes_of txn') → items_of txn' ≡ items_of txn → TurnsTo (command.Write (write_line.Insert table row)) self (opens.Writing txn') (if replaced then said.replaced else said.inserted)
+pub insert_turns : (self : Open) (txn txn' : WriteTxn Bytes) (table : Bytes) (row : Fields) (replaced : Bool) → self ≡ opens.Writing txn → (txn_of txn).spoiled ≡ false → AnswersTxnWrite gives_replaced (put table row) (txn_of txn).spoiled (Ok replaced) (txn_of txn) (txn_of txn') → items_of txn' ≡ items_of txn → TurnsTo (command.Write (write_line.Insert table row)) self (opens.Writing txn') (if replaced then said.replaced else said.inserted)
 unfolding IsWrite
 insert_turns self txn txn' table row replaced is sound answers items =
-    let a = accepts gives_replaced (put table row) replaced (changes_of txn) (changes_of txn') sound answers in
+    let a = accepts gives_replaced (put table row) replaced (txn_of txn) (txn_of txn') sound answers in
     subst (λ (s : Open). TurnsTo (command.Write (write_line.Insert table row)) s (opens.Writing txn') (if replaced then said.replaced else said.inserted)) (sym is)
     (subst (λ (r : said.Reply). TurnsTo (command.Write (write_line.Insert table row)) (opens.Writing txn) (opens.Writing txn') r) (inserted_is a.after.1 replaced a.given)
     (accepted (write_line.Insert table row) (put table row) table insert_reply (λ schema H v. refl) txn txn' a.after a.steps a.changes items sound (insert_makes a.after.1) (insert_prints a.after.1)))
 
-pub delete_turns : (self : Open) (txn txn' : WriteTxn Bytes) (table : Bytes) (row gone : Fields) → self ≡ opens.Writing txn → (changes_of txn).spoiled ≡ false → AnswersTxnWrite gives_row (remove table row) (changes_of txn).spoiled (Ok gone) (changes_of txn) (changes_of txn') → items_of txn' ≡ items_of txn → TurnsTo (command.Write (write_line.Delete table row)) self (opens.Writing txn') said.deleted
+pub delete_turns : (self : Open) (txn txn' : WriteTxn Bytes) (table : Bytes) (row gone : Fields) → self ≡ opens.Writing txn → (txn_of txn).spoiled ≡ false → AnswersTxnWrite gives_row (remove table row) (txn_of txn).spoiled (Ok gone) (txn_of txn) (txn_of txn') → items_of txn' ≡ items_of txn → TurnsTo (command.Write (write_line.Delete table row)) self (opens.Writing txn') said.deleted
 unfolding IsWrite
 delete_turns self txn txn' table row gone is sound answers items =
-    let a = accepts gives_row (remove table row) gone (changes_of txn) (changes_of txn') sound answers in
+    let a = accepts gives_row (remove table row) gone (txn_of txn) (txn_of txn') sound answers in
     subst (λ (s : Open). TurnsTo (command.Write (write_line.Delete table row)) s (opens.Writing txn') said.deleted) (sym is)
     (accepted (write_line.Delete table row) (remove table row) table (λ was. said.deleted) (λ schema H v. refl) txn txn' a.after a.steps a.changes items sound (λ n t. deleted_makes n t) refl)
   where
@@ -151,31 +151,31 @@ delete_turns self txn txn' table row gone is sound answers items =
 -- ---- refusals
 
 -- nothing is changed, and the line is answered with the name of a rule
-same_turns : (c : WriteCommand) (txn txn' : WriteTxn Bytes) (rule : Bytes) → ((v : Client) → v.transaction ≡ transaction_of (opens.Writing txn) → write_turn (changes_of txn).caller.schema (changes_of txn).caller.seen v c ≡ Err rule) → changes_of txn' ≡ changes_of txn → items_of txn' ≡ items_of txn → (changes_of txn).spoiled ≡ false → TurnsTo (command.Write c) (opens.Writing txn) (opens.Writing txn') (said.refused rule)
+same_turns : (c : WriteCommand) (txn txn' : WriteTxn Bytes) (rule : Bytes) → ((v : Client) → v.transaction ≡ transaction_of (opens.Writing txn) → write_turn (txn_of txn).caller.schema (txn_of txn).caller.seen v c ≡ Err rule) → txn_of txn' ≡ txn_of txn → items_of txn' ≡ items_of txn → (txn_of txn).spoiled ≡ false → TurnsTo (command.Write c) (opens.Writing txn) (opens.Writing txn') (said.refused rule)
 unfolding next_changes
 same_turns c txn txn' rule breaks changes items sound = record {
   turns = λ v is le. record {
     next = v;
     says = by_turn (ap (outcome v) (breaks v is));
-    transaction = is ∙ ap (λ (t : Changes). (next_changes v t (items_of txn)).transaction) (sym changes) ∙ ap (λ (texts : List Bytes). (next_changes v (changes_of txn') texts).transaction) (sym items);
+    transaction = is ∙ ap (λ (t : DbTxn). (next_changes v t (items_of txn)).transaction) (sym changes) ∙ ap (λ (texts : List Bytes). (next_changes v (txn_of txn') texts).transaction) (sym items);
     snapshots = refl;
     watching = refl;
-    last = subst (λ (t : Changes). v.last ≤ length t.caller.seen) (sym changes) le;
+    last = subst (λ (t : DbTxn). v.last ≤ length t.caller.seen) (sym changes) le;
   };
-  stands = ap (λ (t : Changes). t.spoiled) changes ∙ sound;
-  grows = none_made (changes_of txn).caller (changes_of txn').caller [] refl (ap (λ (t : Changes). t.caller) changes);
+  stands = ap (λ (t : DbTxn). t.spoiled) changes ∙ sound;
+  grows = none_made (txn_of txn).caller (txn_of txn').caller [] refl (ap (λ (t : DbTxn). t.caller) changes);
   numbered = refl;
 }
 
 -- a transaction that is full with so many rows more
-full_same : (t : Changes) (ws : List Write) (texts : List Bytes) → changed.IsFull (length ws) t → IsFull t.caller.seen (record { number = length t.caller.seen; writes = t.writes ++ ws; texts = texts })
+full_same : (t : DbTxn) (ws : List Write) (texts : List Bytes) → changed.IsFull (length ws) t → IsFull t.caller.seen (record { number = length t.caller.seen; writes = t.writes ++ ws; texts = texts })
 full_same t ws texts full =
     let seen : writes_in (take (length t.caller.seen) t.caller.seen) ≡ writes_in t.caller.seen = ap writes_in (take-length t.caller.seen) in
     let both : length (t.writes ++ ws) ≡ length t.writes + length ws = length-append t.writes ws in
     subst (λ (n : ℕ). 2 ^ 36 ≤ n) (add_assoc (writes_in t.caller.seen) (length t.writes) (length ws) ∙ ap (λ (n : ℕ). n + (length t.writes + length ws)) (sym seen) ∙ ap (λ (n : ℕ). writes_in (take (length t.caller.seen) t.caller.seen) + n) (sym both)) full
 
 -- there are too few ids for a line's writes: nothing is changed, and it is told so
-spent_turns : (c : WriteCommand) (txn txn' : WriteTxn Bytes) (ws : List Write) (reply : said.Reply) → ((v : Client) → v.transaction ≡ transaction_of (opens.Writing txn) → write_turn (changes_of txn).caller.schema (changes_of txn).caller.seen v c ≡ Ok (reply, next_changes v (changed.with_writes (changes_of txn) ws) (items_of txn))) → changed.IsFull (length ws) (changes_of txn) → changes_of txn' ≡ changes_of txn → items_of txn' ≡ items_of txn → (changes_of txn).spoiled ≡ false → TurnsTo (command.Write c) (opens.Writing txn) (opens.Writing txn') ids_spent
+spent_turns : (c : WriteCommand) (txn txn' : WriteTxn Bytes) (ws : List Write) (reply : said.Reply) → ((v : Client) → v.transaction ≡ transaction_of (opens.Writing txn) → write_turn (txn_of txn).caller.schema (txn_of txn).caller.seen v c ≡ Ok (reply, next_changes v (changed.with_writes (txn_of txn) ws) (items_of txn))) → changed.IsFull (length ws) (txn_of txn) → txn_of txn' ≡ txn_of txn → items_of txn' ≡ items_of txn → (txn_of txn).spoiled ≡ false → TurnsTo (command.Write c) (opens.Writing txn) (opens.Writing txn') ids_spent
 unfolding next_changes
 spent_turns c txn txn' ws reply allowed full changes items sound = record {
   turns = λ v is le. record {
@@ -184,19 +184,19 @@ spent_turns c txn txn' ws reply allowed full changes items sound = record {
       reply = refl;
       same = refl;
       ruled = reply;
-      after = next_changes v (changed.with_writes (changes_of txn) ws) (items_of txn);
+      after = next_changes v (changed.with_writes (txn_of txn) ws) (items_of txn);
       allowed = allowed v is;
-      opened = record { number = length (changes_of txn).caller.seen; writes = (changes_of txn).writes ++ ws; texts = items_of txn };
+      opened = record { number = length (txn_of txn).caller.seen; writes = (txn_of txn).writes ++ ws; texts = items_of txn };
       transaction = refl;
-      full = full_same (changes_of txn) ws (items_of txn) full;
+      full = full_same (txn_of txn) ws (items_of txn) full;
     });
-    transaction = is ∙ ap (λ (t : Changes). (next_changes v t (items_of txn)).transaction) (sym changes) ∙ ap (λ (texts : List Bytes). (next_changes v (changes_of txn') texts).transaction) (sym items);
+    transaction = is ∙ ap (λ (t : DbTxn). (next_changes v t (items_of txn)).transaction) (sym changes) ∙ ap (λ (texts : List Bytes). (next_changes v (txn_of txn') texts).transaction) (sym items);
     snapshots = refl;
     watching = refl;
-    last = subst (λ (t : Changes). v.last ≤ length t.caller.seen) (sym changes) le;
+    last = subst (λ (t : DbTxn). v.last ≤ length t.caller.seen) (sym changes) le;
   };
-  stands = ap (λ (t : Changes). t.spoiled) changes ∙ sound;
-  grows = none_made (changes_of txn).caller (changes_of txn').caller [] refl (ap (λ (t : Changes). t.caller) changes);
+  stands = ap (λ (t : DbTxn). t.spoiled) changes ∙ sound;
+  grows = none_made (txn_of txn).caller (txn_of txn').caller [] refl (ap (λ (t : DbTxn). t.caller) changes);
   numbered = refl;
 }
 
@@ -240,36 +240,36 @@ no_table : (schema : DbSchema) (s : State) (w : Write) → table_at schema s (ta
 no_table schema s (put name row) none = rw none refl
 no_table schema s (remove name row) none = rw none refl
 
-write_refused_turn : (c : WriteCommand) (w : Write) (reply : Option Fields → said.Reply) → IsWrite c w (table_of w) reply → (txn txn' : WriteTxn Bytes) (why : written.WriteRefusal) → step (changes_of txn).caller.schema (present (changes_of txn)) w ≡ Err why → changes_of txn' ≡ changes_of txn → items_of txn' ≡ items_of txn → (changes_of txn).spoiled ≡ false → TurnsTo (command.Write c) (opens.Writing txn) (opens.Writing txn') (said.refused (write_word (indexes_of (changes_of txn).caller.schema (table_of w)) why))
+write_refused_turn : (c : WriteCommand) (w : Write) (reply : Option Fields → said.Reply) → IsWrite c w (table_of w) reply → (txn txn' : WriteTxn Bytes) (why : written.WriteRefusal) → step (txn_of txn).caller.schema (present (txn_of txn)) w ≡ Err why → txn_of txn' ≡ txn_of txn → items_of txn' ≡ items_of txn → (txn_of txn).spoiled ≡ false → TurnsTo (command.Write c) (opens.Writing txn) (opens.Writing txn') (said.refused (write_word (indexes_of (txn_of txn).caller.schema (table_of w)) why))
 unfolding IsWrite
-write_refused_turn c w reply is_write txn txn' why refuses changes items sound = same_turns c txn txn' _ (λ v is. is_write (changes_of txn).caller.schema (changes_of txn).caller.seen v ∙ rw (is, refuses) refl) changes items sound
+write_refused_turn c w reply is_write txn txn' why refuses changes items sound = same_turns c txn txn' _ (λ v is. is_write (txn_of txn).caller.schema (txn_of txn).caller.seen v ∙ rw (is, refuses) refl) changes items sound
 
-module _ {A : Type 0} (gives : Option Fields → A → Type 0) (c : WriteCommand) (w : Write) (reply : Option Fields → said.Reply) (is_write : IsWrite c w (table_of w) reply) (txn txn' : WriteTxn Bytes) (items : items_of txn' ≡ items_of txn) (sound : (changes_of txn).spoiled ≡ false) where
+module _ {A : Type 0} (gives : Option Fields → A → Type 0) (c : WriteCommand) (w : Write) (reply : Option Fields → said.Reply) (is_write : IsWrite c w (table_of w) reply) (txn txn' : WriteTxn Bytes) (items : items_of txn' ≡ items_of txn) (sound : (txn_of txn).spoiled ≡ false) where
   schema : DbSchema
-  schema = (changes_of txn).caller.schema
+  schema = (txn_of txn).caller.schema
 
   To : TxnWriteError → Type 0
   To e = RefusedTo (command.Write c) (opens.Writing txn) (opens.Writing txn') schema (write_rule schema (table_of w) e)
 
-  refused_rule : (t : Table) → table_at schema (present (changes_of txn)) (table_of w) ≡ Some t → (why : written.WriteRefusal) → step schema (present (changes_of txn)) w ≡ Err why → changes_of txn' ≡ changes_of txn → To (write_refused.Refused (write_error why))
+  refused_rule : (t : Table) → table_at schema (present (txn_of txn)) (table_of w) ≡ Some t → (why : written.WriteRefusal) → step schema (present (txn_of txn)) w ≡ Err why → txn_of txn' ≡ txn_of txn → To (write_refused.Refused (write_error why))
   unfolding To schema
   refused_rule t there why refuses changes =
-      let at = placed schema (present (changes_of txn)) (table_of w) t there in
-      let other = other_rule schema (present (changes_of txn)) w t why there refuses in
+      let at = placed schema (present (txn_of txn)) (table_of w) t there in
+      let other = other_rule schema (present (txn_of txn)) w t why there refuses in
       subst (λ (p : Option ℕ). RefusedTo (command.Write c) (opens.Writing txn) (opens.Writing txn') schema (row_rule_but_memory p (write_error why))) (sym at.is)
       (subst (λ (r : Option rules.the_data). RefusedTo (command.Write c) (opens.Writing txn) (opens.Writing txn') schema r) (sym (but_memory at.place why))
       (subst (λ (b : Bytes). TurnsTo (command.Write c) (opens.Writing txn) (opens.Writing txn') (said.refused b)) (sym (rule_same schema (table_of w) at.place why other at.is))
       (write_refused_turn c w reply is_write txn txn' why refuses changes items sound)))
 
   -- the write breaks no rule, and finds too few ids
-  spent_rule : (t : Table) → table_at schema (present (changes_of txn)) (table_of w) ≡ Some t → (after : State × Option Fields) → step schema (present (changes_of txn)) w ≡ Ok after → changed.IsFull 1 (changes_of txn) → changes_of txn' ≡ changes_of txn → To (write_refused.Refused write_errors.IdsSpent)
+  spent_rule : (t : Table) → table_at schema (present (txn_of txn)) (table_of w) ≡ Some t → (after : State × Option Fields) → step schema (present (txn_of txn)) w ≡ Ok after → changed.IsFull 1 (txn_of txn) → txn_of txn' ≡ txn_of txn → To (write_refused.Refused write_errors.IdsSpent)
   unfolding To schema IsWrite next_changes
   spent_rule t there after steps full changes =
-      let at = placed schema (present (changes_of txn)) (table_of w) t there in
+      let at = placed schema (present (txn_of txn)) (table_of w) t there in
       subst (λ (p : Option ℕ). RefusedTo (command.Write c) (opens.Writing txn) (opens.Writing txn') schema (row_rule_but_memory p write_errors.IdsSpent)) (sym at.is)
-      (spent_turns c txn txn' (w ∷ []) (reply after.1) (λ v is. is_write (changes_of txn).caller.schema (changes_of txn).caller.seen v ∙ rw (is, steps) refl) full changes items sound)
+      (spent_turns c txn txn' (w ∷ []) (reply after.1) (λ v is. is_write (txn_of txn).caller.schema (txn_of txn).caller.seen v ∙ rw (is, steps) refl) full changes items sound)
 
-  refused_step : (t : Table) → table_at schema (present (changes_of txn)) (table_of w) ≡ Some t → (e : TxnWriteError) (s : Stepped) → step schema (present (changes_of txn)) w ≡ s → AnswersStep gives w s (err_of e) (changes_of txn) (changes_of txn') → To e
+  refused_step : (t : Table) → table_at schema (present (txn_of txn)) (table_of w) ≡ Some t → (e : TxnWriteError) (s : Stepped) → step schema (present (txn_of txn)) w ≡ s → AnswersStep gives w s (err_of e) (txn_of txn) (txn_of txn') → To e
   unfolding To err_of
   refused_step t there e (Ok after) is answers = elim answers [
     | inl spent ↦ subst To (sym spent.error) (spent_rule t there after is spent.full spent.same)
@@ -280,23 +280,23 @@ module _ {A : Type 0} (gives : Option Fields → A → Type 0) (c : WriteCommand
     | inr told ↦ subst To (sym told.0) tt
   ]
 
-  refused_table : (e : TxnWriteError) (table : Option Table) → table_at schema (present (changes_of txn)) (table_of w) ≡ table → MatchOption table ((err_of {A = A} e ≡ Err write_refused.UnknownTable) × (changes_of txn' ≡ changes_of txn)) (λ t. AnswersStep gives w (step schema (present (changes_of txn)) w) (err_of e) (changes_of txn) (changes_of txn')) → To e
+  refused_table : (e : TxnWriteError) (table : Option Table) → table_at schema (present (txn_of txn)) (table_of w) ≡ table → MatchOption table ((err_of {A = A} e ≡ Err write_refused.UnknownTable) × (txn_of txn' ≡ txn_of txn)) (λ t. AnswersStep gives w (step schema (present (txn_of txn)) w) (err_of e) (txn_of txn) (txn_of txn')) → To e
   unfolding To err_of schema
   refused_table e None none answers =
       let is : e ≡ write_refused.UnknownTable = (let told = answers.0 in cc) in
-      subst To (sym is) (write_refused_turn c w reply is_write txn txn' written.unknown_table (no_table schema (present (changes_of txn)) w none) answers.1 items sound)
-  refused_table e (Some t) there answers = refused_step t there e (step schema (present (changes_of txn)) w) refl answers
+      subst To (sym is) (write_refused_turn c w reply is_write txn txn' written.unknown_table (no_table schema (present (txn_of txn)) w none) answers.1 items sound)
+  refused_table e (Some t) there answers = refused_step t there e (step schema (present (txn_of txn)) w) refl answers
 
-  pub refuses : (e : TxnWriteError) → AnswersTxnWrite gives w (changes_of txn).spoiled (Err e) (changes_of txn) (changes_of txn') → RefusedTo (command.Write c) (opens.Writing txn) (opens.Writing txn') (changes_of txn).caller.schema (write_rule (changes_of txn).caller.schema (table_of w) e)
+  pub refuses : (e : TxnWriteError) → AnswersTxnWrite gives w (txn_of txn).spoiled (Err e) (txn_of txn) (txn_of txn') → RefusedTo (command.Write c) (opens.Writing txn) (opens.Writing txn') (txn_of txn).caller.schema (write_rule (txn_of txn).caller.schema (table_of w) e)
   unfolding To err_of schema
-  refuses e answers = refused_table e (table_seen (changes_of txn) (table_of w)) (named w) (subst (λ b. AnswersTxnWrite gives w b (Err e) (changes_of txn) (changes_of txn')) sound answers)
+  refuses e answers = refused_table e (table_seen (txn_of txn) (table_of w)) (named w) (subst (λ b. AnswersTxnWrite gives w b (Err e) (txn_of txn) (txn_of txn')) sound answers)
     where
-      named : (x : Write) → table_at (changes_of txn).caller.schema (present (changes_of txn)) (table_of x) ≡ table_seen (changes_of txn) (table_of x)
+      named : (x : Write) → table_at (txn_of txn).caller.schema (present (txn_of txn)) (table_of x) ≡ table_seen (txn_of txn) (table_of x)
       named (put name row) = refl
       named (remove name row) = refl
 
 -- the goal of a write that is refused
-pub refused_write : {A : Type 0} (gives : Option Fields → A → Type 0) (c : WriteCommand) (w : Write) (reply : Option Fields → said.Reply) → IsWrite c w (table_of w) reply → (self : Open) (txn txn' : WriteTxn Bytes) (schema : DbSchema) (e : TxnWriteError) (rule : Option rules.the_data) (result : Result replies.the_data AllocError) → self ≡ opens.Writing txn → schema ≡ (changes_of txn).caller.schema → (changes_of txn).spoiled ≡ false → AnswersTxnWrite gives w (changes_of txn).spoiled (Err e) (changes_of txn) (changes_of txn') → items_of txn' ≡ items_of txn → rule ≡ write_rule schema (table_of w) e → MatchOption rule (IsErr result) (λ r. result ≡ Ok (replies.Refused r)) → IfOk result (λ r. TurnsTo (command.Write c) self (opens.Writing txn') (reply_of schema r))
+pub refused_write : {A : Type 0} (gives : Option Fields → A → Type 0) (c : WriteCommand) (w : Write) (reply : Option Fields → said.Reply) → IsWrite c w (table_of w) reply → (self : Open) (txn txn' : WriteTxn Bytes) (schema : DbSchema) (e : TxnWriteError) (rule : Option rules.the_data) (result : Result replies.the_data AllocError) → self ≡ opens.Writing txn → schema ≡ (txn_of txn).caller.schema → (txn_of txn).spoiled ≡ false → AnswersTxnWrite gives w (txn_of txn).spoiled (Err e) (txn_of txn) (txn_of txn') → items_of txn' ≡ items_of txn → rule ≡ write_rule schema (table_of w) e → MatchOption rule (IsErr result) (λ r. result ≡ Ok (replies.Refused r)) → IfOk result (λ r. TurnsTo (command.Write c) self (opens.Writing txn') (reply_of schema r))
 refused_write gives c w reply is_write self txn txn' schema e rule result is same sound answers items rule_is told =
     subst (λ (s : Open). IfOk result (λ r. TurnsTo (command.Write c) s (opens.Writing txn') (reply_of schema r))) (sym is)
     (refusal_told (command.Write c) (opens.Writing txn) (opens.Writing txn') schema rule result told
@@ -315,25 +315,25 @@ wipe_error_of e = Err e
 pub IsWipe : WriteCommand → (DbSchema → State → Asked (List Write)) → Type 0
 IsWipe c wiping = (schema : DbSchema) (H : History) (v : Client) → write_turn schema H v c ≡ wipe_turn (wiping schema) schema H v
 
-wiped_turns : (c : WriteCommand) (wiping : DbSchema → State → Asked (List Write)) → IsWipe c wiping → (txn txn' : WriteTxn Bytes) (gone : List Write) → wiping (changes_of txn).caller.schema (present (changes_of txn)) ≡ Ok gone → changes_of txn' ≡ changed.with_writes (changes_of txn) gone → items_of txn' ≡ items_of txn → (changes_of txn).spoiled ≡ false → TurnsTo (command.Write c) (opens.Writing txn) (opens.Writing txn') (said.wiped (length gone))
+wiped_turns : (c : WriteCommand) (wiping : DbSchema → State → Asked (List Write)) → IsWipe c wiping → (txn txn' : WriteTxn Bytes) (gone : List Write) → wiping (txn_of txn).caller.schema (present (txn_of txn)) ≡ Ok gone → txn_of txn' ≡ changed.with_writes (txn_of txn) gone → items_of txn' ≡ items_of txn → (txn_of txn).spoiled ≡ false → TurnsTo (command.Write c) (opens.Writing txn) (opens.Writing txn') (said.wiped (length gone))
 unfolding IsWipe next_changes
 wiped_turns c wiping is_wipe txn txn' gone lists changes items sound = record {
   turns = λ v is le. record {
-    next = next_changes v (changed.with_writes (changes_of txn) gone) (items_of txn);
-    says = by_turn (ap (outcome v) (is_wipe (changes_of txn).caller.schema (changes_of txn).caller.seen v) ∙ rw (is, lists) refl);
-    transaction = ap (λ (t : Changes). (next_changes v t (items_of txn)).transaction) (sym changes) ∙ ap (λ (texts : List Bytes). (next_changes v (changes_of txn') texts).transaction) (sym items);
+    next = next_changes v (changed.with_writes (txn_of txn) gone) (items_of txn);
+    says = by_turn (ap (outcome v) (is_wipe (txn_of txn).caller.schema (txn_of txn).caller.seen v) ∙ rw (is, lists) refl);
+    transaction = ap (λ (t : DbTxn). (next_changes v t (items_of txn)).transaction) (sym changes) ∙ ap (λ (texts : List Bytes). (next_changes v (txn_of txn') texts).transaction) (sym items);
     snapshots = refl;
     watching = refl;
-    last = subst (λ (t : Changes). v.last ≤ length t.caller.seen) (sym changes) le;
+    last = subst (λ (t : DbTxn). v.last ≤ length t.caller.seen) (sym changes) le;
   };
-  stands = ap (λ (t : Changes). t.spoiled) changes ∙ sound;
-  grows = none_made (changes_of txn).caller (changes_of txn').caller [] refl (ap (λ (t : Changes). t.caller) changes);
+  stands = ap (λ (t : DbTxn). t.spoiled) changes ∙ sound;
+  grows = none_made (txn_of txn).caller (txn_of txn').caller [] refl (ap (λ (t : DbTxn). t.caller) changes);
   numbered = refl;
 }
 
-wipe_refused_turn : (c : WriteCommand) (wiping : DbSchema → State → Asked (List Write)) → IsWipe c wiping → (txn txn' : WriteTxn Bytes) (why : asked.AskRefusal) → wiping (changes_of txn).caller.schema (present (changes_of txn)) ≡ Err why → changes_of txn' ≡ changes_of txn → items_of txn' ≡ items_of txn → (changes_of txn).spoiled ≡ false → TurnsTo (command.Write c) (opens.Writing txn) (opens.Writing txn') (said.refused (question_word why))
+wipe_refused_turn : (c : WriteCommand) (wiping : DbSchema → State → Asked (List Write)) → IsWipe c wiping → (txn txn' : WriteTxn Bytes) (why : asked.AskRefusal) → wiping (txn_of txn).caller.schema (present (txn_of txn)) ≡ Err why → txn_of txn' ≡ txn_of txn → items_of txn' ≡ items_of txn → (txn_of txn).spoiled ≡ false → TurnsTo (command.Write c) (opens.Writing txn) (opens.Writing txn') (said.refused (question_word why))
 unfolding IsWipe
-wipe_refused_turn c wiping is_wipe txn txn' why breaks changes items sound = same_turns c txn txn' _ (λ v is. is_wipe (changes_of txn).caller.schema (changes_of txn).caller.seen v ∙ rw (is, breaks) refl) changes items sound
+wipe_refused_turn c wiping is_wipe txn txn' why breaks changes items sound = same_turns c txn txn' _ (λ v is. is_wipe (txn_of txn).caller.schema (txn_of txn).caller.seen v ∙ rw (is, breaks) refl) changes items sound
 
 -- the rule of a question that is refused, and its name
 pub rule_of_question : (why : asked.AskRefusal) → question_rule (ask_error why) ≡ Some (rules.Question (ask_error why))
@@ -364,32 +364,32 @@ name_of_question (asked.bad_argument no_prefix_form) = refl
 question_refused : (c : Command) (old new : Open) (schema : DbSchema) (why : asked.AskRefusal) → TurnsTo c old new (said.refused (question_word why)) → RefusedTo c old new schema (question_rule (ask_error why))
 question_refused c old new schema why turns = subst (λ (r : Option rules.the_data). RefusedTo c old new schema r) (sym (rule_of_question why)) (subst (λ (b : Bytes). TurnsTo c old new (said.refused b)) (sym (name_of_question why)) turns)
 
-module _ (c : WriteCommand) (wiping : DbSchema → State → Asked (List Write)) (is_wipe : IsWipe c wiping) (name : Bytes) (unknown : (schema : DbSchema) (s : State) → table_at schema s name ≡ None → wiping schema s ≡ Err asked.unknown_table) (txn txn' : WriteTxn Bytes) (items : items_of txn' ≡ items_of txn) (sound : (changes_of txn).spoiled ≡ false) where
+module _ (c : WriteCommand) (wiping : DbSchema → State → Asked (List Write)) (is_wipe : IsWipe c wiping) (name : Bytes) (unknown : (schema : DbSchema) (s : State) → table_at schema s name ≡ None → wiping schema s ≡ Err asked.unknown_table) (txn txn' : WriteTxn Bytes) (items : items_of txn' ≡ items_of txn) (sound : (txn_of txn).spoiled ≡ false) where
   lists : Asked (List Write)
-  lists = wiping (changes_of txn).caller.schema (present (changes_of txn))
+  lists = wiping (txn_of txn).caller.schema (present (txn_of txn))
 
-  wipe_ok : (n : ℕ) (told : Asked (List Write)) → lists ≡ told → AnswersRemovals told (count_of n) (changes_of txn) (changes_of txn') → TurnsTo (command.Write c) (opens.Writing txn) (opens.Writing txn') (said.wiped n)
+  wipe_ok : (n : ℕ) (told : Asked (List Write)) → lists ≡ told → AnswersRemovals told (count_of n) (txn_of txn) (txn_of txn') → TurnsTo (command.Write c) (opens.Writing txn) (opens.Writing txn') (said.wiped n)
   unfolding lists count_of
   wipe_ok n (Ok gone) is answers = subst (λ (k : ℕ). TurnsTo (command.Write c) (opens.Writing txn) (opens.Writing txn') (said.wiped k)) (sym answers.0) (wiped_turns c wiping is_wipe txn txn' gone is answers.1 items sound)
   wipe_ok n (Err why) is answers = let e = answers.0 in cc
 
-  pub wipes : (n : ℕ) → AnswersTxnWipe (changes_of txn).spoiled name (wiping (changes_of txn).caller.schema (present (changes_of txn))) (Ok n) (changes_of txn) (changes_of txn') → TurnsTo (command.Write c) (opens.Writing txn) (opens.Writing txn') (said.wiped n)
+  pub wipes : (n : ℕ) → AnswersTxnWipe (txn_of txn).spoiled name (wiping (txn_of txn).caller.schema (present (txn_of txn))) (Ok n) (txn_of txn) (txn_of txn') → TurnsTo (command.Write c) (opens.Writing txn) (opens.Writing txn') (said.wiped n)
   unfolding lists count_of
-  wipes n answers = of (table_seen (changes_of txn) name) (subst (λ b. AnswersTxnWipe b name lists (Ok n) (changes_of txn) (changes_of txn')) sound answers)
+  wipes n answers = of (table_seen (txn_of txn) name) (subst (λ b. AnswersTxnWipe b name lists (Ok n) (txn_of txn) (txn_of txn')) sound answers)
     where
-      of : (table : Option Table) → MatchOption table ((count_of n ≡ Err wipe_refused.UnknownTable) × (changes_of txn' ≡ changes_of txn)) (λ t. AnswersRemovals lists (count_of n) (changes_of txn) (changes_of txn')) → TurnsTo (command.Write c) (opens.Writing txn) (opens.Writing txn') (said.wiped n)
+      of : (table : Option Table) → MatchOption table ((count_of n ≡ Err wipe_refused.UnknownTable) × (txn_of txn' ≡ txn_of txn)) (λ t. AnswersRemovals lists (count_of n) (txn_of txn) (txn_of txn')) → TurnsTo (command.Write c) (opens.Writing txn) (opens.Writing txn') (said.wiped n)
       of None told = let e = told.0 in cc
       of (Some t) told = wipe_ok n lists refl told
 
   ToWipe : TxnWipeError → Type 0
-  ToWipe e = RefusedTo (command.Write c) (opens.Writing txn) (opens.Writing txn') (changes_of txn).caller.schema (wipe_rule e)
+  ToWipe e = RefusedTo (command.Write c) (opens.Writing txn) (opens.Writing txn') (txn_of txn).caller.schema (wipe_rule e)
 
   -- the wipe breaks no rule, and finds too few ids
-  spent_wipe : (gone : List Write) → lists ≡ Ok gone → changed.IsFull (length gone) (changes_of txn) → changes_of txn' ≡ changes_of txn → ToWipe (wipe_refused.Refused wipe_errors.IdsSpent)
+  spent_wipe : (gone : List Write) → lists ≡ Ok gone → changed.IsFull (length gone) (txn_of txn) → txn_of txn' ≡ txn_of txn → ToWipe (wipe_refused.Refused wipe_errors.IdsSpent)
   unfolding ToWipe lists IsWipe next_changes
-  spent_wipe gone is_lists full changes = spent_turns c txn txn' gone (said.wiped (length gone)) (λ v is. is_wipe (changes_of txn).caller.schema (changes_of txn).caller.seen v ∙ rw (is, is_lists) refl) full changes items sound
+  spent_wipe gone is_lists full changes = spent_turns c txn txn' gone (said.wiped (length gone)) (λ v is. is_wipe (txn_of txn).caller.schema (txn_of txn).caller.seen v ∙ rw (is, is_lists) refl) full changes items sound
 
-  wipe_err : (e : TxnWipeError) (told : Asked (List Write)) → lists ≡ told → AnswersRemovals told (wipe_error_of e) (changes_of txn) (changes_of txn') → ToWipe e
+  wipe_err : (e : TxnWipeError) (told : Asked (List Write)) → lists ≡ told → AnswersRemovals told (wipe_error_of e) (txn_of txn) (txn_of txn') → ToWipe e
   unfolding ToWipe lists wipe_error_of
   wipe_err e (Ok gone) is answers = elim answers [
     | inl spent ↦ subst ToWipe (sym spent.error) (spent_wipe gone is spent.full spent.same)
@@ -397,27 +397,27 @@ module _ (c : WriteCommand) (wiping : DbSchema → State → Asked (List Write))
   ]
   wipe_err e (Err why) is answers =
       let told : e ≡ wipe_refused.Refused (wipe_errors.Refused (ask_error why)) = (let x = answers.0 in cc) in
-      subst ToWipe (sym told) (question_refused (command.Write c) (opens.Writing txn) (opens.Writing txn') (changes_of txn).caller.schema why (wipe_refused_turn c wiping is_wipe txn txn' why is answers.1 items sound))
+      subst ToWipe (sym told) (question_refused (command.Write c) (opens.Writing txn) (opens.Writing txn') (txn_of txn).caller.schema why (wipe_refused_turn c wiping is_wipe txn txn' why is answers.1 items sound))
 
-  pub wipe_refuses : (e : TxnWipeError) → AnswersTxnWipe (changes_of txn).spoiled name (wiping (changes_of txn).caller.schema (present (changes_of txn))) (Err e) (changes_of txn) (changes_of txn') → RefusedTo (command.Write c) (opens.Writing txn) (opens.Writing txn') (changes_of txn).caller.schema (wipe_rule e)
+  pub wipe_refuses : (e : TxnWipeError) → AnswersTxnWipe (txn_of txn).spoiled name (wiping (txn_of txn).caller.schema (present (txn_of txn))) (Err e) (txn_of txn) (txn_of txn') → RefusedTo (command.Write c) (opens.Writing txn) (opens.Writing txn') (txn_of txn).caller.schema (wipe_rule e)
   unfolding ToWipe lists wipe_error_of
-  wipe_refuses e answers = of (table_seen (changes_of txn) name) refl (subst (λ b. AnswersTxnWipe b name lists (Err e) (changes_of txn) (changes_of txn')) sound answers)
+  wipe_refuses e answers = of (table_seen (txn_of txn) name) refl (subst (λ b. AnswersTxnWipe b name lists (Err e) (txn_of txn) (txn_of txn')) sound answers)
     where
-      of : (table : Option Table) → table_seen (changes_of txn) name ≡ table → MatchOption table ((wipe_error_of e ≡ Err wipe_refused.UnknownTable) × (changes_of txn' ≡ changes_of txn)) (λ t. AnswersRemovals lists (wipe_error_of e) (changes_of txn) (changes_of txn')) → ToWipe e
+      of : (table : Option Table) → table_seen (txn_of txn) name ≡ table → MatchOption table ((wipe_error_of e ≡ Err wipe_refused.UnknownTable) × (txn_of txn' ≡ txn_of txn)) (λ t. AnswersRemovals lists (wipe_error_of e) (txn_of txn) (txn_of txn')) → ToWipe e
       of None none told =
           let is : e ≡ wipe_refused.UnknownTable = (let x = told.0 in cc) in
-          subst ToWipe (sym is) (wipe_refused_turn c wiping is_wipe txn txn' asked.unknown_table (unknown (changes_of txn).caller.schema (present (changes_of txn)) none) told.1 items sound)
+          subst ToWipe (sym is) (wipe_refused_turn c wiping is_wipe txn txn' asked.unknown_table (unknown (txn_of txn).caller.schema (present (txn_of txn)) none) told.1 items sound)
       of (Some t) there told = wipe_err e lists refl told
 
 -- the goals of wipes
-pub wiped_result : (c : WriteCommand) (wiping : DbSchema → State → Asked (List Write)) → IsWipe c wiping → (name : Bytes) → ((schema : DbSchema) (s : State) → table_at schema s name ≡ None → wiping schema s ≡ Err asked.unknown_table) → (self : Open) (txn txn' : WriteTxn Bytes) (n : ℕ) → self ≡ opens.Writing txn → (changes_of txn).spoiled ≡ false → AnswersTxnWipe (changes_of txn).spoiled name (wiping (changes_of txn).caller.schema (present (changes_of txn))) (Ok n) (changes_of txn) (changes_of txn') → items_of txn' ≡ items_of txn → TurnsTo (command.Write c) self (opens.Writing txn') (said.wiped n)
+pub wiped_result : (c : WriteCommand) (wiping : DbSchema → State → Asked (List Write)) → IsWipe c wiping → (name : Bytes) → ((schema : DbSchema) (s : State) → table_at schema s name ≡ None → wiping schema s ≡ Err asked.unknown_table) → (self : Open) (txn txn' : WriteTxn Bytes) (n : ℕ) → self ≡ opens.Writing txn → (txn_of txn).spoiled ≡ false → AnswersTxnWipe (txn_of txn).spoiled name (wiping (txn_of txn).caller.schema (present (txn_of txn))) (Ok n) (txn_of txn) (txn_of txn') → items_of txn' ≡ items_of txn → TurnsTo (command.Write c) self (opens.Writing txn') (said.wiped n)
 wiped_result c wiping is_wipe name unknown self txn txn' n is sound answers items = subst (λ (s : Open). TurnsTo (command.Write c) s (opens.Writing txn') (said.wiped n)) (sym is) (wipes c wiping is_wipe name unknown txn txn' items sound n answers)
 
-pub refused_wipe : (c : WriteCommand) (wiping : DbSchema → State → Asked (List Write)) → IsWipe c wiping → (name : Bytes) → ((schema : DbSchema) (s : State) → table_at schema s name ≡ None → wiping schema s ≡ Err asked.unknown_table) → (self : Open) (txn txn' : WriteTxn Bytes) (e : TxnWipeError) (rule : Option rules.the_data) (result : Result replies.the_data AllocError) → self ≡ opens.Writing txn → (changes_of txn).spoiled ≡ false → AnswersTxnWipe (changes_of txn).spoiled name (wiping (changes_of txn).caller.schema (present (changes_of txn))) (Err e) (changes_of txn) (changes_of txn') → items_of txn' ≡ items_of txn → rule ≡ wipe_rule e → MatchOption rule (IsErr result) (λ r. result ≡ Ok (replies.Refused r)) → IfOk result (λ r. TurnsTo (command.Write c) self (opens.Writing txn') (reply_of (caller_of self).schema r))
+pub refused_wipe : (c : WriteCommand) (wiping : DbSchema → State → Asked (List Write)) → IsWipe c wiping → (name : Bytes) → ((schema : DbSchema) (s : State) → table_at schema s name ≡ None → wiping schema s ≡ Err asked.unknown_table) → (self : Open) (txn txn' : WriteTxn Bytes) (e : TxnWipeError) (rule : Option rules.the_data) (result : Result replies.the_data AllocError) → self ≡ opens.Writing txn → (txn_of txn).spoiled ≡ false → AnswersTxnWipe (txn_of txn).spoiled name (wiping (txn_of txn).caller.schema (present (txn_of txn))) (Err e) (txn_of txn) (txn_of txn') → items_of txn' ≡ items_of txn → rule ≡ wipe_rule e → MatchOption rule (IsErr result) (λ r. result ≡ Ok (replies.Refused r)) → IfOk result (λ r. TurnsTo (command.Write c) self (opens.Writing txn') (reply_of (caller_of self).schema r))
 refused_wipe c wiping is_wipe name unknown self txn txn' e rule result is sound answers items rule_is told =
     subst (λ (s : Open). IfOk result (λ r. TurnsTo (command.Write c) s (opens.Writing txn') (reply_of (caller_of s).schema r))) (sym is)
-    (refusal_told (command.Write c) (opens.Writing txn) (opens.Writing txn') (changes_of txn).caller.schema rule result told
-    (subst (λ (r : Option rules.the_data). RefusedTo (command.Write c) (opens.Writing txn) (opens.Writing txn') (changes_of txn).caller.schema r) (sym rule_is)
+    (refusal_told (command.Write c) (opens.Writing txn) (opens.Writing txn') (txn_of txn).caller.schema rule result told
+    (subst (λ (r : Option rules.the_data). RefusedTo (command.Write c) (opens.Writing txn) (opens.Writing txn') (txn_of txn).caller.schema r) (sym rule_is)
     (wipe_refuses c wiping is_wipe name unknown txn txn' items sound e answers)))
 
 pub wipe_unknown : (q : Query) (schema : DbSchema) (s : State) → table_at schema s q.table ≡ None → wipe schema s q ≡ Err asked.unknown_table
@@ -510,48 +510,48 @@ module _ (q : Query) (old new : Open) (sight : Sight) (opened : some_open (trans
 
 -- ---- the caller stays
 
-pub write_caller : {A : Type 0} (gives : Option Fields → A → Type 0) (w : Write) (b : Bool) (result : Result A TxnWriteError) (old new : Changes) → AnswersTxnWrite gives w b result old new → new.caller ≡ old.caller
-write_caller gives w true result old new answers = ap (λ (t : Changes). t.caller) answers.1
+pub write_caller : {A : Type 0} (gives : Option Fields → A → Type 0) (w : Write) (b : Bool) (result : Result A TxnWriteError) (old new : DbTxn) → AnswersTxnWrite gives w b result old new → new.caller ≡ old.caller
+write_caller gives w true result old new answers = ap (λ (t : DbTxn). t.caller) answers.1
 write_caller {A} gives w false result old new answers = of (table_seen old (table_of w)) answers
   where
     stepped_caller : (s : Stepped) (r : Result A TxnWriteError) → AnswersStep gives w s r old new → new.caller ≡ old.caller
-    stepped_caller (Ok after) (Ok x) told = ap (λ (t : Changes). t.caller) told.1
-    stepped_caller (Ok after) (Err e) told = elim told [ inl spent ↦ ap (λ (t : Changes). t.caller) spent.same | inr spoiled ↦ ap (λ (t : Changes). t.caller) spoiled.1 ]
+    stepped_caller (Ok after) (Ok x) told = ap (λ (t : DbTxn). t.caller) told.1
+    stepped_caller (Ok after) (Err e) told = elim told [ inl spent ↦ ap (λ (t : DbTxn). t.caller) spent.same | inr spoiled ↦ ap (λ (t : DbTxn). t.caller) spoiled.1 ]
     stepped_caller (Err why) (Ok x) told = absurd told
-    stepped_caller (Err why) (Err e) told = elim told [ inl same ↦ ap (λ (t : Changes). t.caller) same.1 | inr spoiled ↦ ap (λ (t : Changes). t.caller) spoiled.1 ]
+    stepped_caller (Err why) (Err e) told = elim told [ inl same ↦ ap (λ (t : DbTxn). t.caller) same.1 | inr spoiled ↦ ap (λ (t : DbTxn). t.caller) spoiled.1 ]
 
     of : (table : Option Table) → MatchOption table ((result ≡ Err write_refused.UnknownTable) × (new ≡ old)) (λ t. AnswersStep gives w (step old.caller.schema (present old) w) result old new) → new.caller ≡ old.caller
-    of None told = ap (λ (t : Changes). t.caller) told.1
+    of None told = ap (λ (t : DbTxn). t.caller) told.1
     of (Some t) told = stepped_caller (step old.caller.schema (present old) w) result told
 
-pub wipe_caller : (b : Bool) (name : Bytes) (told : Asked (List Write)) (result : Result ℕ TxnWipeError) (old new : Changes) → AnswersTxnWipe b name told result old new → new.caller ≡ old.caller
-wipe_caller true name told result old new answers = ap (λ (t : Changes). t.caller) answers.1
+pub wipe_caller : (b : Bool) (name : Bytes) (told : Asked (List Write)) (result : Result ℕ TxnWipeError) (old new : DbTxn) → AnswersTxnWipe b name told result old new → new.caller ≡ old.caller
+wipe_caller true name told result old new answers = ap (λ (t : DbTxn). t.caller) answers.1
 wipe_caller false name told result old new answers = of (table_seen old name) answers
   where
     removed_caller : (told : Asked (List Write)) (r : Result ℕ TxnWipeError) → AnswersRemovals told r old new → new.caller ≡ old.caller
-    removed_caller (Ok ws) (Ok n) answers' = ap (λ (t : Changes). t.caller) answers'.1
-    removed_caller (Ok ws) (Err e) answers' = elim answers' [ inl spent ↦ ap (λ (t : Changes). t.caller) spent.same | inr spoiled ↦ ap (λ (t : Changes). t.caller) spoiled.1 ]
-    removed_caller (Err why) r answers' = ap (λ (t : Changes). t.caller) answers'.1
+    removed_caller (Ok ws) (Ok n) answers' = ap (λ (t : DbTxn). t.caller) answers'.1
+    removed_caller (Ok ws) (Err e) answers' = elim answers' [ inl spent ↦ ap (λ (t : DbTxn). t.caller) spent.same | inr spoiled ↦ ap (λ (t : DbTxn). t.caller) spoiled.1 ]
+    removed_caller (Err why) r answers' = ap (λ (t : DbTxn). t.caller) answers'.1
 
     of : (table : Option Table) → MatchOption table ((result ≡ Err wipe_refused.UnknownTable) × (new ≡ old)) (λ t. AnswersRemovals told result old new) → new.caller ≡ old.caller
-    of None answers' = ap (λ (t : Changes). t.caller) answers'.1
+    of None answers' = ap (λ (t : DbTxn). t.caller) answers'.1
     of (Some t) answers' = removed_caller told result answers'
 
 -- ---- deferred texts
 
-pub defer_turns : (self : Open) (txn txn' : WriteTxn Bytes) (text item : Bytes) → self ≡ opens.Writing txn → item ≡ text → changes_of txn' ≡ changes_of txn → items_of txn' ≡ items_of txn ++ item ∷ [] → (changes_of txn).spoiled ≡ false → TurnsTo (command.Defer text) self (opens.Writing txn') said.deferred
+pub defer_turns : (self : Open) (txn txn' : WriteTxn Bytes) (text item : Bytes) → self ≡ opens.Writing txn → item ≡ text → txn_of txn' ≡ txn_of txn → items_of txn' ≡ items_of txn ++ item ∷ [] → (txn_of txn).spoiled ≡ false → TurnsTo (command.Defer text) self (opens.Writing txn') said.deferred
 unfolding next_changes
 defer_turns self txn txn' text item is copied changes items sound = subst (λ (s : Open). TurnsTo (command.Defer text) s (opens.Writing txn') said.deferred) (sym is) (record {
   turns = λ v open_is le. record {
-    next = next_changes v (changes_of txn) (items_of txn ++ text ∷ []);
+    next = next_changes v (txn_of txn) (items_of txn ++ text ∷ []);
     says = rw open_is refl;
-    transaction = ap (λ (t : Changes). (next_changes v t (items_of txn ++ text ∷ [])).transaction) (sym changes) ∙ ap (λ (texts : List Bytes). (next_changes v (changes_of txn') texts).transaction) (sym (items ∙ ap (λ (x : Bytes). items_of txn ++ x ∷ []) copied));
+    transaction = ap (λ (t : DbTxn). (next_changes v t (items_of txn ++ text ∷ [])).transaction) (sym changes) ∙ ap (λ (texts : List Bytes). (next_changes v (txn_of txn') texts).transaction) (sym (items ∙ ap (λ (x : Bytes). items_of txn ++ x ∷ []) copied));
     snapshots = refl;
     watching = refl;
-    last = subst (λ (t : Changes). v.last ≤ length t.caller.seen) (sym changes) le;
+    last = subst (λ (t : DbTxn). v.last ≤ length t.caller.seen) (sym changes) le;
   };
-  stands = ap (λ (t : Changes). t.spoiled) changes ∙ sound;
-  grows = none_made (changes_of txn).caller (changes_of txn').caller [] refl (ap (λ (t : Changes). t.caller) changes);
+  stands = ap (λ (t : DbTxn). t.spoiled) changes ∙ sound;
+  grows = none_made (txn_of txn).caller (txn_of txn').caller [] refl (ap (λ (t : DbTxn). t.caller) changes);
   numbered = refl;
 })
 
@@ -566,20 +566,20 @@ reading_asked self pass txn txn' q q' is stands same asked =
     let posed = subst (λ (x : Query). TurnsTo (command.Ask (ask_line.Question q)) (opens.Reading pass txn) (opens.Reading pass txn) (asked_reply (ask txn'.view.schema txn'.view.state x))) (sym asked) shared in
     subst (λ (s : Open). TurnsTo (command.Ask (ask_line.Question q)) s (opens.Reading pass txn) (asked_reply (ask txn'.view.schema txn'.view.state q'))) (sym is) posed
 
-pub writing_same : (txn txn' : WriteTxn Bytes) → changes_of txn' ≡ changes_of txn → items_of txn' ≡ items_of txn → transaction_of (opens.Writing txn') ≡ transaction_of (opens.Writing txn)
-writing_same txn txn' changes items = ap (λ (t : Changes). writing (record { number = length t.caller.seen; writes = t.writes; texts = items_of txn' })) changes ∙ ap (λ (texts : List Bytes). writing (record { number = length (changes_of txn).caller.seen; writes = (changes_of txn).writes; texts = texts })) items
+pub writing_same : (txn txn' : WriteTxn Bytes) → txn_of txn' ≡ txn_of txn → items_of txn' ≡ items_of txn → transaction_of (opens.Writing txn') ≡ transaction_of (opens.Writing txn)
+writing_same txn txn' changes items = ap (λ (t : DbTxn). writing (record { number = length t.caller.seen; writes = t.writes; texts = items_of txn' })) changes ∙ ap (λ (texts : List Bytes). writing (record { number = length (txn_of txn).caller.seen; writes = (txn_of txn).writes; texts = texts })) items
 
-pub writing_answered : (self : Open) (txn txn' : WriteTxn Bytes) (q : Query) (a : Answer) → self ≡ opens.Writing txn → (changes_of txn).spoiled ≡ false → AnswersTxnAsk (changes_of txn).spoiled (ask (changes_of txn).caller.schema (present (changes_of txn)) q) (Ok a) → changes_of txn' ≡ changes_of txn → items_of txn' ≡ items_of txn → TurnsTo (command.Ask (ask_line.Question q)) self (opens.Writing txn') (said.answered a)
+pub writing_answered : (self : Open) (txn txn' : WriteTxn Bytes) (q : Query) (a : Answer) → self ≡ opens.Writing txn → (txn_of txn).spoiled ≡ false → AnswersTxnAsk (txn_of txn).spoiled (ask (txn_of txn).caller.schema (present (txn_of txn)) q) (Ok a) → txn_of txn' ≡ txn_of txn → items_of txn' ≡ items_of txn → TurnsTo (command.Ask (ask_line.Question q)) self (opens.Writing txn') (said.answered a)
 unfolding next_changes
 writing_answered self txn txn' q a is sound answers changes items =
     subst (λ (s : Open). TurnsTo (command.Ask (ask_line.Question q)) s (opens.Writing txn') (said.answered a)) (sym is)
-    (answered_turns q (opens.Writing txn) (opens.Writing txn') (record { number = length (changes_of txn).caller.seen; writes = (changes_of txn).writes; uncommitted = true }) refl (ap (λ (t : Changes). t.caller) changes) (writing_same txn txn' changes items) (ap (λ (t : Changes). t.spoiled) changes ∙ sound) a (subst (λ b. AnswersTxnAsk b (ask (changes_of txn).caller.schema (present (changes_of txn)) q) (Ok a)) sound answers))
+    (answered_turns q (opens.Writing txn) (opens.Writing txn') (record { number = length (txn_of txn).caller.seen; writes = (txn_of txn).writes; uncommitted = true }) refl (ap (λ (t : DbTxn). t.caller) changes) (writing_same txn txn' changes items) (ap (λ (t : DbTxn). t.spoiled) changes ∙ sound) a (subst (λ b. AnswersTxnAsk b (ask (txn_of txn).caller.schema (present (txn_of txn)) q) (Ok a)) sound answers))
 
-pub writing_refused : (self : Open) (txn txn' : WriteTxn Bytes) (q : Query) (e : TxnAskError) (rule : Option rules.the_data) (result : Result replies.the_data AllocError) → self ≡ opens.Writing txn → (changes_of txn).spoiled ≡ false → AnswersTxnAsk (changes_of txn).spoiled (ask (changes_of txn).caller.schema (present (changes_of txn)) q) (Err e) → changes_of txn' ≡ changes_of txn → items_of txn' ≡ items_of txn → rule ≡ txn_question_rule e → MatchOption rule (IsErr result) (λ r. result ≡ Ok (replies.Refused r)) → IfOk result (λ r. TurnsTo (command.Ask (ask_line.Question q)) self (opens.Writing txn') (reply_of (caller_of self).schema r))
+pub writing_refused : (self : Open) (txn txn' : WriteTxn Bytes) (q : Query) (e : TxnAskError) (rule : Option rules.the_data) (result : Result replies.the_data AllocError) → self ≡ opens.Writing txn → (txn_of txn).spoiled ≡ false → AnswersTxnAsk (txn_of txn).spoiled (ask (txn_of txn).caller.schema (present (txn_of txn)) q) (Err e) → txn_of txn' ≡ txn_of txn → items_of txn' ≡ items_of txn → rule ≡ txn_question_rule e → MatchOption rule (IsErr result) (λ r. result ≡ Ok (replies.Refused r)) → IfOk result (λ r. TurnsTo (command.Ask (ask_line.Question q)) self (opens.Writing txn') (reply_of (caller_of self).schema r))
 writing_refused self txn txn' q e rule result is sound answers changes items rule_is told =
     subst (λ (s : Open). IfOk result (λ r. TurnsTo (command.Ask (ask_line.Question q)) s (opens.Writing txn') (reply_of (caller_of s).schema r))) (sym is)
-    (of e rule_is (subst (λ b. AnswersTxnAsk b (ask (changes_of txn).caller.schema (present (changes_of txn)) q) (Err e)) sound answers))
+    (of e rule_is (subst (λ b. AnswersTxnAsk b (ask (txn_of txn).caller.schema (present (txn_of txn)) q) (Err e)) sound answers))
   where
-    of : (e : TxnAskError) → rule ≡ txn_question_rule e → AnswersTxnAsk false (ask (changes_of txn).caller.schema (present (changes_of txn)) q) (Err e) → IfOk result (λ r. TurnsTo (command.Ask (ask_line.Question q)) (opens.Writing txn) (opens.Writing txn') (reply_of (changes_of txn).caller.schema r))
+    of : (e : TxnAskError) → rule ≡ txn_question_rule e → AnswersTxnAsk false (ask (txn_of txn).caller.schema (present (txn_of txn)) q) (Err e) → IfOk result (λ r. TurnsTo (command.Ask (ask_line.Question q)) (opens.Writing txn) (opens.Writing txn') (reply_of (txn_of txn).caller.schema r))
     of ask_refused.Spoiled rule_is' answers' = absurd answers'
-    of (ask_refused.Refused x) rule_is' answers' = refused_question q (opens.Writing txn) (opens.Writing txn') (record { number = length (changes_of txn).caller.seen; writes = (changes_of txn).writes; uncommitted = true }) refl (ap (λ (t : Changes). t.caller) changes) (writing_same txn txn' changes items) (ap (λ (t : Changes). t.spoiled) changes ∙ sound) x rule result answers' rule_is' told
+    of (ask_refused.Refused x) rule_is' answers' = refused_question q (opens.Writing txn) (opens.Writing txn') (record { number = length (txn_of txn).caller.seen; writes = (txn_of txn).writes; uncommitted = true }) refl (ap (λ (t : DbTxn). t.caller) changes) (writing_same txn txn' changes items) (ap (λ (t : DbTxn). t.spoiled) changes ∙ sound) x rule result answers' rule_is' told

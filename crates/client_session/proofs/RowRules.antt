@@ -76,7 +76,7 @@ other_rule schema s w t why there refuses = subst (λ (r : Stepped). IsKnown r) 
 
 -- ---- the name of a rule
 
-one_index : (i : Option IndexSchema) → name_part (option_map (λ (x : IndexSchema). x.name) i) ≡ said.name_part i
+one_index : (i : Option IndexSchema) → name_part (option_map (λ (x : IndexSchema). x.name) i) ≡ said.index_name_part i
 one_index None = refl
 one_index (Some i) = refl
 

@@ -20,24 +20,24 @@ use Rattle.client_session.specs.Answered.{AreMade, AreTold, HasAnswered, HasStop
 use Rattle.client_session.specs.Cells.{RunsByCells}
 use Rattle.client_session.specs.Progress.{Progress}
 use Rattle.client_session.specs.Steps.{AnswersStep, HasDoneOnce, IsBlocked, Waits}
-use Rattle.client_session.specs.declared.desk.Desk.{Desk}
+use Rattle.client_session.specs.declared.session_state.SessionState.{SessionState}
 use Rattle.client_session.specs.declared.stepped.Stepped.TheVariants as stepped
 use Rattle.client_session.specs.inner.Carried.{AddsSome, AnswersLine, CarriedOn, CarriesOut, SoFar, StepsLine, Stops, StopsLine}
-use Rattle.client_session.specs.inner.DeskView.{Follows, HoldsUp, IsHeldUp, IsWaiting}
+use Rattle.client_session.specs.inner.StateView.{Follows, HoldsUp, IsHeldUp, IsWaiting}
 use Rattle.client_session.specs.inner.OpenView.{caller_of, is_writing, writes}
 use Rattle.client_session.specs.inner.Transcript.{Transcript}
 use Rattle.client_session.specs.inner.StoredSession.{HasDone, IsUnfinished, caller_in, writing_in}
 
 -- the fields, as contracts see them
-abbrev pub progress_of : ℕ → List Line → Option Desk → ℕ → Transcript → Bool → Progress
-progress_of client script desk n t failed = record {
+abbrev pub progress_of : ℕ → List Line → Option SessionState → ℕ → Transcript → Bool → Progress
+progress_of client script state n t failed = record {
   client = client;
   script = script;
-  caller = caller_in desk;
+  caller = caller_in state;
   answered = n;
   text = t.text;
   commits = t.commits;
-  writing = writing_in desk;
+  writing = writing_in state;
   failed = failed;
 }
 
@@ -172,7 +172,7 @@ stops_some s t same fails closed c = record {
 -- ---- what is kept
 
 -- no line is answered yet
-pub begins : (script : List Line) (d : Desk) (t : Transcript) → Follows d at_start → t ≡ record { text = []; commits = 0 } → HasDone script (Some d) 0 t false
+pub begins : (script : List Line) (d : SessionState) (t : Transcript) → Follows d at_start → t ≡ record { text = []; commits = 0 } → HasDone script (Some d) 0 t false
 begins script d t follows none = record {
   here = refl;
   within = search (arith);
@@ -182,24 +182,24 @@ begins script d t follows none = record {
   written = ap (λ (x : Transcript). x.text) none;
   counted = ap (λ (x : Transcript). x.commits) none;
   made = λ _. none_made (caller_of d.«open»);
-  follows = λ ok more d' is. let same : d ≡ d' = cc in subst (λ (x : Desk). Follows x at_start) same follows;
+  follows = λ ok more d' is. let same : d ≡ d' = cc in subst (λ (x : SessionState). Follows x at_start) same follows;
   closed = λ fails. cc;
 }
 
--- a session that isn't finished has what its desk goes on with
-pub goes_on : (script : List Line) (desk : Option Desk) (n : ℕ) (text : Transcript) (failed : Bool) (d : Desk) → HasDone script desk n text failed → desk ≡ Some d → failed ≡ false → n < length script → SoFar script n d text
-goes_on script desk n text failed d h is ok more = record {
+-- a session that isn't finished has what its state goes on with
+pub goes_on : (script : List Line) (state : Option SessionState) (n : ℕ) (text : Transcript) (failed : Bool) (d : SessionState) → HasDone script state n text failed → state ≡ Some d → failed ≡ false → n < length script → SoFar script n d text
+goes_on script state n text failed d h is ok more = record {
   replies = h.replies;
   client = h.client;
-  runs = subst (λ (o : Option Desk). let p = caller_in o in RunsByCells (cells_seen p) p.number at_start (take n script) h.replies h.client) is h.runs;
+  runs = subst (λ (o : Option SessionState). let p = caller_in o in RunsByCells (cells_seen p) p.number at_start (take n script) h.replies h.client) is h.runs;
   follows = h.follows ok more d is;
   written = h.written;
   counted = h.counted;
-  made = subst (λ (o : Option Desk). AreMade (caller_in o) h.replies) is (h.made ok);
+  made = subst (λ (o : Option SessionState). AreMade (caller_in o) h.replies) is (h.made ok);
 }
 
 -- some lines were answered, and then none is left, or memory was wanting
-pub has_added : (pass : Caller) (script : List Line) (from to : ℕ) (old text : Transcript) (d : Desk) (failed : Bool) → (some : AddsSome pass (caller_of d.«open») script from to old text) → (failed ≡ false → AreMade (caller_of d.«open») (some.before.replies ++ some.adds.replies)) → to ≤ length script → (failed ≡ false → to ≡ length script) → (failed ≡ true → is_writing d.«open» ≡ false) → HasDone script (Some d) to text failed
+pub has_added : (pass : Caller) (script : List Line) (from to : ℕ) (old text : Transcript) (d : SessionState) (failed : Bool) → (some : AddsSome pass (caller_of d.«open») script from to old text) → (failed ≡ false → AreMade (caller_of d.«open») (some.before.replies ++ some.adds.replies)) → to ≤ length script → (failed ≡ false → to ≡ length script) → (failed ≡ true → is_writing d.«open» ≡ false) → HasDone script (Some d) to text failed
 has_added pass script from to old text d failed some made within all closed =
     let adds = some.adds in
     let p = caller_of d.«open» in
@@ -216,8 +216,8 @@ has_added pass script from to old text d failed some made within all closed =
       closed = closed;
     }
 
--- lines were answered from one place on to another, and the desk has what the client knows then
-pub has_carried : (pass : Caller) (script : List Line) (from to : ℕ) (old text : Transcript) (d : Desk) (failed : Bool) → CarriedOn pass script from to old d text → to ≤ length script → failed ≡ false → HasDone script (Some d) to text failed
+-- lines were answered from one place on to another, and the state has what the client knows then
+pub has_carried : (pass : Caller) (script : List Line) (from to : ℕ) (old text : Transcript) (d : SessionState) (failed : Bool) → CarriedOn pass script from to old d text → to ≤ length script → failed ≡ false → HasDone script (Some d) to text failed
 has_carried pass script from to old text d failed on within ok =
     let c = on.carried in
     let p = caller_of d.«open» in
@@ -230,90 +230,90 @@ has_carried pass script from to old text d failed on within ok =
       written = c.written;
       counted = c.counted;
       made = λ _. made_both pass p c.later on.before.replies on.before.made c.replies c.made c.own c.told c.rising;
-      follows = λ _ more d' is. let same : d ≡ d' = cc in subst (λ (x : Desk). Follows x c.client) same c.follows;
+      follows = λ _ more d' is. let same : d ≡ d' = cc in subst (λ (x : SessionState). Follows x c.client) same c.follows;
       closed = λ fails. cc;
     }
 
 -- ---- a call, by the fields before and after
 
-module _ (s : Progress) (client : ℕ) (script : List Line) (desk desk' : Option Desk) (n : ℕ) (text : Transcript) (failed : Bool) (view_is : progress_of client script desk n text failed ≡ s) where
-  pub kept_told : HasDone script desk n text failed → (replies : List Reply) × AreTold s replies
-  kept_told h = (h.replies, subst (λ (x : Progress). AreTold x h.replies) view_is (are_told (progress_of client script desk n text failed) h.replies h.client h.runs h.written h.counted h.made))
+module _ (s : Progress) (client : ℕ) (script : List Line) (state state' : Option SessionState) (n : ℕ) (text : Transcript) (failed : Bool) (view_is : progress_of client script state n text failed ≡ s) where
+  pub kept_told : HasDone script state n text failed → (replies : List Reply) × AreTold s replies
+  kept_told h = (h.replies, subst (λ (x : Progress). AreTold x h.replies) view_is (are_told (progress_of client script state n text failed) h.replies h.client h.runs h.written h.counted h.made))
 
-  pub same_told : (t : Progress) (b : Bool) → t ≡ with_writing b s → HasDone script desk n text failed → Tells s t
+  pub same_told : (t : Progress) (b : Bool) → t ≡ with_writing b s → HasDone script state n text failed → Tells s t
   unfolding kept_told
   same_told t b same h = subst (λ (x : Progress). Tells s x) (sym same) (tells_nothing s b (kept_told h).0 (kept_told h).1)
 
-  pub same_answered : (t : Progress) (b : Bool) → t ≡ with_writing b s → HasDone script desk n text failed → HasAnswered s t
+  pub same_answered : (t : Progress) (b : Bool) → t ≡ with_writing b s → HasDone script state n text failed → HasAnswered s t
   unfolding kept_told
   same_answered t b same h = subst (λ (x : Progress). HasAnswered s x) (sym same) (answers_nothing s b (kept_told h).0 (kept_told h).1)
 
   -- after want of memory nothing is open
-  pub closed_by : HasDone script desk n text failed → s.failed ≡ true → s.writing ≡ false
+  pub closed_by : HasDone script state n text failed → s.failed ≡ true → s.writing ≡ false
   closed_by h fails = sym (ap (λ (x : Progress). x.writing) view_is) ∙ h.closed (ap (λ (x : Progress). x.failed) view_is ∙ fails)
 
-  pub same_stopped : HasDone script desk n text failed → s.failed ≡ true → HasStopped s s
+  pub same_stopped : HasDone script state n text failed → s.failed ≡ true → HasStopped s s
   unfolding kept_told
   same_stopped h fails = stops_nothing s (kept_told h).0 (kept_told h).1 (closed_by h fails)
 
-  -- both desks are there
-  by_fields : (P : Progress → Progress → Type 0) (d d' : Desk) (n' : ℕ) (text' : Transcript) (failed' : Bool) → desk ≡ Some d → desk' ≡ Some d' → P (progress_of client script (Some d) n text failed) (progress_of client script (Some d') n' text' failed') → P s (progress_of client script desk' n' text' failed')
+  -- both states are there
+  by_fields : (P : Progress → Progress → Type 0) (d d' : SessionState) (n' : ℕ) (text' : Transcript) (failed' : Bool) → state ≡ Some d → state' ≡ Some d' → P (progress_of client script (Some d) n text failed) (progress_of client script (Some d') n' text' failed') → P s (progress_of client script state' n' text' failed')
   by_fields P d d' n' text' failed' is is' holds =
-      let t = progress_of client script desk' n' text' failed' in
+      let t = progress_of client script state' n' text' failed' in
       subst (λ (x : Progress). P x t) view_is
-      (subst (λ (o : Option Desk). P (progress_of client script o n text failed) t) (sym is)
-      (subst (λ (o : Option Desk). P (progress_of client script (Some d) n text failed) (progress_of client script o n' text' failed')) (sym is') holds))
+      (subst (λ (o : Option SessionState). P (progress_of client script o n text failed) t) (sym is)
+      (subst (λ (o : Option SessionState). P (progress_of client script (Some d) n text failed) (progress_of client script o n' text' failed')) (sym is') holds))
 
-  pub some_told : (d d' : Desk) (n' : ℕ) (text' : Transcript) (failed' : Bool) → desk ≡ Some d → desk' ≡ Some d' → (some : AddsSome (caller_of d.«open») (caller_of d'.«open») script n n' text text') → (failed' ≡ false → AreMade (caller_of d'.«open») (some.before.replies ++ some.adds.replies)) → Tells s (progress_of client script desk' n' text' failed')
+  pub some_told : (d d' : SessionState) (n' : ℕ) (text' : Transcript) (failed' : Bool) → state ≡ Some d → state' ≡ Some d' → (some : AddsSome (caller_of d.«open») (caller_of d'.«open») script n n' text text') → (failed' ≡ false → AreMade (caller_of d'.«open») (some.before.replies ++ some.adds.replies)) → Tells s (progress_of client script state' n' text' failed')
   some_told d d' n' text' failed' is is' some made = by_fields Tells d d' n' text' failed' is is' (tells_some (progress_of client script (Some d) n text failed) (progress_of client script (Some d') n' text' failed') refl some made)
 
-  pub all_answered : (d d' : Desk) (n' : ℕ) (text' : Transcript) (failed' : Bool) → desk ≡ Some d → desk' ≡ Some d' → CarriesOut (caller_of d.«open») (caller_of d'.«open») script n n' text text' → HasAnswered s (progress_of client script desk' n' text' failed')
+  pub all_answered : (d d' : SessionState) (n' : ℕ) (text' : Transcript) (failed' : Bool) → state ≡ Some d → state' ≡ Some d' → CarriesOut (caller_of d.«open») (caller_of d'.«open») script n n' text text' → HasAnswered s (progress_of client script state' n' text' failed')
   all_answered d d' n' text' failed' is is' c = by_fields HasAnswered d d' n' text' failed' is is' (answers_some (progress_of client script (Some d) n text failed) (progress_of client script (Some d') n' text' failed') refl c)
 
   -- what a call tells that answered all, or found no memory
-  pub told_by : (d d' : Desk) (n' : ℕ) (text' : Transcript) (failed' : Bool) (r : Result (Unit {0}) AllocError) → failed' ≡ is_err r → desk ≡ Some d → desk' ≡ Some d' → AddsSome (caller_of d.«open») (caller_of d'.«open») script n n' text text' → OnOk r (CarriesOut (caller_of d.«open») (caller_of d'.«open») script n n' text text') → Tells s (progress_of client script desk' n' text' failed')
+  pub told_by : (d d' : SessionState) (n' : ℕ) (text' : Transcript) (failed' : Bool) (r : Result (Unit {0}) AllocError) → failed' ≡ is_err r → state ≡ Some d → state' ≡ Some d' → AddsSome (caller_of d.«open») (caller_of d'.«open») script n n' text text' → OnOk r (CarriesOut (caller_of d.«open») (caller_of d'.«open») script n n' text text') → Tells s (progress_of client script state' n' text' failed')
   told_by d d' n' text' failed' (Ok x) fails is is' some c = let all = all_answered d d' n' text' failed' is is' c in all.tells
   told_by d d' n' text' failed' (Err e) fails is is' some c = some_told d d' n' text' failed' is is' some (λ ok. not_both failed' fails ok)
 
-  pub answered_ok : (d d' : Desk) (n' : ℕ) (text' : Transcript) (failed' : Bool) (r : Result (Unit {0}) AllocError) → desk ≡ Some d → desk' ≡ Some d' → OnOk r (CarriesOut (caller_of d.«open») (caller_of d'.«open») script n n' text text') → OnOk r (HasAnswered s (progress_of client script desk' n' text' failed'))
+  pub answered_ok : (d d' : SessionState) (n' : ℕ) (text' : Transcript) (failed' : Bool) (r : Result (Unit {0}) AllocError) → state ≡ Some d → state' ≡ Some d' → OnOk r (CarriesOut (caller_of d.«open») (caller_of d'.«open») script n n' text text') → OnOk r (HasAnswered s (progress_of client script state' n' text' failed'))
   answered_ok d d' n' text' failed' (Ok x) is is' c = all_answered d d' n' text' failed' is is' c
   answered_ok d d' n' text' failed' (Err e) is is' c = tt
 
-  pub some_stopped : (d d' : Desk) (n' : ℕ) (text' : Transcript) (failed' : Bool) → desk ≡ Some d → desk' ≡ Some d' → failed' ≡ true → is_writing d'.«open» ≡ false → Stops (caller_of d.«open») (caller_of d'.«open») script n n' text text' → HasStopped s (progress_of client script desk' n' text' failed')
+  pub some_stopped : (d d' : SessionState) (n' : ℕ) (text' : Transcript) (failed' : Bool) → state ≡ Some d → state' ≡ Some d' → failed' ≡ true → is_writing d'.«open» ≡ false → Stops (caller_of d.«open») (caller_of d'.«open») script n n' text text' → HasStopped s (progress_of client script state' n' text' failed')
   some_stopped d d' n' text' failed' is is' fails closed c = by_fields HasStopped d d' n' text' failed' is is' (stops_some (progress_of client script (Some d) n text failed) (progress_of client script (Some d') n' text' failed') refl fails closed c)
 
-  pub stopped_on_err : (d d' : Desk) (n' : ℕ) (text' : Transcript) (failed' : Bool) (r : Result (Unit {0}) AllocError) → failed' ≡ is_err r → desk ≡ Some d → desk' ≡ Some d' → is_writing d'.«open» ≡ false → OnErr r (Stops (caller_of d.«open») (caller_of d'.«open») script n n' text text') → OnErr r (HasStopped s (progress_of client script desk' n' text' failed'))
+  pub stopped_on_err : (d d' : SessionState) (n' : ℕ) (text' : Transcript) (failed' : Bool) (r : Result (Unit {0}) AllocError) → failed' ≡ is_err r → state ≡ Some d → state' ≡ Some d' → is_writing d'.«open» ≡ false → OnErr r (Stops (caller_of d.«open») (caller_of d'.«open») script n n' text text') → OnErr r (HasStopped s (progress_of client script state' n' text' failed'))
   stopped_on_err d d' n' text' failed' (Ok x) fails is is' closed c = tt
   stopped_on_err d d' n' text' failed' (Err e) fails is is' closed c = some_stopped d d' n' text' failed' is is' fails closed c
 
   -- and what it keeps
-  pub kept_by : (d d' : Desk) (n' : ℕ) (text' : Transcript) (failed' : Bool) (r : Result (Unit {0}) AllocError) → failed' ≡ is_err r → desk' ≡ Some d' → AddsSome (caller_of d.«open») (caller_of d'.«open») script n n' text text' → OnOk r (CarriesOut (caller_of d.«open») (caller_of d'.«open») script n n' text text') → n' ≤ length script → OnOk r (n' ≡ length script) → is_writing d'.«open» ≡ false → HasDone script desk' n' text' failed'
-  kept_by d d' n' text' failed' (Ok x) fails is' some c within all closed = subst (λ (o : Option Desk). HasDone script o n' text' failed') (sym is') (has_added (caller_of d.«open») script n n' text text' d' failed' c.some (λ _. made_in_all (caller_of d.«open») (caller_of d'.«open») script n n' text text' c) within (λ _. all) (λ _. closed))
-  kept_by d d' n' text' failed' (Err e) fails is' some c within all closed = subst (λ (o : Option Desk). HasDone script o n' text' failed') (sym is') (has_added (caller_of d.«open») script n n' text text' d' failed' some (λ ok. not_both failed' fails ok) within (λ ok. not_both failed' fails ok) (λ _. closed))
+  pub kept_by : (d d' : SessionState) (n' : ℕ) (text' : Transcript) (failed' : Bool) (r : Result (Unit {0}) AllocError) → failed' ≡ is_err r → state' ≡ Some d' → AddsSome (caller_of d.«open») (caller_of d'.«open») script n n' text text' → OnOk r (CarriesOut (caller_of d.«open») (caller_of d'.«open») script n n' text text') → n' ≤ length script → OnOk r (n' ≡ length script) → is_writing d'.«open» ≡ false → HasDone script state' n' text' failed'
+  kept_by d d' n' text' failed' (Ok x) fails is' some c within all closed = subst (λ (o : Option SessionState). HasDone script o n' text' failed') (sym is') (has_added (caller_of d.«open») script n n' text text' d' failed' c.some (λ _. made_in_all (caller_of d.«open») (caller_of d'.«open») script n n' text text' c) within (λ _. all) (λ _. closed))
+  kept_by d d' n' text' failed' (Err e) fails is' some c within all closed = subst (λ (o : Option SessionState). HasDone script o n' text' failed') (sym is') (has_added (caller_of d.«open») script n n' text text' d' failed' some (λ ok. not_both failed' fails ok) within (λ ok. not_both failed' fails ok) (λ _. closed))
 
 -- ---- a step
 
 -- one more commit can be told
-pub room_kept : (script : List Line) (desk : Option Desk) (n : ℕ) (t : Transcript) (failed : Bool) → HasDone script desk n t failed → n + 1 < 2 ^ 64 → t.commits + 1 < 2 ^ 64
-room_kept script desk n t failed h few =
-    let p = caller_in desk in
+pub room_kept : (script : List Line) (state : Option SessionState) (n : ℕ) (t : Transcript) (failed : Bool) → HasDone script state n t failed → n + 1 < 2 ^ 64 → t.commits + 1 < 2 ^ 64
+room_kept script state n t failed h few =
+    let p = caller_in state in
     room_for_one (cells_seen p) p.number script n t.commits h.replies h.client h.runs h.counted h.within few
 
 -- a session that isn't finished, by its fields
-pub unfinished_fields : (s : Progress) (client : ℕ) (script : List Line) (desk : Option Desk) (n : ℕ) (text : Transcript) (failed : Bool) → progress_of client script desk n text failed ≡ s → IsUnfinished s → (failed ≡ false) × (n < length script)
-unfinished_fields s client script desk n text failed view_is unfinished = subst IsUnfinished (sym view_is) unfinished
+pub unfinished_fields : (s : Progress) (client : ℕ) (script : List Line) (state : Option SessionState) (n : ℕ) (text : Transcript) (failed : Bool) → progress_of client script state n text failed ≡ s → IsUnfinished s → (failed ≡ false) × (n < length script)
+unfinished_fields s client script state n text failed view_is unfinished = subst IsUnfinished (sym view_is) unfinished
 
 pub was_stopped : {P : Type 0} (r : Result Bool AllocError) (e : AllocError) → r ≡ Err e → OnErr r P → P
 was_stopped {P} r e is holds = subst (λ (x : Result Bool AllocError). OnErr x P) is holds
 
-pub line_answered : (callers : ℕ) (l : Line) (d d' : Desk) (text text' : Transcript) (r : Result Bool AllocError) (b : Bool) → r ≡ Ok b → b ≡ true → OnOk r (StepsLine callers l d d' text text' r) → AnswersLine l d d' text text' × HasDoneOnce l.command (caller_of d.«open») (caller_of d'.«open»)
+pub line_answered : (callers : ℕ) (l : Line) (d d' : SessionState) (text text' : Transcript) (r : Result Bool AllocError) (b : Bool) → r ≡ Ok b → b ≡ true → OnOk r (StepsLine callers l d d' text text' r) → AnswersLine l d d' text text' × HasDoneOnce l.command (caller_of d.«open») (caller_of d'.«open»)
 line_answered callers l d d' text text' r b is so told = subst (λ (x : Result Bool AllocError). OnOk x (StepsLine callers l d d' text text' x)) (is ∙ ap Ok so) told
 
-pub line_held_up : (callers : ℕ) (l : Line) (d d' : Desk) (text text' : Transcript) (r : Result Bool AllocError) (b : Bool) → r ≡ Ok b → b ≡ false → OnOk r (StepsLine callers l d d' text text' r) → IsHeldUp callers l.command d d' × (text' ≡ text)
+pub line_held_up : (callers : ℕ) (l : Line) (d d' : SessionState) (text text' : Transcript) (r : Result Bool AllocError) (b : Bool) → r ≡ Ok b → b ≡ false → OnOk r (StepsLine callers l d d' text text' r) → IsHeldUp callers l.command d d' × (text' ≡ text)
 line_held_up callers l d d' text text' r b is so told = subst (λ (x : Result Bool AllocError). OnOk x (StepsLine callers l d d' text text' x)) (is ∙ ap Ok so) told
 
 -- a line that is held up is still to do
-module _ (client : ℕ) (script : List Line) (d d' : Desk) (n : ℕ) (text text' : Transcript) (failed failed' : Bool) (so_far : SoFar script n d text) where
+module _ (client : ℕ) (script : List Line) (d d' : SessionState) (n : ℕ) (text text' : Transcript) (failed failed' : Bool) (so_far : SoFar script n d text) where
   sooner : Progress
   sooner = progress_of client script (Some d) n text failed
 
@@ -348,7 +348,7 @@ module _ (client : ℕ) (script : List Line) (d d' : Desk) (n : ℕ) (text text'
   blocked callers (command.Size set) held = absurd held
   blocked callers (command.Watches w) held = waits w held
 
-module _ (s : Progress) (client : ℕ) (script : List Line) (desk desk' : Option Desk) (n : ℕ) (text text' : Transcript) (failed : Bool) (d d' : Desk) (view_is : progress_of client script desk n text failed ≡ s) (is : desk ≡ Some d) (is' : desk' ≡ Some d') (h : HasDone script desk n text failed) (unfinished : (failed ≡ false) × (n < length script)) where
+module _ (s : Progress) (client : ℕ) (script : List Line) (state state' : Option SessionState) (n : ℕ) (text text' : Transcript) (failed : Bool) (d d' : SessionState) (view_is : progress_of client script state n text failed ≡ s) (is : state ≡ Some d) (is' : state' ≡ Some d') (h : HasDone script state n text failed) (unfinished : (failed ≡ false) × (n < length script)) where
   old : Caller
   old = caller_of d.«open»
 
@@ -357,10 +357,10 @@ module _ (s : Progress) (client : ℕ) (script : List Line) (desk desk' : Option
 
   here : CarriedOn old script n n text d text
   unfolding old
-  here = from_here script n d text (goes_on script desk n text failed d h is unfinished.0 unfinished.1)
+  here = from_here script n d text (goes_on script state n text failed d h is unfinished.0 unfinished.1)
 
-  kept : (n' : ℕ) (failed' : Bool) → HasDone script (Some d') n' text' failed' → HasDone script desk' n' text' failed'
-  kept n' failed' done = subst (λ (o : Option Desk). HasDone script o n' text' failed') (sym is') done
+  kept : (n' : ℕ) (failed' : Bool) → HasDone script (Some d') n' text' failed' → HasDone script state' n' text' failed'
+  kept n' failed' done = subst (λ (o : Option SessionState). HasDone script o n' text' failed') (sym is') done
 
   module _ (callers : ℕ) (l : Line) (n' : ℕ) (failed' : Bool) (one : n' ≡ n + 1) (ok : failed' ≡ false) (there : slice_get script n ≡ Some l) (line : AnswersLine l d d' text text' × HasDoneOnce l.command (caller_of d.«open») (caller_of d'.«open»)) where
     on_next : CarriedOn old script n n' text d' text'
@@ -371,24 +371,24 @@ module _ (s : Progress) (client : ℕ) (script : List Line) (desk desk' : Option
     unfolding old new
     carries_next = all_carried old new script n n' d' text text' refl on_next
 
-    pub next_kept : HasDone script desk' n' text' failed'
+    pub next_kept : HasDone script state' n' text' failed'
     unfolding old
     next_kept =
         let lt = unfinished.1 in
         kept n' failed' (has_carried old script n n' text text' d' failed' on_next (omega (arith, lt, one)) ok)
 
-    pub next_told : Tells s (progress_of client script desk' n' text' failed')
+    pub next_told : Tells s (progress_of client script state' n' text' failed')
     unfolding old new
-    next_told = some_told s client script desk desk' n text failed view_is d d' n' text' failed' is is' carries_next.some (λ _. made_in_all old new script n n' text text' carries_next)
+    next_told = some_told s client script state state' n text failed view_is d d' n' text' failed' is is' carries_next.some (λ _. made_in_all old new script n n' text text' carries_next)
 
-    pub next_stepped : AnswersStep callers s (progress_of client script desk' n' text' failed') (Ok (stepped.Answered l.number))
+    pub next_stepped : AnswersStep callers s (progress_of client script state' n' text' failed') (Ok (stepped.Answered l.number))
     unfolding old new
     next_stepped = (
       l,
       (subst (λ (x : Progress). slice_get x.script x.answered ≡ Some l) view_is there, refl),
       one ∙ ap (λ (x : Progress). x.answered + 1) view_is,
-      all_answered s client script desk desk' n text failed view_is d d' n' text' failed' is is' carries_next,
-      by_fields s client script desk desk' n text failed view_is (λ x y. HasDoneOnce l.command x.caller y.caller) d d' n' text' failed' is is' line.1,
+      all_answered s client script state state' n text failed view_is d d' n' text' failed' is is' carries_next,
+      by_fields s client script state state' n text failed view_is (λ x y. HasDoneOnce l.command x.caller y.caller) d d' n' text' failed' is is' line.1,
     )
 
   -- nothing was answered, but the caller may have seen more
@@ -397,39 +397,39 @@ module _ (s : Progress) (client : ℕ) (script : List Line) (desk desk' : Option
   seen_some later same = kept_some old new script n n d text text text' later same here
 
   so_far : SoFar script n d text
-  so_far = goes_on script desk n text failed d h is unfinished.0 unfinished.1
+  so_far = goes_on script state n text failed d h is unfinished.0 unfinished.1
 
   -- nor was a commit made
   made_before : (later : IsLater old new) (same : text' ≡ text) → new.own ≡ old.own → (let seen = seen_some later same in AreMade new (seen.before.replies ++ seen.adds.replies))
   unfolding old new here seen_some so_far
   made_before later same own = subst (AreMade new) (sym (nothing_added d new script n text text' later same so_far)) (made_still old new later so_far.replies so_far.made own)
 
-  pub seen_told : (failed' : Bool) → (later : IsLater (caller_of d.«open») (caller_of d'.«open»)) → text' ≡ text → (failed' ≡ false → (caller_of d'.«open»).own ≡ (caller_of d.«open»).own) → Tells s (progress_of client script desk' n text' failed')
+  pub seen_told : (failed' : Bool) → (later : IsLater (caller_of d.«open») (caller_of d'.«open»)) → text' ≡ text → (failed' ≡ false → (caller_of d'.«open»).own ≡ (caller_of d.«open»).own) → Tells s (progress_of client script state' n text' failed')
   unfolding old new
-  seen_told failed' later same own = some_told s client script desk desk' n text failed view_is d d' n text' failed' is is' (seen_some later same) (λ ok. made_before later same (own ok))
+  seen_told failed' later same own = some_told s client script state state' n text failed view_is d d' n text' failed' is is' (seen_some later same) (λ ok. made_before later same (own ok))
 
-  pub seen_stopped : (l : Line) (failed' : Bool) → failed' ≡ true → slice_get script n ≡ Some l → IsLater (caller_of d.«open») (caller_of d'.«open») → text' ≡ text → is_writing d'.«open» ≡ false → StopsLine l d (caller_of d'.«open») → HasStopped s (progress_of client script desk' n text' failed')
+  pub seen_stopped : (l : Line) (failed' : Bool) → failed' ≡ true → slice_get script n ≡ Some l → IsLater (caller_of d.«open») (caller_of d'.«open») → text' ≡ text → is_writing d'.«open» ≡ false → StopsLine l d (caller_of d'.«open») → HasStopped s (progress_of client script state' n text' failed')
   unfolding old new
-  seen_stopped l failed' fails there later same closed stops = some_stopped s client script desk desk' n text failed view_is d d' n text' failed' is is' fails closed (stops_here old new script n n d text text text' l there later same stops here)
+  seen_stopped l failed' fails there later same closed stops = some_stopped s client script state state' n text failed view_is d d' n text' failed' is is' fails closed (stops_here old new script n n d text text text' l there later same stops here)
 
-  pub seen_kept : (failed' : Bool) → failed' ≡ true → IsLater (caller_of d.«open») (caller_of d'.«open») → text' ≡ text → is_writing d'.«open» ≡ false → HasDone script desk' n text' failed'
+  pub seen_kept : (failed' : Bool) → failed' ≡ true → IsLater (caller_of d.«open») (caller_of d'.«open») → text' ≡ text → is_writing d'.«open» ≡ false → HasDone script state' n text' failed'
   unfolding old new
   seen_kept failed' fails later same closed = kept n failed' (has_added old script n n text text' d' failed' (seen_some later same) (λ ok. cc) h.within (λ ok. cc) (λ _. closed))
 
   -- the line is still to do
   module _ (callers : ℕ) (l : Line) (failed' : Bool) (ok : failed' ≡ false) (same : text' ≡ text) (held : IsHeldUp callers l.command d d') where
-    pub held_up_kept : HasDone script desk' n text' failed'
+    pub held_up_kept : HasDone script state' n text' failed'
     unfolding old
     held_up_kept =
         let on : CarriedOn old script n n text d' text = record { before = here.before; carried = seen_more old here.before.replies (take n script) d d' text here.carried held.looks held.snapshots held.watching } in
         kept n failed' (subst (λ (t : Transcript). HasDone script (Some d') n t failed') (sym same) (has_carried old script n n text text d' failed' on h.within ok))
 
-    pub held_up_stepped : slice_get script n ≡ Some l → AnswersStep callers s (progress_of client script desk' n text' failed') (Ok (stepped.Blocked l.number))
+    pub held_up_stepped : slice_get script n ≡ Some l → AnswersStep callers s (progress_of client script state' n text' failed') (Ok (stepped.Blocked l.number))
     held_up_stepped there = (
       l,
       (subst (λ (x : Progress). slice_get x.script x.answered ≡ Some l) view_is there, refl),
-      by_fields s client script desk desk' n text failed view_is (λ x y. IsBlocked callers x y l.command) d d' n text' failed' is is' (blocked client script d d' n text text' failed failed' (goes_on script desk n text failed d h is unfinished.0 unfinished.1) callers l.command held.why),
-      by_fields s client script desk desk' n text failed view_is (λ x y. y ≡ record x { caller = y.caller }) d d' n text' failed' is is' (let looks = held.looks in λ i. with_writing (writes (looks.transaction i)) (progress_of client script (Some d') n (same i) (both i))),
+      by_fields s client script state state' n text failed view_is (λ x y. IsBlocked callers x y l.command) d d' n text' failed' is is' (blocked client script d d' n text text' failed failed' (goes_on script state n text failed d h is unfinished.0 unfinished.1) callers l.command held.why),
+      by_fields s client script state state' n text failed view_is (λ x y. y ≡ record x { caller = y.caller }) d d' n text' failed' is is' (let looks = held.looks in λ i. with_writing (writes (looks.transaction i)) (progress_of client script (Some d') n (same i) (both i))),
     )
       where
         both : failed' ≡ failed

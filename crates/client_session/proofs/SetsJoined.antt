@@ -11,7 +11,7 @@ use Rattle.mdb_schema.proofs.Membership.{Contains-cons_cases, Contains-map, Cont
 use Rattle.mem_txn.specs.Checked.{IdsTellCells, IsHeldBy}
 use Rattle.mem_txn.specs.Database.{Caller, cells_seen}
 use Rattle.mem_txn.specs.Held.{HeldWatch}
-use Rattle.watch_set.specs.Members.{AreDistinct, AreHeldBy, Member, cell_id, has_cell, watches_of, with_watch}
+use Rattle.watch_set.specs.Members.{HaveDistinctCells, AreHeldBy, Member, cell_id, has_cell, watches_of, with_watch}
 use Rattle.watch_set.proofs.CellsDiffer.{distinct_after, held_after}
 use Rattle.client_script.specs.Client.{Client, Watch, WatchSet, set_named}
 use Rattle.client_script.specs.Reply.{Reply, sized}
@@ -114,7 +114,7 @@ module _ (p : Caller) (ids : IdsTellCells p) (ms : List Member) (set name : Byte
     };
   }
 
-  holds_joined : AreDistinct ms → (b : Bool) → has_cell (cell_id h) ms ≡ b → HoldsSet p (if b then ms else ms ++ member ∷ [])
+  holds_joined : HaveDistinctCells ms → (b : Bool) → has_cell (cell_id h) ms ≡ b → HoldsSet p (if b then ms else ms ++ member ∷ [])
   holds_joined distinct true e =
       let found = member_of_cell (cell_id h) ms e in
       let within = found.1.1 in
@@ -135,7 +135,7 @@ all_held : (p : Caller) (kept : Option (List Member)) → ((ms : List Member) �
 all_held p None holds = tt
 all_held p (Some ms) holds = let set = holds ms refl in set.held
 
-all_distinct : (p : Caller) (kept : Option (List Member)) → ((ms : List Member) → kept ≡ Some ms → HoldsSet p ms) → AreDistinct (members_or_empty kept)
+all_distinct : (p : Caller) (kept : Option (List Member)) → ((ms : List Member) → kept ≡ Some ms → HoldsSet p ms) → HaveDistinctCells (members_or_empty kept)
 all_distinct p None holds = tt
 all_distinct p (Some ms) holds = let set = holds ms refl in set.distinct
 

@@ -16,7 +16,7 @@ use Rattle.client_script.specs.contracts.command.WatchesCommand
 use Rattle.client_script.specs.contracts.command.WriteCommand
 use Rattle.client_script.specs.contracts.line.Line
 use Rattle.client_script.specs.contracts.script.Script
-use Rattle.mem_txn.proofs.Threads.{changes_send, pass_send, read_send, snapshot_send}
+use Rattle.mem_txn.proofs.Threads.{db_txn_send, pass_send, read_send, snapshot_send}
 use Rattle.mem_txn.specs.contracts.held.Held
 use Rattle.mem_txn.specs.contracts.held.Watching as WatchingOf
 use Rattle.mem_txn.specs.contracts.pass.Pass
@@ -27,8 +27,8 @@ use Rattle.watch_set.specs.contracts.member.Member
 use Rattle.watch_set.specs.contracts.set.WatchSet
 use Rattle.watch_word.proofs.cell.WatchCell.TheSendSync as cell
 use Rattle.watch_word.specs.contracts.watch.Watch
-use Rattle.client_session.specs.contracts.desk.Desk
-use Rattle.client_session.specs.contracts.kept.Kept
+use Rattle.client_session.specs.contracts.session_state.SessionState
+use Rattle.client_session.specs.contracts.any_snapshot.AnySnapshot
 use Rattle.client_session.specs.contracts.named.Named
 use Rattle.client_session.specs.contracts.«open».Open
 use Rattle.client_session.specs.contracts.session.Session
@@ -80,7 +80,7 @@ script-send = search (sendable, crosses, line-send) depth 100 fits 100000
 -- ---- what is open, and the snapshots
 
 write-send : IsSend (WriteTxn.the_field Text.the_row).row
-write-send = search (sendable, crosses, changes_send, text-send) depth 20
+write-send = search (sendable, crosses, db_txn_send, text-send) depth 20
 
 pass-field-send : IsSend Pass.the_field.row
 pass-field-send = search (sendable, pass_send) depth 20
@@ -91,11 +91,11 @@ read-field-send = search (sendable, read_send) depth 20
 open-send : IsSend Open.the_field.row
 open-send = search (sendable, pass-field-send, read-field-send, write-send) depth 100 fits 100000
 
-kept-send : IsSend Kept.the_row
-kept-send = search (sendable, read_send, snapshot_send) depth 20
+any_snapshot-send : IsSend AnySnapshot.the_row
+any_snapshot-send = search (sendable, read_send, snapshot_send) depth 20
 
-snapshots-send : IsSend (Named.the_field Kept.the_row).row
-snapshots-send = search (sendable, maps.crosses, kept-send) depth 20
+snapshots-send : IsSend (Named.the_field AnySnapshot.the_row).row
+snapshots-send = search (sendable, maps.crosses, any_snapshot-send) depth 20
 
 -- ---- what is watched
 
@@ -143,8 +143,8 @@ watching-send = search (sendable, watches-send, sets-send) depth 20
 
 -- ---- a session
 
-desk-send : IsSend Desk.the_row
-desk-send = search (sendable, open-send, snapshots-send, watching-send) depth 20
+state-send : IsSend SessionState.the_row
+state-send = search (sendable, open-send, snapshots-send, watching-send) depth 20
 
 pub session_send : IsSend Session.the_row
-session_send = search (sendable, crosses, script-send, desk-send) depth 100 fits 100000
+session_send = search (sendable, crosses, script-send, state-send) depth 100 fits 100000

@@ -19,7 +19,7 @@ use Rattle.mdb_schema.specs.declared.answer.Answer.{Answer}
 use Rattle.client_session.specs.Counts.{AreAmong, counts_told, count_told}
 use Rattle.client_script.specs.Client.{Client, Judged, Sight, Transaction, Watch, closed, reading, writing, read_open, sight_of, snapshot_named, some_open, state_seen, watch_named, write_open}
 use Rattle.client_script.specs.Legal.{number_printed}
-use Rattle.client_script.specs.Reply.{Reply, aborted, answered, deferred, deleted, ended, inserted, kept_at, kept_within, refused, replaced, sized, wiped}
+use Rattle.client_script.specs.Reply.{Reply, aborted, answered, deferred, deleted, ended, inserted, snapshot_at, snapshot_within, refused, replaced, sized, wiped}
 use Rattle.client_script.specs.Session.{IsAnswered}
 use Rattle.client_script.specs.Spent.{by_turn, without_ids}
 use Rattle.client_script.specs.Turn.{Turn, ask_turn, asked, asked_watched, commit_reply, after_commit, defer_turn, indexes_of, insert_reply, name_turn, outcome, question_turn, set_called, size_turn, snapshot_called, snapshot_reply, snapshot_turn, step_turn, stepped, transaction_turn, watch_turn, wipe_turn, with_snapshot, with_text, with_watch, with_writes, without_transaction, write_turn}
@@ -75,8 +75,8 @@ pub record GivesNone (printed : Reply → List ℕ) : Type 0 where
   pub wipes : (k : ℕ) → printed (wiped k) ≡ []
   pub defers : printed deferred ≡ []
   pub answers : (a : Answer) → printed (answered a) ≡ []
-  pub keeps : (n : ℕ) → printed (kept_at n) ≡ []
-  pub keeps_within : (n : ℕ) → printed (kept_within n) ≡ []
+  pub keeps : (n : ℕ) → printed (snapshot_at n) ≡ []
+  pub keeps_within : (n : ℕ) → printed (snapshot_within n) ≡ []
   pub sizes : (k : ℕ) → printed (sized k) ≡ []
 
 pub no_count : GivesNone count_told

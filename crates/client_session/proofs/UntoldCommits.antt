@@ -19,10 +19,10 @@ use Rattle.client_script.specs.declared.command.TransactionCommand.TheVariants a
 use Rattle.client_script.specs.declared.line.Line.{Line}
 use Rattle.client_session.proofs.FollowsOn.{follows_longer}
 use Rattle.client_session.proofs.ToldCounts.{abort_none, end_none, no_number, outcome_none, rows_none, then_none}
-use Rattle.client_session.specs.declared.desk.Desk.{Desk}
+use Rattle.client_session.specs.declared.session_state.SessionState.{SessionState}
 use Rattle.client_session.specs.declared.reply.Reply.{Reply}
 use Rattle.client_session.specs.inner.Carried.{IsOfCommit, Makes, StopsLine}
-use Rattle.client_session.specs.inner.DeskView.{LooksAndReplies, StepsTo}
+use Rattle.client_session.specs.inner.StateView.{LooksAndReplies, StepsTo}
 use Rattle.client_session.specs.inner.OpenView.{caller_of, made, transaction_of}
 use Rattle.client_session.specs.inner.ReplyOf.{reply_of}
 
@@ -61,8 +61,8 @@ makes_one c n (writing t) said.deleted commits = tt
 makes_one c n (writing t) (said.wiped k) commits = tt
 makes_one c n (writing t) said.deferred commits = tt
 makes_one c n (writing t) (said.answered a) commits = tt
-makes_one c n (writing t) (said.kept_at m) commits = tt
-makes_one c n (writing t) (said.kept_within m) commits = tt
+makes_one c n (writing t) (said.snapshot_at m) commits = tt
+makes_one c n (writing t) (said.snapshot_within m) commits = tt
 makes_one c n (writing t) (said.quiet_at m) commits = tt
 makes_one c n (writing t) (said.fired_at m) commits = tt
 makes_one c n (writing t) (said.sized k) commits = tt
@@ -70,7 +70,7 @@ makes_one c n (writing t) (said.woken_by name m) commits = tt
 makes_one c n (writing t) (said.stopped_at m) commits = tt
 makes_one c n (writing t) (said.refused rule) commits = tt
 
-reply_makes : (l : Line) (old new : Desk) (r : said.Reply) → LooksAndReplies l.command old new r → StopsLine l old (caller_of new.«open»)
+reply_makes : (l : Line) (old new : SessionState) (r : said.Reply) → LooksAndReplies l.command old new r → StopsLine l old (caller_of new.«open»)
 reply_makes l old new r told v follows =
     let at = told.at in
     let p = caller_of at.«open» in
@@ -86,14 +86,14 @@ none_made c old new same = record { made = []; own = same ∙ sym (append-nil ol
 
 -- ---- the turn of a line, and a step
 
-pub turn_stopped : (l : Line) (old new : Desk) (s : DbSchema) (told : Result Reply AllocError) → IfOk told (λ r. LooksAndReplies l.command old new (reply_of s r)) → OnErr told ((caller_of new.«open»).own ≡ (caller_of old.«open»).own) → StopsLine l old (caller_of new.«open»)
+pub turn_stopped : (l : Line) (old new : SessionState) (s : DbSchema) (told : Result Reply AllocError) → IfOk told (λ r. LooksAndReplies l.command old new (reply_of s r)) → OnErr told ((caller_of new.«open»).own ≡ (caller_of old.«open»).own) → StopsLine l old (caller_of new.«open»)
 turn_stopped l old new s (Ok r) turned unmade v follows = reply_makes l old new (reply_of s r) turned v follows
 turn_stopped l old new s (Err e) turned unmade v follows = none_made l.command (caller_of old.«open») (caller_of new.«open») unmade
 
-pub step_stopped : (callers : ℕ) (l : Line) (old new : Desk) (s : DbSchema) (told : Result (Option Reply) AllocError) → IfOk told (λ r. StepsTo callers l.command old new (option_map (reply_of s) r)) → OnErr told ((caller_of new.«open»).own ≡ (caller_of old.«open»).own) → StopsLine l old (caller_of new.«open»)
+pub step_stopped : (callers : ℕ) (l : Line) (old new : SessionState) (s : DbSchema) (told : Result (Option Reply) AllocError) → IfOk told (λ r. StepsTo callers l.command old new (option_map (reply_of s) r)) → OnErr told ((caller_of new.«open»).own ≡ (caller_of old.«open»).own) → StopsLine l old (caller_of new.«open»)
 step_stopped callers l old new s (Ok (Some r)) turned unmade v follows = reply_makes l old new (reply_of s r) turned.0 v follows
 step_stopped callers l old new s (Ok None) held unmade v follows = none_made l.command (caller_of old.«open») (caller_of new.«open») held.looks.own
 step_stopped callers l old new s (Err e) turned unmade v follows = none_made l.command (caller_of old.«open») (caller_of new.«open») unmade
 
-pub back_stopped : (l : Line) (old : Desk) (new back : Caller) → back ≡ new → StopsLine l old new → StopsLine l old back
+pub back_stopped : (l : Line) (old : SessionState) (new back : Caller) → back ≡ new → StopsLine l old new → StopsLine l old back
 back_stopped l old new back is stops = subst (λ (p : Caller). StopsLine l old p) (sym is) stops

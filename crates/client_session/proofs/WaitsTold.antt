@@ -122,7 +122,7 @@ module _ (old last new : Caller) (first : Follows old last) (law : MovesAreTouch
   within_last : v.last ≤ length last.seen
   within_last = let more = length_longer old.seen last.seen first.seen in omega (arith, few, more)
 
-  woken_is : (place at : ℕ) (m : Member) (mid : Caller) → AreHeldBy new (watches_of ms) → slice_get ms place ≡ Some m → checks.IsQuietLook last (take place (watches_of ms)) mid → checks.HasFired last mid new m.held at
+  woken_is : (place at : ℕ) (m : Member) (mid : Caller) → AreHeldBy new (watches_of ms) → slice_get ms place ≡ Some m → checks.IsQuietLook last (take place (watches_of ms)) mid → checks.IsFoundFired last mid new m.held at
       → IsWoken new.schema new.seen new.number (length new.seen) v s (woken_by m.name at)
   woken_is place at m mid all there quiet fired =
       record {
@@ -130,16 +130,16 @@ module _ (old last new : Caller) (first : Follows old last) (law : MovesAreTouch
         member = member_of m;
         there = ap (λ (ws : List Watch). slice_get ws place) set_is.members ∙ slice_get-map member_of ms place ∙ ap (λ (o : Option Member). option_map member_of o) there;
         fired = fired_touched new m.held at law (member_held new ms m all (Contains-slice_get ms place m there)) fired.1.1 fired.1.2;
-        quiet = subst (λ (ws : List Watch). told.AreQuiet new.schema new.seen new.number (take place ws) v.last) (sym set_is.members) (first_quiet last mid new (follows-seen mid new fired.0) v.last within_last place ms quiet);
+        quiet = subst (λ (ws : List Watch). told.AreUnchanged new.schema new.seen new.number (take place ws) v.last) (sym set_is.members) (first_quiet last mid new (follows-seen mid new fired.0) v.last within_last place ms quiet);
         reply = ap (λ (n : ℕ). woken_by m.name n) fired.1.1;
       }
 
-  stopped_is : (until : Bytes) (h : HeldWatch) (at : ℕ) (mid : Caller) → IsHeldBy new h → checks.IsQuietLook last (watches_of ms) mid → checks.HasFired last mid new h at
+  stopped_is : (until : Bytes) (h : HeldWatch) (at : ℕ) (mid : Caller) → IsHeldBy new h → checks.IsQuietLook last (watches_of ms) mid → checks.IsFoundFired last mid new h at
       → IsStopped new.schema new.seen new.number (length new.seen) v s (watch_of until h) (stopped_at at)
   stopped_is until h at mid held quiet fired =
       record {
         fired = fired_touched new h at law held fired.1.1 fired.1.2;
-        quiet = subst (λ (ws : List Watch). told.AreQuiet new.schema new.seen new.number ws v.last) (sym set_is.members) (members_quiet last mid new (follows-seen mid new fired.0) v.last within_last ms quiet);
+        quiet = subst (λ (ws : List Watch). told.AreUnchanged new.schema new.seen new.number ws v.last) (sym set_is.members) (members_quiet last mid new (follows-seen mid new fired.0) v.last within_last ms quiet);
         reply = ap stopped_at fired.1.1;
       }
 
@@ -151,7 +151,7 @@ module _ (g : Watching) (set : Bytes) (old last new : Caller) (holds : Holds old
   all there = let set_holds = still.sets set ms there in set_holds.held
 
   -- the member that has fired has another cell
-  member_moved : (v : Client) (place at : ℕ) (m : Member) (mid : Caller) → Knows old g v.watching → get_by_text g.sets.kept set ≡ Some ms → slice_get ms place ≡ Some m → checks.HasFired last mid new m.held at → MemberHasMoved (cells_seen new) v set m.name at
+  member_moved : (v : Client) (place at : ℕ) (m : Member) (mid : Caller) → Knows old g v.watching → get_by_text g.sets.kept set ≡ Some ms → slice_get ms place ≡ Some m → checks.IsFoundFired last mid new m.held at → MemberHasMoved (cells_seen new) v set m.name at
   member_moved v place at m mid knows there within fired =
       let known = set_there old g v set ms knows there in
       let among = Contains-slice_get ms place m within in (
@@ -161,7 +161,7 @@ module _ (g : Watching) (set : Bytes) (old last new : Caller) (holds : Holds old
         fired_moved new m.held m.name at complete (member_held new ms m (all there) among) fired.1.1 fired.1.2,
       )
 
-  alone : (place at : ℕ) (m : Member) (mid : Caller) → get_by_text g.sets.kept set ≡ Some ms → slice_get ms place ≡ Some m → checks.IsQuietLook last (take place (watches_of ms)) mid → checks.HasFired last mid new m.held at
+  alone : (place at : ℕ) (m : Member) (mid : Caller) → get_by_text g.sets.kept set ≡ Some ms → slice_get ms place ≡ Some m → checks.IsQuietLook last (take place (watches_of ms)) mid → checks.IsFoundFired last mid new m.held at
       → TellsLook g (watches_line.Wait set) old new (woken_by m.name at)
   alone place at m mid there within quiet fired =
       record {
@@ -178,7 +178,7 @@ module _ (g : Watching) (set : Bytes) (old last new : Caller) (holds : Holds old
       }
 
   beside_until : (until : Bytes) (h : HeldWatch) (place at : ℕ) (m : Member) (mid : Caller) → get_by_text g.sets.kept set ≡ Some ms → get_by_text g.watches.kept until ≡ Some h
-      → slice_get ms place ≡ Some m → checks.IsQuietLook last (take place (watches_of ms)) mid → checks.HasFired last mid new m.held at → TellsLook g (watches_line.WaitUntil set until) old new (woken_by m.name at)
+      → slice_get ms place ≡ Some m → checks.IsQuietLook last (take place (watches_of ms)) mid → checks.IsFoundFired last mid new m.held at → TellsLook g (watches_line.WaitUntil set until) old new (woken_by m.name at)
   beside_until until h place at m mid there named within quiet fired =
       record {
         prints = prints_count old last new at (woken_by m.name at) first.counts fired.1.0 fired.1.1 refl;
@@ -193,7 +193,7 @@ module _ (g : Watching) (set : Bytes) (old last new : Caller) (holds : Holds old
             };
       }
 
-  by_until : (until : Bytes) (h : HeldWatch) (at : ℕ) (mid : Caller) → get_by_text g.sets.kept set ≡ Some ms → get_by_text g.watches.kept until ≡ Some h → checks.IsQuietLook last (watches_of ms) mid → checks.HasFired last mid new h at
+  by_until : (until : Bytes) (h : HeldWatch) (at : ℕ) (mid : Caller) → get_by_text g.sets.kept set ≡ Some ms → get_by_text g.watches.kept until ≡ Some h → checks.IsQuietLook last (watches_of ms) mid → checks.IsFoundFired last mid new h at
       → TellsLook g (watches_line.WaitUntil set until) old new (stopped_at at)
   by_until until h at mid there named quiet fired =
       record {

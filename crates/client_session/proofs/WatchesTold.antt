@@ -88,19 +88,19 @@ not_given false (Ok a) e is = inr (ap (λ (x : AskError). Err (question_name x))
 of_question : (e : AskError) (rule : Rule) (schema : DbSchema) → ◌≡◌ {A = Option Rule} (Some (rules.Question e)) (Some rule) → rule_name schema rule ≡ question_name e
 of_question e rule schema is = ap (rule_name schema) (sym (some_once (Some (rules.Question e)) (rules.Question e) rule refl is))
 
-rule_word : (e : AskError) (rule : Rule) (schema : DbSchema) → question_rule e ≡ Some rule → rule_name schema rule ≡ question_name e
-rule_word ask_errors.Memory rule schema is = cc
-rule_word ask_errors.UnknownTable rule schema is = of_question ask_errors.UnknownTable rule schema is
-rule_word ask_errors.Unwatchable rule schema is = of_question ask_errors.Unwatchable rule schema is
-rule_word ask_errors.NoPrefixName rule schema is = of_question ask_errors.NoPrefixName rule schema is
-rule_word ask_errors.UnknownIndex rule schema is = of_question ask_errors.UnknownIndex rule schema is
-rule_word ask_errors.NotUnique rule schema is = of_question ask_errors.NotUnique rule schema is
-rule_word ask_errors.NoPrefixForm rule schema is = of_question ask_errors.NoPrefixForm rule schema is
-rule_word ask_errors.ArgCount rule schema is = of_question ask_errors.ArgCount rule schema is
-rule_word ask_errors.ArgKind rule schema is = of_question ask_errors.ArgKind rule schema is
-rule_word ask_errors.OutOfRange rule schema is = of_question ask_errors.OutOfRange rule schema is
-rule_word ask_errors.BadUuid rule schema is = of_question ask_errors.BadUuid rule schema is
-rule_word ask_errors.TooLong rule schema is = of_question ask_errors.TooLong rule schema is
+rule_named : (e : AskError) (rule : Rule) (schema : DbSchema) → question_rule e ≡ Some rule → rule_name schema rule ≡ question_name e
+rule_named ask_errors.Memory rule schema is = cc
+rule_named ask_errors.UnknownTable rule schema is = of_question ask_errors.UnknownTable rule schema is
+rule_named ask_errors.Unwatchable rule schema is = of_question ask_errors.Unwatchable rule schema is
+rule_named ask_errors.NoPrefixName rule schema is = of_question ask_errors.NoPrefixName rule schema is
+rule_named ask_errors.UnknownIndex rule schema is = of_question ask_errors.UnknownIndex rule schema is
+rule_named ask_errors.NotUnique rule schema is = of_question ask_errors.NotUnique rule schema is
+rule_named ask_errors.NoPrefixForm rule schema is = of_question ask_errors.NoPrefixForm rule schema is
+rule_named ask_errors.ArgCount rule schema is = of_question ask_errors.ArgCount rule schema is
+rule_named ask_errors.ArgKind rule schema is = of_question ask_errors.ArgKind rule schema is
+rule_named ask_errors.OutOfRange rule schema is = of_question ask_errors.OutOfRange rule schema is
+rule_named ask_errors.BadUuid rule schema is = of_question ask_errors.BadUuid rule schema is
+rule_named ask_errors.TooLong rule schema is = of_question ask_errors.TooLong rule schema is
 
 -- a reply that tells a rule, where there is one
 pub refused_so : (rule : Option Rule) (result : Result own.Reply AllocError) (Q : own.Reply → Type 0) → MatchOption rule (IsErr result) (λ (y : Rule). result ≡ Ok (replies.Refused y)) → ((y : Rule) → rule ≡ Some y → Q (replies.Refused y)) → IfOk result Q
@@ -196,7 +196,7 @@ module _ (p : Caller) (v : Client) (s : Sight) (name : Bytes) (q : Query) where
                 cc
             of (inr word) = record {
               next = v;
-              says = walked ∙ ap (λ (j : Judged Answer). outcome v (by_answer j)) word ∙ ap (λ (n : Bytes). (refused n, v)) (sym (rule_word e rule p.schema rule_is));
+              says = walked ∙ ap (λ (j : Judged Answer). outcome v (by_answer j)) word ∙ ap (λ (n : Bytes). (refused n, v)) (sym (rule_named e rule p.schema rule_is));
               knows = knows;
               holds = holds;
             }

@@ -4,16 +4,16 @@ use Rattle.client_script.specs.Legal.{printed}
 use Rattle.client_script.specs.Reply.{Reply, heading}
 use Rattle.client_script.specs.declared.line.Line.{Line}
 use Rattle.client_session.specs.Answered.{IsLater, commit_at}
-use Rattle.client_session.specs.Progress.{Progress, begun}
+use Rattle.client_session.specs.Progress.{Progress, new_session}
 use Rattle.mdb_datum.specs.Bytes.{Bytes}
 use Rattle.mdb_schema.specs.History.{History}
 use Rattle.mem_txn.specs.CellHistory.{Forest}
 use Rattle.mem_txn.specs.Database.{Caller, Callers, Database, IsOf, commits_by, new_callers}
 
 -- sessions of which nothing is carried out yet, one for each pass and script
-abbrev pub begun_each : List Caller → List (List Line) → List Progress
-begun_each (p ∷ ps) (s ∷ ss) = begun p.number s p ∷ begun_each ps ss
-begun_each ps ss = []
+abbrev pub new_sessions : List Caller → List (List Line) → List Progress
+new_sessions (p ∷ ps) (s ∷ ss) = new_session p.number s p ∷ new_sessions ps ss
+new_sessions ps ss = []
 
 -- the sessions of these scripts on a new database of so many callers more: they have its first
 -- passes, and the others are left
@@ -23,7 +23,7 @@ pub record AreOpened (db : Database) (scripts : List (List Line)) (further : ℕ
   pub all : Callers
   pub are_all : all ≡ new_callers db opening (length scripts + further)
   pub callers : db.callers ≡ length scripts + further
-  pub sessions : ss ≡ begun_each all.passes scripts
+  pub sessions : ss ≡ new_sessions all.passes scripts
   pub rest : left ≡ record all { passes = drop (length scripts) all.passes }
 
 -- the sessions may be carried out on the database

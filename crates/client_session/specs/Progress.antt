@@ -18,8 +18,8 @@ pub record Progress : Type 0 where
   pub failed : Bool
 
 -- a session of which nothing is carried out yet
-abbrev pub begun : ℕ → List Line → Caller → Progress
-begun client script caller = record {
+abbrev pub new_session : ℕ → List Line → Caller → Progress
+new_session client script caller = record {
   client = client;
   script = script;
   caller = caller;

@@ -2,13 +2,14 @@
 use Rattle.std.specs.Prelude.{◌≡◌, ◌⊎◌, ◌≤◌, ◌+◌, ◌++◌, ℕ, List, [], ◌∷◌}
 use Rattle.std.specs.Prelude.{Some, Result, Ok, Err, false, length, slice_get, take, ⊤}
 use Rattle.std.specs.declared.alloc.AllocError.{AllocError}
+use Rattle.mdb_schema.specs.Guarded.{IsUnchanged}
 use Rattle.mem_txn.specs.Checked.{LooksOnce}
 use Rattle.mem_txn.specs.Database.{Caller}
 use Rattle.mem_txn.specs.Transactions.{HasLost, HasWon}
 use Rattle.client_script.specs.Client.{Client, Watch, at_start}
 use Rattle.client_script.specs.Reply.{Reply, lines_text}
 use Rattle.client_script.specs.Session.{Runs}
-use Rattle.client_script.specs.Watching.{IsQuiet, awaited_by}
+use Rattle.client_script.specs.Watching.{awaited_by}
 use Rattle.client_script.specs.declared.command.Command.{Command}
 use Rattle.client_script.specs.declared.command.Command.TheVariants as command
 use Rattle.client_script.specs.declared.command.TransactionCommand.TheVariants as transaction_line
@@ -48,7 +49,7 @@ pub record WasQuiet (old new : Caller) (w : Watch) : Type 0 where
   pub counts : new.counts ≡ old.counts ++ (earlier ++ at ∷ further)
   pub later : length old.seen ≤ at
   pub seen : at ≤ length new.seen
-  pub quiet : IsQuiet new.schema new.seen new.number w at
+  pub quiet : IsUnchanged new.schema new.seen new.number w.query w.number at
 
 abbrev pub WereQuiet : Caller → Caller → List Watch → Type 0
 WereQuiet old new [] = ⊤

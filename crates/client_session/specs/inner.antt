@@ -2,14 +2,14 @@ pub mod Added
 pub mod Asking
 pub mod Awaited
 pub mod Carried
-pub mod DeskView
-pub mod KeptView
 pub mod Looked
 pub mod OpenView
 pub mod Refusal
 pub mod ReplyOf
 pub mod RuleName
 pub mod SetsKept
+pub mod SnapshotView
+pub mod StateView
 pub mod StepKept
 pub mod StoredSession
 pub mod Transcript

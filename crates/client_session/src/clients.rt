@@ -4,7 +4,7 @@ ghost use Rattle.std.specs.Prelude.{vec_capacity};
 ghost use Rattle.mem_txn.specs.CellHistory.{CellHistory, Forest};
 ghost use Rattle.mem_txn.specs.Database.{AreOf, IsWhole, new_callers, reading_after};
 ghost use Rattle.client_script.specs.Reply.{heading};
-ghost use Rattle.client_session.specs.Clients.{AreOpened, CanClose, begun_each, callers_back};
+ghost use Rattle.client_session.specs.Clients.{AreOpened, CanClose, new_sessions, callers_back};
 ghost use Rattle.client_session.specs.Clients.{headed};
 
 use crate::reply::write_number;
@@ -139,7 +139,7 @@ fn begin_all(
     requires passes { length scripts ≤ length passes.old.passes }
     requires empty { room.items ≡ [] }
     requires room { length scripts ≤ vec_capacity room }
-    ensures sessions { result.items ≡ begun_each passes.old.passes scripts }
+    ensures sessions { result.items ≡ new_sessions passes.old.passes scripts }
     ensures passes { passes.new ≡ record passes.old {
       passes = drop (length scripts) passes.old.passes;
     } }

@@ -7,10 +7,9 @@
 //! seen.
 #![tactic(auto)]
 
+mod any_snapshot;
 mod asked;
 mod clients;
-mod desk;
-mod kept;
 mod named;
 mod open;
 mod refusal;
@@ -19,6 +18,7 @@ mod requests;
 mod rule;
 mod run;
 mod session;
+mod session_state;
 mod stepped;
 mod transcript;
 mod waits_for;

@@ -40,9 +40,9 @@ pub(crate) enum Reply {
     /// The answer to a question of a read state. It is written from walks over the state's rows.
     Asked(ReadTxn, Query),
     /// A snapshot stands on the commit of this number.
-    KeptAt(u64),
+    SnapshotAt(u64),
     /// A snapshot stands on the commit of this number, with its transaction's writes.
-    KeptWithin(u64),
+    SnapshotWithin(u64),
     /// A watch is quiet after so many commits.
     QuietAt(u64),
     /// A watch has fired, after so many commits.
@@ -113,8 +113,8 @@ impl Reply {
             Reply::ReadAt(_)
             | Reply::WriteAt(_)
             | Reply::Wiped(_)
-            | Reply::KeptAt(_)
-            | Reply::KeptWithin(_)
+            | Reply::SnapshotAt(_)
+            | Reply::SnapshotWithin(_)
             | Reply::QuietAt(_)
             | Reply::FiredAt(_)
             | Reply::Sized(_)
@@ -160,8 +160,8 @@ impl Reply {
             Reply::ReadAt(number) => write_at(b"read @", *number, out),
             Reply::WriteAt(number) => write_at(b"write @", *number, out),
             Reply::Wiped(count) => write_at(b"deleted ", *count, out),
-            Reply::KeptAt(number) => write_at(b"snapshot @", *number, out),
-            Reply::KeptWithin(number) => write_within(*number, out),
+            Reply::SnapshotAt(number) => write_at(b"snapshot @", *number, out),
+            Reply::SnapshotWithin(number) => write_within(*number, out),
             Reply::QuietAt(_) | Reply::FiredAt(_) | Reply::Sized(_) | Reply::StoppedAt(_) => {
                 self.write_looked(out)
             }

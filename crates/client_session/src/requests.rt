@@ -3,12 +3,12 @@ ghost use Rattle.std.specs.Prelude.{◌≡◌, IfOk};
 ghost use Rattle.client_script.specs.declared.command.AskCommand.TheVariants as ask_line;
 ghost use Rattle.client_script.specs.declared.command.Command.TheVariants as commands;
 ghost use Rattle.client_script.specs.declared.command.WriteCommand.TheVariants as write_line;
-ghost use Rattle.client_session.specs.inner.DeskView.{Presents};
+ghost use Rattle.client_session.specs.inner.StateView.{Presents};
 ghost use Rattle.client_session.specs.inner.OpenView.{caller_of, transaction_of, IsOpen, Stands};
 ghost use Rattle.client_session.specs.inner.OpenView.{TurnsTo};
 ghost use Rattle.client_session.specs.inner.ReplyOf.{reply_of};
 
-use crate::kept::Kept;
+use crate::any_snapshot::AnySnapshot;
 use crate::open::Open;
 use crate::refusal::{refused, txn_question_rule, wipe_rule, write_rule};
 use crate::reply::Reply;
@@ -40,7 +40,7 @@ impl Open {
     }
 
     /// The present state of the open transaction, and the reply to a line that keeps it.
-    pub(crate) fn present(&mut self) -> Result<(Kept, Reply), AllocError>
+    pub(crate) fn present(&mut self) -> Result<(AnySnapshot, Reply), AllocError>
         requires stands { Stands self.old }
         requires opened { IsOpen self.old }
         ensures present { IfOk result (λ p. Presents self.old p.0
@@ -53,12 +53,18 @@ impl Open {
             Open::Nothing(_) => unreachable!(),
             Open::Reading(_, txn) => {
                 let number = txn.number();
-                Ok((Kept::Committed(txn.snapshot()?), Reply::KeptAt(number)))
+                Ok((
+                    AnySnapshot::Committed(txn.snapshot()?),
+                    Reply::SnapshotAt(number),
+                ))
             }
             Open::Writing(txn) => {
                 let number = txn.number();
                 match txn.snapshot() {
-                    Ok(snapshot) => Ok((Kept::Uncommitted(snapshot), Reply::KeptWithin(number))),
+                    Ok(snapshot) => Ok((
+                        AnySnapshot::Uncommitted(snapshot),
+                        Reply::SnapshotWithin(number),
+                    )),
                     Err(SnapError::Memory | SnapError::Spoiled) => Err(AllocError),
                 }
             }

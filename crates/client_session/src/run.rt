@@ -8,8 +8,8 @@ ghost use Rattle.client_session.specs.inner.Carried.{SoFar, StepsLine, Stops, St
 ghost use Rattle.client_session.specs.inner.OpenView.{caller_of, is_writing, Stands};
 ghost use Rattle.client_session.specs.inner.WatchingView.{Holds};
 
-use crate::desk::Desk;
 use crate::reply::Reply;
+use crate::session_state::SessionState;
 use crate::transcript::Transcript;
 use client_script::{Line, Script};
 use mdb_ports::Gate;
@@ -18,7 +18,7 @@ use mem_txn::Db;
 use std::alloc::AllocError;
 use std::sync::Wait;
 
-/// Carries out a script from a place on, and adds its answers. It gives the desk, with
+/// Carries out a script from a place on, and adds its answers. It gives the session's state, with
 /// nothing open, and how many lines are answered then. After `AllocError` these are some first
 /// lines.
 pub(crate) fn carry_out<R: Wait, G: Gate>(
@@ -28,25 +28,27 @@ pub(crate) fn carry_out<R: Wait, G: Gate>(
     client: u32,
     script: &Script,
     from: usize,
-    desk: Desk,
+    state: SessionState,
     transcript: &mut Transcript,
-) -> (Desk, usize, Result<(), AllocError>)
-    requires own { IsOf db.now (caller_of desk.open) }
+) -> (SessionState, usize, Result<(), AllocError>)
+    requires own { IsOf db.now (caller_of state.open) }
     requires place { from ≤ length script.now }
-    requires so_far { SoFar script.now from desk transcript.old }
-    ensures told { AddsSome (caller_of desk.open) (caller_of result.0.open) script.now from
+    requires so_far { SoFar script.now from state transcript.old }
+    ensures told { AddsSome (caller_of state.open) (caller_of result.0.open) script.now from
         result.1 transcript.old transcript.new }
-    ensures answered { OnOk result.2 (CarriesOut (caller_of desk.open) (caller_of result.0.open)
+    ensures answered { OnOk result.2 (CarriesOut (caller_of state.open) (caller_of result.0.open)
         script.now from result.1 transcript.old transcript.new) }
-    ensures stopped { OnErr result.2 (Stops (caller_of desk.open) (caller_of result.0.open)
+    ensures stopped { OnErr result.2 (Stops (caller_of state.open) (caller_of result.0.open)
         script.now from result.1 transcript.old transcript.new) }
     ensures all { OnOk result.2 (result.1 ≡ length script.now) }
     ensures place { result.1 ≤ length script.now }
     ensures closed { is_writing result.0.open ≡ false }
 {
     let alloc = transcript.allocator();
-    let (desk, answered, told) = answer_lines(rt, db, gate, client, script, from, desk, transcript);
-    (desk.closed(alloc, db), answered, told)
+    let (state, answered, told) = answer_lines(
+        rt, db, gate, client, script, from, state, transcript,
+    );
+    (state.closed(alloc, db), answered, told)
 }
 
 /// Carries out each line from a place on, and adds its answer, till one finds no memory. It gives
@@ -58,33 +60,33 @@ fn answer_lines<R: Wait, G: Gate>(
     client: u32,
     script: &Script,
     from: usize,
-    desk: Desk,
+    state: SessionState,
     transcript: &mut Transcript,
-) -> (Desk, usize, Result<(), AllocError>)
-    requires own { IsOf db.now (caller_of desk.open) }
+) -> (SessionState, usize, Result<(), AllocError>)
+    requires own { IsOf db.now (caller_of state.open) }
     requires place { from ≤ length script.now }
-    requires so_far { SoFar script.now from desk transcript.old }
-    ensures told { AddsSome (caller_of desk.open) (caller_of result.0.open) script.now from
+    requires so_far { SoFar script.now from state transcript.old }
+    ensures told { AddsSome (caller_of state.open) (caller_of result.0.open) script.now from
         result.1 transcript.old transcript.new }
-    ensures answered { OnOk result.2 (CarriedOn (caller_of desk.open) script.now from result.1
+    ensures answered { OnOk result.2 (CarriedOn (caller_of state.open) script.now from result.1
         transcript.old result.0 transcript.new) }
-    ensures stopped { OnErr result.2 (Stops (caller_of desk.open) (caller_of result.0.open)
+    ensures stopped { OnErr result.2 (Stops (caller_of state.open) (caller_of result.0.open)
         script.now from result.1 transcript.old transcript.new) }
     ensures all { OnOk result.2 (result.1 ≡ length script.now) }
     ensures place { result.1 ≤ length script.now }
 {
-    let mut desk = desk;
+    let mut state = state;
     for at in from..script.len() {
         let Some(line) = script.get(at) else {
             unreachable!();
         };
-        let (next, told) = answer_line(rt, db, gate, client, line, desk, transcript);
-        desk = next;
+        let (next, told) = answer_line(rt, db, gate, client, line, state, transcript);
+        state = next;
         if told.is_err() {
-            return (desk, at, told);
+            return (state, at, told);
         }
     }
-    (desk, script.len(), Ok(()))
+    (state, script.len(), Ok(()))
 }
 
 /// Carries out a line, and adds its answer. After `AllocError` the answers are as before.
@@ -94,27 +96,27 @@ fn answer_line<R: Wait, G: Gate>(
     gate: &G,
     client: u32,
     line: &Line,
-    desk: Desk,
+    state: SessionState,
     transcript: &mut Transcript,
-) -> (Desk, Result<(), AllocError>)
-    requires own { IsOf db.now (caller_of desk.open) }
-    requires stands { Stands desk.open }
-    requires holds { Holds (caller_of desk.open) desk.watching }
+) -> (SessionState, Result<(), AllocError>)
+    requires own { IsOf db.now (caller_of state.open) }
+    requires stands { Stands state.open }
+    requires holds { Holds (caller_of state.open) state.watching }
     requires room { transcript.old.commits + 1 < 2 ^ 64 }
     ensures answered { OnOk result.1
-        (AnswersLine line.now desk result.0 transcript.old transcript.new) }
+        (AnswersLine line.now state result.0 transcript.old transcript.new) }
     ensures kept { OnErr result.1 (transcript.new ≡ transcript.old) }
-    ensures stopped { OnErr result.1 (StopsLine line.now desk (caller_of result.0.open)) }
-    ensures caller { IsLater (caller_of desk.open) (caller_of result.0.open) }
+    ensures stopped { OnErr result.1 (StopsLine line.now state (caller_of result.0.open)) }
+    ensures caller { IsLater (caller_of state.open) (caller_of result.0.open) }
 {
     let alloc = transcript.allocator();
     gate.before(client, line.number);
-    let (desk, told) = desk.turn(rt, alloc, db, &line.command);
+    let (state, told) = state.turn(rt, alloc, db, &line.command);
     let added = add_reply(db.schema(), line.number, told, transcript);
     if added.is_ok() {
         gate.after(client, line.number);
     }
-    (desk, added)
+    (state, added)
 }
 
 /// Adds the reply to a line, where its turn gave one. After `AllocError` the answers are as before.
@@ -142,26 +144,26 @@ pub(crate) fn step_line<R: Wait>(
     rt: &R,
     db: &Db,
     line: &Line,
-    desk: Desk,
+    state: SessionState,
     transcript: &mut Transcript,
-) -> (Desk, Result<bool, AllocError>)
-    requires own { IsOf db.now (caller_of desk.open) }
-    requires stands { Stands desk.open }
-    requires holds { Holds (caller_of desk.open) desk.watching }
+) -> (SessionState, Result<bool, AllocError>)
+    requires own { IsOf db.now (caller_of state.open) }
+    requires stands { Stands state.open }
+    requires holds { Holds (caller_of state.open) state.watching }
     requires room { transcript.old.commits + 1 < 2 ^ 64 }
-    ensures answered { OnOk result.1 (StepsLine db.now.callers line.now desk result.0
+    ensures answered { OnOk result.1 (StepsLine db.now.callers line.now state result.0
         transcript.old transcript.new result.1) }
     ensures kept { OnErr result.1 (transcript.new ≡ transcript.old) }
-    ensures stopped { OnErr result.1 (StopsLine line.now desk (caller_of result.0.open)) }
+    ensures stopped { OnErr result.1 (StopsLine line.now state (caller_of result.0.open)) }
     ensures closed { OnErr result.1 (is_writing result.0.open ≡ false) }
-    ensures caller { IsLater (caller_of desk.open) (caller_of result.0.open) }
+    ensures caller { IsLater (caller_of state.open) (caller_of result.0.open) }
 {
     let alloc = transcript.allocator();
-    let (desk, told) = desk.step(rt, alloc, db, &line.command);
+    let (state, told) = state.step(rt, alloc, db, &line.command);
     let added = add_step(db.schema(), line.number, told, transcript);
     match added {
-        Ok(answered) => (desk, Ok(answered)),
-        Err(error) => (desk.closed(alloc, db), Err(error)),
+        Ok(answered) => (state, Ok(answered)),
+        Err(error) => (state.closed(alloc, db), Err(error)),
     }
 }
 

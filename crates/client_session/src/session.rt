@@ -3,18 +3,18 @@ ghost use Rattle.std.specs.Prelude.{◌≡◌, ◌+◌, IsSome, List, None, OnEr
 ghost use Rattle.std.specs.Prelude.{◌<◌, ◌^◌, false, true, is_err, length, option_map, slice_get};
 ghost use Rattle.client_script.specs.Reply.{Reply};
 ghost use Rattle.client_session.specs.Answered.{AreTold, HasAnswered, HasStopped, StaysEnded, Tells};
-ghost use Rattle.client_session.specs.Progress.{begun};
+ghost use Rattle.client_session.specs.Progress.{new_session};
 ghost use Rattle.client_session.specs.Steps.{AnswersStep};
 ghost use Rattle.client_session.specs.Waiting.{TellsWait, awaited_of};
-ghost use Rattle.client_session.specs.declared.desk.Desk.{Desk};
+ghost use Rattle.client_session.specs.declared.session_state.SessionState.{SessionState};
 ghost use Rattle.client_session.specs.inner.OpenView.{caller_of, Stands};
 ghost use Rattle.client_session.specs.inner.StepKept.{StepsKept};
 ghost use Rattle.client_session.specs.inner.StoredSession.{IsUnfinished, caller_in};
 ghost use Rattle.client_session.specs.inner.WatchingView.{Holds};
 ghost use Rattle.mem_txn.specs.Database.{IsOf};
 
-use crate::desk::Desk;
 use crate::run::{carry_out, step_line};
+use crate::session_state::SessionState;
 use crate::stepped::Stepped;
 use crate::transcript::Transcript;
 use crate::waits_for::WaitsFor;
@@ -31,7 +31,7 @@ pub struct Session {
     client: u32,
     script: Script,
     /// It is taken out only while lines are carried out.
-    desk: Option<Desk>,
+    state: Option<SessionState>,
     /// How many of the script's lines are answered.
     answered: usize,
     transcript: Transcript,
@@ -49,27 +49,27 @@ impl Model for Session {
     ghost view = { λ s. record {
       client = s.client;
       script = s.script;
-      caller = caller_in s.desk;
+      caller = caller_in s.state;
       answered = s.answered;
       text = s.transcript.text;
       commits = s.transcript.commits;
-      writing = writing_in s.desk;
+      writing = writing_in s.state;
       failed = s.failed;
     } };
 
-    ghost invariant = { λ s. HasDone s.script s.desk s.answered s.transcript s.failed };
+    ghost invariant = { λ s. HasDone s.script s.state s.answered s.transcript s.failed };
 }
 
 impl Session {
     /// A session of the client of this number, whose pass it is. It takes no memory.
     pub fn new(alloc: Global, client: u32, script: Script, pass: Pass) -> Session
         requires { client ≡ pass.number }
-        ensures { result ≡ begun client script pass }
+        ensures { result ≡ new_session client script pass }
     {
         Session {
             client,
             script,
-            desk: Some(Desk::new(alloc, pass)),
+            state: Some(SessionState::new(alloc, pass)),
             answered: 0,
             transcript: Transcript::new(alloc),
             failed: false,
@@ -155,19 +155,19 @@ impl Session {
           failed = is_err result;
         } }
     {
-        let desk = take_desk(&mut self.desk);
+        let state = take_state(&mut self.state);
         let (client, from) = (self.client, self.answered);
-        let (desk, answered, told) = carry_out(
+        let (state, answered, told) = carry_out(
             rt,
             db,
             gate,
             client,
             &self.script,
             from,
-            desk,
+            state,
             &mut self.transcript,
         );
-        put_desk(&mut self.desk, desk);
+        put_state(&mut self.state, state);
         self.answered = answered;
         self.failed = told.is_err();
         told
@@ -192,7 +192,7 @@ impl Session {
     {
         let line = line_at(&self.script, self.answered);
         let number = line.number;
-        let told = step_kept(rt, db, line, &mut self.desk, &mut self.transcript);
+        let told = step_kept(rt, db, line, &mut self.state, &mut self.transcript);
         self.failed = told.is_err();
         if told? {
             self.answered = next;
@@ -208,9 +208,9 @@ impl Session {
         requires done { self.old.answered ≡ length self.old.script }
         ensures { self.new ≡ record self.old { writing = false } }
     {
-        let desk = take_desk(&mut self.desk);
+        let state = take_state(&mut self.state);
         let alloc = self.transcript.allocator();
-        put_desk(&mut self.desk, desk.closed(alloc, db));
+        put_state(&mut self.state, state.closed(alloc, db));
     }
 
     /// The text of the answers so far.
@@ -237,8 +237,8 @@ impl Session {
             return None;
         }
         let line = self.script.get(self.answered)?;
-        let desk = self.desk.as_ref()?;
-        desk.awaited(&line.command)
+        let state = self.state.as_ref()?;
+        state.awaited(&line.command)
     }
 
     /// The pass, after what is open was aborted. It takes no memory.
@@ -249,62 +249,62 @@ impl Session {
         let Session {
             client: _,
             script,
-            desk,
+            state,
             answered: _,
             transcript,
             failed: _,
         } = self;
         drop(script);
         drop(transcript);
-        match desk {
-            Some(desk) => desk.close(db),
+        match state {
+            Some(state) => state.close(db),
             None => unreachable!(),
         }
     }
 }
 
-/// Takes out the desk, which is there.
-fn take_desk(kept: &mut Option<Desk>) -> Desk
+/// Takes out the state, which is there.
+fn take_state(kept: &mut Option<SessionState>) -> SessionState
     requires { IsSome kept.old }
     ensures was { kept.old ≡ Some result }
     ensures left { kept.new ≡ None }
 {
-    let Some(desk) = kept.take() else {
+    let Some(state) = kept.take() else {
         unreachable!();
     };
-    desk
+    state
 }
 
-/// Puts a desk where none is.
-fn put_desk(kept: &mut Option<Desk>, desk: Desk)
+/// Puts a state where none is.
+fn put_state(kept: &mut Option<SessionState>, state: SessionState)
     requires { kept.old ≡ None }
-    ensures { kept.new ≡ Some desk }
+    ensures { kept.new ≡ Some state }
 {
-    let gone = kept.replace(desk);
+    let gone = kept.replace(state);
     let None = gone else { unreachable!() };
 }
 
-/// Carries out a line on the desk, which is there, and adds its answer. It gives whether there is
+/// Carries out a line on the state, which is there, and adds its answer. It gives whether there is
 /// one. After `AllocError` nothing is open, and the answers are as before.
 fn step_kept<R: Wait>(
     rt: &R,
     db: &Db,
     line: &Line,
-    kept: &mut Option<Desk>,
+    kept: &mut Option<SessionState>,
     transcript: &mut Transcript,
 ) -> Result<bool, AllocError>
     requires here { IsSome kept.old }
     requires own { IsOf db.now (caller_in kept.old) }
-    requires stands { (desk : Desk) → kept.old ≡ Some desk → Stands desk.open }
-    requires holds { (desk : Desk) → kept.old ≡ Some desk
-        → Holds (caller_of desk.open) desk.watching }
+    requires stands { (state : SessionState) → kept.old ≡ Some state → Stands state.open }
+    requires holds { (state : SessionState) → kept.old ≡ Some state
+        → Holds (caller_of state.open) state.watching }
     requires room { transcript.old.commits + 1 < 2 ^ 64 }
     ensures { StepsKept db.now.callers line.now kept.old kept.new transcript.old transcript.new
         result }
 {
-    let desk = take_desk(kept);
-    let (desk, told) = step_line(rt, db, line, desk, transcript);
-    put_desk(kept, desk);
+    let state = take_state(kept);
+    let (state, told) = step_line(rt, db, line, state, transcript);
+    put_state(kept, state);
     told
 }
 

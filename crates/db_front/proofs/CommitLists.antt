@@ -4,7 +4,6 @@ use Rattle.std.proofs.lemmas.List.{append-nil}
 use mathlib.Core.Option.{some, some-injective, some-ne-none}
 use mathlib.Core.List.{IsPrefix}
 use lib.ListN.{get_elem?}
-use prog.Atomic.{either}
 use Rattle.atomic_table.specs.Table.{rest}
 use Rattle.db_front.specs.Commits.{commits_by, AreNamed}
 
@@ -53,10 +52,6 @@ snoc_last (x ∷ r) (y ∷ q) a b e = snoc_last r q a b (cc e)
 -- the slot taken last, as a call of `exchange` asks for it
 pub topped : {A : Type 0} (l : List (ℕ × A)) (k : ℕ) (x : A) (xs : List (ℕ × A)) → l ≡ (k, x) ∷ xs → (y : A) × (l ≡ (k, y) ∷ rest l)
 topped l k x xs is = (x, is ∙ ap (λ cs. (k, x) ∷ rest cs) (sym is))
-
--- a compare-exchange that finds a number
-pub missed : (t x : ℕ) → either (suc t == 0) x (suc t) ≡ suc t
-missed t x = ap (λ b. either b x (suc t)) (ne_eqb (suc t) 0 (λ h. omega (arith, h)))
 
 pub by_own : {V : Type 0} (c : ℕ) (h : List (ℕ × V)) (x : V) → commits_by c (h ++ (c, x) ∷ []) ≡ commits_by c h ++ (c, x) ∷ []
 by_own c [] x = ap (λ b. if b then (c, x) ∷ [] else []) (eq-eqb c c refl)

@@ -8,13 +8,13 @@ use lib.ListN.{get_elem?}
 use Rattle.atomic_table.specs.Table.{State, step, keeps, gives, Allows, put_back}
 use Rattle.watch_word.specs.Logs.{Log}
 use Rattle.db_front.specs.declared.board.View.{View}
-use Rattle.db_front.specs.Commits.{HasFirings}
+use Rattle.db_front.specs.Commits.{HasFirstFirings}
 use Rattle.db_front.specs.Steps.{IsTurn, Outs, Sat}
-use Rattle.db_front.specs.inner.Kept.{Now, log_of, Carries, Differ, HasAll, Reads, Covers, Holds, HoldsAll, Lies, IsKept}
+use Rattle.db_front.specs.inner.FrontRule.{Now, log_of, Carries, Differ, Reads, Covers, Holds, HoldsAll, Lies, KeepsRule}
 use Rattle.db_front.specs.inner.Plays.{laid, committed, finished}
 use Rattle.db_front.proofs.CommitLists.{set_at, prefix_self, take_more, by_own, named_snoc}
 use Rattle.db_front.proofs.Hands.{moves, carries_grown, hands_grown, hands_lack}
-use Rattle.db_front.proofs.ShownTurns.{reads_count, reads_done, reads_shown, holds_each, holds_rest, holds_moved, found, other_turn, lies_given, has_left}
+use Rattle.db_front.proofs.ShownTurns.{reads_count, reads_done, reads_shown, holds_each, holds_rest, holds_moved, found, other_turn, lies_given, has_left, HasAll}
 use Rattle.db_front.proofs.OtherSeats.{seats_set, held_set, held_moved}
 
 -- a number that isn't the last one before another
@@ -23,11 +23,11 @@ below c m ne less = dite (dec_le m (suc c)) (λ le. absurd (ne (omega (arith, le
 
 module _ {V : Type 0} (stands : List (ℕ × V) → V → Type 0) (fired : List (ℕ × V) → Log → Type 0) where
   abbrev Rule : ℕ → State (Option (V × Log)) (View V) → Type 0
-  Rule = IsKept stands fired
+  Rule = KeepsRule stands fired
 
   -- a log with the firings of the commit goes into the next slot
   pub lays_new : (callers slots id : ℕ) (me : Sat V) (i : ℕ) (c : V × Log) (l : Log) (os : Outs) (cs : List (ℕ × Option (V × Log))) → me.0.outs ≡ (i, l) ∷ os → 2 ≤ me.0.stage → i ≡ 8 * me.0.stage
-      → me.1 ≡ (i, Some c) ∷ cs → stands me.0.seen c.0 → HasFirings fired (length me.0.seen - 1) me.0.seen c.1
+      → me.1 ≡ (i, Some c) ∷ cs → stands me.0.seen c.0 → HasFirstFirings fired (length me.0.seen - 1) me.0.seen c.1
       → Allows (Rule callers) slots id me i (λ _. 0) (λ _. laid (me.0.stage + 1) (step slots i 0 0 none) me 0)
   lays_new callers slots id me i c l os cs outs published next hand good told s r _ at _ =
       let n : Now V = r.now in
@@ -40,7 +40,7 @@ module _ {V : Type 0} (stands : List (ℕ × V) → V → Type 0) (fired : List 
       let b = r.turns.behind (omega (arith, is, published)) in
       let grew : length n.commits ≡ length b.0 + 1 = ap length b.2 ∙ length-append b.0 (b.1 ∷ []) in
       let len : length me.0.seen ≡ suc (length n.commits) = ap length wr.4 in
-      let all : HasFirings fired (length n.commits) (log_of n) c.1 = λ k lt. subst (λ h. fired (take (suc k) h) c.1) wr.4 (told k (omega (arith, lt, len))) in
+      let all : HasFirstFirings fired (length n.commits) (log_of n) c.1 = λ k lt. subst (λ h. fired (take (suc k) h) c.1) wr.4 (told k (omega (arith, lt, len))) in
       let w : View V = record me.0 { outs = drop 1 me.0.outs; stage = me.0.stage + 1 } in
       let st : ℕ = me.0.stage + 1 in
       let n' : Now V = record n { shown = moves n.shown i 0; shower = moves n.shower i id; stage = st } in

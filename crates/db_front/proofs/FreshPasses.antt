@@ -5,7 +5,7 @@ use Rattle.watch_word.specs.Logs.{Log}
 use Rattle.db_front.specs.declared.board.View.{View}
 use Rattle.db_front.specs.Passes.{FrontId, Known, fresh, all_fresh, AreIdle}
 use Rattle.db_front.specs.Steps.{Sat}
-use Rattle.db_front.specs.inner.Kept.{Hand, blank, start, dealing, fewer, given, handed_over}
+use Rattle.db_front.specs.inner.FrontRule.{Hand, blank, start, dealing, fewer, given, handed_over}
 use Rattle.db_front.specs.inner.Seats.{Spot, known_of}
 use Rattle.db_front.proofs.Hands.{dealt_next, dealt_end}
 use Rattle.db_front.proofs.IdlePasses.{idle_given}

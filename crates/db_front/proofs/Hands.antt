@@ -1,7 +1,7 @@
 -- The numbers that a seat carries, as the list grows and as numbers go to other seats.
 use Rattle.std.proofs.Common.{◌≡◌, ◌≢◌, ℕ, zero, suc, ◌+◌, ◌-◌, ◌==◌, ◌<◌, ◌≤◌, List, [], ◌∷◌, ◌++◌, sym, refl, ap, ◌∙◌, arith, ne_eqb, eq-eqb, if◌then◌else◌}
 use Rattle.db_front.specs.Commits.{commits_by}
-use Rattle.db_front.specs.inner.Kept.{Hand, Carries, Hands, Lacks, Apart, Made, start, dealt}
+use Rattle.db_front.specs.inner.FrontRule.{Hand, Carries, Hands, Lacks, Apart, Made, start, dealt}
 use Rattle.db_front.proofs.CommitLists.{prefix_self, prefix_more, by_other}
 
 -- the owners after the number c goes to the seat to, and after all of the seat one go to the seat

@@ -7,7 +7,7 @@ use lib.ListN.{get_elem?}
 use Rattle.atomic_table.proofs.Lists.{set_here, set_else}
 use Rattle.watch_word.specs.Logs.{Log}
 use Rattle.db_front.specs.Steps.{turn_of}
-use Rattle.db_front.specs.inner.Kept.{size_of}
+use Rattle.db_front.specs.inner.FrontRule.{size_of}
 use Rattle.db_front.specs.inner.Seats.{LiesTo}
 
 pub laid_next : {V : Type 0} (c x : V × Log) (slots : List (Option (V × Log))) (callers caller at : ℕ) → x ≡ c → 0 < caller → caller ≤ callers → length slots ≡ size_of callers → at ≡ turn_of caller → LiesTo (caller - 1) c slots

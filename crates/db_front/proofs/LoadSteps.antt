@@ -8,9 +8,9 @@ use lib.Seq.{set-get_or}
 use Rattle.atomic_table.specs.Table.{State, Step, step, keeps, Allows}
 use Rattle.watch_word.specs.Logs.{Log}
 use Rattle.db_front.specs.declared.board.View.{View}
-use Rattle.db_front.specs.Commits.{HasFirings, IsLastOf}
+use Rattle.db_front.specs.Commits.{HasFirstFirings, IsLastOf}
 use Rattle.db_front.specs.Steps.{Outs, Sat, LoadsCount, LoadsDone}
-use Rattle.db_front.specs.inner.Kept.{log_of, HoldsAll, IsKept}
+use Rattle.db_front.specs.inner.FrontRule.{log_of, HoldsAll, KeepsRule}
 use Rattle.db_front.specs.inner.Seats.{Sees}
 use Rattle.db_front.proofs.CommitLists.{snoc_last}
 use Rattle.db_front.proofs.ShownTurns.{held_whole}
@@ -18,7 +18,7 @@ use Rattle.db_front.proofs.OtherSeats.{quiet, others_turn}
 
 module _ {V : Type 0} (stands : List (ℕ × V) → V → Type 0) (fired : List (ℕ × V) → Log → Type 0) where
   abbrev Rule : ℕ → State (Option (V × Log)) (View V) → Type 0
-  Rule = IsKept stands fired
+  Rule = KeepsRule stands fired
 
   pub counts : (callers slots id : ℕ) (me : Sat V) → Allows (Rule callers) slots id me 0 (λ n. n) (LoadsCount (step slots 0 0 0 none) me)
   counts callers slots id me s r _ at _ =
@@ -65,7 +65,7 @@ module _ {V : Type 0} (stands : List (ℕ × V) → V → Type 0) (fired : List 
         (
           refl,
           (λ i l os has. let sh = (subst (λ o. HoldsAll stands fired r.now id me.0.number me.0.seen o) has f.shows.0).0 in (
-            subst (λ (x : ℕ × List (ℕ × V)). HasFirings fired x.0 x.1 l) (λ k. (sym is k, sym sh.whole k)) sh.covers.0,
+            subst (λ (x : ℕ × List (ℕ × V)). HasFirstFirings fired x.0 x.1 l) (λ k. (sym is k, sym sh.whole k)) sh.covers.0,
             either_way sh.whole,
             (λ idle last. dite (dec_le 2 r.now.stage)
                 (λ late.
@@ -83,17 +83,17 @@ module _ {V : Type 0} (stands : List (ℕ × V) → V → Type 0) (fired : List 
 
   pub sees : (m0 m1 m2 m3 m4 : Sat V) (h : List (ℕ × V)) (i : ℕ) (l : Log) (n d : ℕ) (st st' : Step (Option (V × Log))) → IsPrefix m0.0.seen h → (0 < m0.0.stage → h ≡ m0.0.seen)
       → m1.0 ≡ record m0.0 { seen = h; outs = (i, l) ∷ m0.0.outs } → LoadsCount st m1 n m2 → LoadsDone fired st' m2 d m3 → m4.0 ≡ record m3.0 { outs = drop 1 m3.0.outs }
-      → Sees m0.0 m4.0 n d × HasFirings fired d m4.0.seen l
+      → Sees m0.0 m4.0 n d × HasFirstFirings fired d m4.0.seen l
   sees m0 m1 m2 m3 m4 h i l n d st st' pre whole q1 c o q4 =
       let x2 : View V = record m0.0 { seen = h; counts = m0.0.counts ++ n ∷ []; outs = (i, l) ∷ m0.0.outs } in
       let x4 : View V = record x2 { outs = m0.0.outs } in
       let q2 : m2.0 ≡ x2 = ap (λ m. m.0) c.0 ∙ ap (λ (v : View V). record v { counts = v.counts ++ n ∷ [] }) q1 in
       let e4 : m4.0 ≡ x4 = q4 ∙ ap (λ (v : View V). record v { outs = drop 1 v.outs }) (ap (λ m. m.0) o.0 ∙ q2) in
       let len : n + 1 ≡ length h = subst (λ (v : View V). 0 < length v.outs → n + 1 ≡ length v.seen) q1 c.1 (omega arith) in
-      let o' = subst (λ (v : View V). ((i : ℕ) (l : Log) (os : Outs) → v.outs ≡ (i, l) ∷ os → HasFirings fired d v.seen l × ((d + 1 ≡ length v.seen) ⊎ (d + 2 ≡ length v.seen))
+      let o' = subst (λ (v : View V). ((i : ℕ) (l : Log) (os : Outs) → v.outs ≡ (i, l) ∷ os → HasFirstFirings fired d v.seen l × ((d + 1 ≡ length v.seen) ⊎ (d + 2 ≡ length v.seen))
       × (v.stage ≡ 0 → IsLastOf v.number v.seen → d + 1 ≡ length v.seen)) × (v.stage ≡ 1 → d + 1 ≡ length v.seen)) q2 (o.1, o.2) in
       let f = o'.0 i l m0.0.outs refl in
-      subst (λ (v : View V). Sees m0.0 v n d × HasFirings fired d v.seen l) (sym e4) (
+      subst (λ (v : View V). Sees m0.0 v n d × HasFirstFirings fired d v.seen l) (sym e4) (
         record {
           longer = pre;
           whole = whole;

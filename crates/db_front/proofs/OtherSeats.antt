@@ -9,7 +9,7 @@ use Rattle.atomic_table.proofs.Lists.{at_set, set_else}
 use Rattle.watch_word.specs.Logs.{Log}
 use Rattle.db_front.specs.declared.board.View.{View}
 use Rattle.db_front.specs.Steps.{IsTurn}
-use Rattle.db_front.specs.inner.Kept.{Now, Has, Reads, AreHeld, Fits, Turns, IsKept}
+use Rattle.db_front.specs.inner.FrontRule.{Now, Has, Reads, AreHeld, Fits, Turns, KeepsRule}
 use Rattle.db_front.proofs.CommitLists.{set_at}
 use Rattle.db_front.proofs.Hands.{moves, moves_here, moves_else}
 use Rattle.db_front.proofs.ShownTurns.{found}
@@ -59,9 +59,9 @@ module _ {V : Type 0} (stands : List (ℕ × V) → V → Type 0) (fired : List 
       (λ away. (h.0, ap (λ k. get_elem? (set views id w) k) by ∙ (set_else views id (n.shower j) w away ∙ h.1), h.2)))
 
   -- a step that changes its own view alone
-  pub quiet : (callers : ℕ) (s : State (Option (V × Log)) (View V)) (r : IsKept stands fired callers s) (ws : List ℕ) (id : ℕ) (v w : View V)
+  pub quiet : (callers : ℕ) (s : State (Option (V × Log)) (View V)) (r : KeepsRule stands fired callers s) (ws : List ℕ) (id : ℕ) (v w : View V)
       → ws ≡ s.words → get_elem? s.views id ≡ some v → w.stage ≡ v.stage → ((i : ℕ) → Has i v.outs → Has i w.outs) → F r.now id w
-      → IsKept stands fired callers record { words = ws; homes = s.homes; views = set s.views id w }
+      → KeepsRule stands fired callers record { words = ws; homes = s.homes; views = set s.views id w }
   quiet callers s r ws id v w same at stage keeps fits = record {
     now = r.now;
     limit = r.limit;
@@ -73,7 +73,7 @@ module _ {V : Type 0} (stands : List (ℕ × V) → V → Type 0) (fired : List 
   }
 
   -- a turn that is taken has the number of a caller
-  pub turn_named : (callers : ℕ) (s : State (Option (V × Log)) (View V)) (r : IsKept stands fired callers s) → 0 < r.now.turn → r.now.turn ≤ r.now.callers
+  pub turn_named : (callers : ℕ) (s : State (Option (V × Log)) (View V)) (r : KeepsRule stands fired callers s) → 0 < r.now.turn → r.now.turn ≤ r.now.callers
   turn_named callers s r taken =
       let h = r.turns.held taken in
       let g = r.seats r.now.writer h.1 h.2 in
@@ -82,7 +82,7 @@ module _ {V : Type 0} (stands : List (ℕ × V) → V → Type 0) (fired : List 
       omega (arith, named, few)
 
   -- a shown turn that is taken has the number of a caller
-  pub shown_named : (callers : ℕ) (s : State (Option (V × Log)) (View V)) (r : IsKept stands fired callers s) (i : ℕ) → IsTurn r.now.callers i → 0 < r.now.shown i → r.now.shown i ≤ r.now.callers
+  pub shown_named : (callers : ℕ) (s : State (Option (V × Log)) (View V)) (r : KeepsRule stands fired callers s) (i : ℕ) → IsTurn r.now.callers i → 0 < r.now.shown i → r.now.shown i ≤ r.now.callers
   shown_named callers s r i t taken =
       let h = r.holders i t taken in
       let g = r.seats (r.now.shower i) h.0 h.1 in
@@ -91,7 +91,7 @@ module _ {V : Type 0} (stands : List (ℕ × V) → V → Type 0) (fired : List 
       omega (arith, named, few)
 
   -- a turn that is taken has a number of another seat
-  pub others_turn : (callers : ℕ) (s : State (Option (V × Log)) (View V)) (r : IsKept stands fired callers s) (id : ℕ) (v : View V)
+  pub others_turn : (callers : ℕ) (s : State (Option (V × Log)) (View V)) (r : KeepsRule stands fired callers s) (id : ℕ) (v : View V)
       → get_elem? s.views id ≡ some v → v.stage ≡ 0 → 0 < v.number → 0 < r.now.turn → r.now.turn ≢ v.number
   others_turn callers s r id v at idle mine taken e =
       let h = r.turns.held taken in

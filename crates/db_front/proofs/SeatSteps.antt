@@ -8,10 +8,10 @@ use Rattle.atomic_table.specs.Table.{State, Step, Splits, Joins, opening, Final,
 use Rattle.atomic_table.proofs.Lists.{at_set, set_else, at_longer, at_map}
 use Rattle.watch_word.specs.Logs.{Log}
 use Rattle.db_front.specs.declared.board.View.{View}
-use Rattle.db_front.specs.Commits.{commits_by, AreNamed, IsHistory, HasFirings}
+use Rattle.db_front.specs.Commits.{commits_by, AreNamed, IsHistory, HasFirstFirings}
 use Rattle.db_front.specs.Passes.{Known, AreIn}
 use Rattle.db_front.specs.Steps.{Outs, Sat, LoadsCount, LoadsDone}
-use Rattle.db_front.specs.inner.Kept.{Hand, Now, log_of, Hands, Lacks, Apart, Has, size_of, Fits, IsKept, blank, start, first_view, fewer, given, handed_over, joined, Made, HasHand}
+use Rattle.db_front.specs.inner.FrontRule.{Hand, Now, log_of, Hands, Lacks, Apart, Has, size_of, Fits, KeepsRule, blank, start, first_view, fewer, given, handed_over, joined, Made, HasHand}
 use Rattle.db_front.specs.inner.Seats.{LiesTo, begun, hand_of}
 use Rattle.db_front.proofs.CommitLists.{at_end, set_length, prefix_self}
 use Rattle.db_front.proofs.Hands.{moves, merges, moves_here, merges_here, carries_moved, carries_merged, hands_lack, hands_moved, hands_merged, hands_more, hands_made, lacks_more, apart_more, dealt_lack_above, dealt_apart, dealt_hands, none_made}
@@ -29,7 +29,7 @@ map_length g (x ∷ xs) = ap suc (map_length g xs)
 
 module _ {V : Type 0} (stands : List (ℕ × V) → V → Type 0) (fired : List (ℕ × V) → Log → Type 0) where
   abbrev Rule : ℕ → State (Option (V × Log)) (View V) → Type 0
-  Rule = IsKept stands fired
+  Rule = KeepsRule stands fired
 
   abbrev F : Now V → ℕ → View V → Type 0
   F = Fits stands fired
@@ -156,7 +156,7 @@ module _ {V : Type 0} (stands : List (ℕ × V) → V → Type 0) (fired : List 
       }
 
   -- the log beside the opening value
-  at_start : (o : V) (log : Log) → fired (start o) log → HasFirings fired 0 (start o) log
+  at_start : (o : V) (log : Log) → fired (start o) log → HasFirstFirings fired 0 (start o) log
   at_start o log t zero le = t
   at_start o log t (suc k) le = absurd (omega (arith, le))
 
@@ -220,7 +220,7 @@ module _ {V : Type 0} (stands : List (ℕ × V) → V → Type 0) (fired : List 
   -- what the end tells, from the views of the last seat as it goes
   pub ended : (callers : ℕ) (st st' : Step (Option (V × Log))) (m1 m2 m3 m4 m5 : Sat V) (h h' : List (ℕ × V)) (ts : List ℕ) (i : ℕ) (l : Log) (n d : ℕ)
       → 0 < m1.0.number → IsPrefix m1.0.seen h → m2.0 ≡ begun m1.0 h ts → (0 < m2.0.stage → h' ≡ m2.0.seen) → m3.0 ≡ record m2.0 { seen = h'; outs = (i, l) ∷ m2.0.outs } → LoadsCount st m3 n m4 → LoadsDone fired st' m4 d m5
-      → IsHistory callers m5.0.seen × HasHand m5.0.seen m5.0 → IsHistory callers h' × (n + 1 ≡ length h') × (d ≡ n) × HasHand h' m1.0 × (n ≤ 2 ^ 63) × HasFirings fired d h' l
+      → IsHistory callers m5.0.seen × HasHand m5.0.seen m5.0 → IsHistory callers h' × (n + 1 ≡ length h') × (d ≡ n) × HasHand h' m1.0 × (n ≤ 2 ^ 63) × HasFirstFirings fired d h' l
   ended callers st st' m1 m2 m3 m4 m5 h h' ts i l n d named pre e2 whole e3 c o fin =
       let x3 : View V = record m1.0 { seen = h'; tries = ts; stage = 1; outs = (i, l) ∷ m1.0.outs } in
       let x4 : View V = record x3 { counts = m1.0.counts ++ n ∷ [] } in
@@ -236,7 +236,7 @@ module _ {V : Type 0} (stands : List (ℕ × V) → V → Type 0) (fired : List 
         omega (arith, len, fin_len),
         (k.1.0, subst (λ z. IsPrefix m1.0.seen z) (sym same) pre, k.1.2),
         c.3,
-        (subst (λ (u : View V). (j : ℕ) (k : Log) (os : Outs) → u.outs ≡ (j, k) ∷ os → HasFirings fired d u.seen k) q4 (λ j k os has. (o.1 j k os has).0)) i l m1.0.outs refl,
+        (subst (λ (u : View V). (j : ℕ) (k : Log) (os : Outs) → u.outs ≡ (j, k) ∷ os → HasFirstFirings fired d u.seen k) q4 (λ j k os has. (o.1 j k os has).0)) i l m1.0.outs refl,
       )
 
 module _ {V : Type 0} where

@@ -9,8 +9,12 @@ use lib.ListN.{get_elem?}
 use Rattle.atomic_table.proofs.Lists.{set_here, set_else}
 use Rattle.watch_word.specs.Logs.{Log}
 use Rattle.db_front.specs.Steps.{IsTurn, Outs}
-use Rattle.db_front.specs.inner.Kept.{Now, log_of, size_of, Without, Has, Reads, Covers, Holds, HoldsAll, Lies}
+use Rattle.db_front.specs.inner.FrontRule.{Now, log_of, size_of, Without, Has, Reads, Covers, Holds, HoldsAll, Lies}
 use Rattle.db_front.proofs.Hands.{moves, moves_here, moves_else}
+
+-- all shown turns are among these
+abbrev pub HasAll : ℕ → Outs → Type 0
+HasAll callers outs = (i : ℕ) → IsTurn callers i → Has i outs
 
 -- a shown turn stands behind the other words, and among them
 pub turn_fits : (k i : ℕ) → IsTurn k i → (16 ≤ i) × (i < size_of k)

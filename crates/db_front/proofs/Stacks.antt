@@ -4,7 +4,7 @@ use Rattle.atomic_table.specs.Table.{rest}
 use Rattle.watch_word.specs.Logs.{Log}
 use Rattle.db_front.specs.declared.board.View.{View}
 use Rattle.db_front.specs.Steps.{IsTurn, turn_of, Sat}
-use Rattle.db_front.specs.inner.Kept.{HasAll}
+use Rattle.db_front.proofs.ShownTurns.{HasAll}
 use Rattle.db_front.specs.inner.Seats.{Spot, Stack, IsStack, outs_of, slots_of, HoldsTo, AtSlot, TookShown, Entered}
 use Rattle.db_front.proofs.WholeSeats.{handed, headed, topmost, stack_has}
 

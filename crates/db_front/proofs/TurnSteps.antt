@@ -4,19 +4,20 @@ use mathlib.Core.Option.{none}
 use prog.Atomic.{either}
 use Rattle.atomic_table.specs.Table.{State, step, Act, keeps, takes, gives, homes_after, carried_after, Valid, Allows, put_back}
 use Rattle.watch_word.specs.Logs.{Log}
+use Rattle.watch_word.proofs.Steps.{missed}
 use Rattle.db_front.specs.declared.board.View.{View}
 use Rattle.std.proofs.lemmas.List.{set-get_or}
 use Rattle.db_front.specs.Steps.{IsTurn, Outs, Sat, TriesWriter, TriesShown}
-use Rattle.db_front.specs.inner.Kept.{Now, log_of, Carries, Fits, Differ, HoldsAll, Lies, IsKept}
+use Rattle.db_front.specs.inner.FrontRule.{Now, log_of, Carries, Fits, Differ, HoldsAll, Lies, KeepsRule}
 use Rattle.db_front.proofs.Hands.{moves, moves_here}
 use Rattle.db_front.proofs.ShownTurns.{reads_turn, reads_shown, holds_each, holds_rest, free_without, holds_moved, other_turn, lies_taken, lies_given, has_left}
 use Rattle.db_front.specs.inner.Plays.{left, laid}
-use Rattle.db_front.proofs.CommitLists.{set_at, prefix_self, missed}
+use Rattle.db_front.proofs.CommitLists.{set_at, prefix_self}
 use Rattle.db_front.proofs.OtherSeats.{seats_set, turns_set, held_set, held_moved, quiet, turn_named, shown_named, others_turn}
 
 module _ {V : Type 0} (stands : List (ℕ × V) → V → Type 0) (fired : List (ℕ × V) → Log → Type 0) where
   abbrev Rule : ℕ → State (Option (V × Log)) (View V) → Type 0
-  Rule = IsKept stands fired
+  Rule = KeepsRule stands fired
 
   abbrev F : Now V → ℕ → View V → Type 0
   F = Fits stands fired

@@ -8,13 +8,13 @@ use mathlib.Core.List.{IsPrefix}
 use Rattle.atomic_table.specs.Table.{State, Step, step, Allows, rest}
 use Rattle.watch_word.specs.Logs.{Log}
 use Rattle.db_front.specs.declared.board.View.{View}
-use Rattle.db_front.specs.Commits.{HasFirings}
+use Rattle.db_front.specs.Commits.{HasFirstFirings}
 use Rattle.db_front.specs.Steps.{Outs, IsTurn, turn_of, Sat, TriesWriter}
-use Rattle.db_front.specs.inner.Kept.{Has, HasAll, size_of, IsKept}
+use Rattle.db_front.specs.inner.FrontRule.{Has, size_of, KeepsRule}
 use Rattle.db_front.specs.inner.Plays.{laid, committed}
 use Rattle.db_front.specs.inner.Seats.{Spot, IsAt, IsOf, begun, Stack, IsStack, outs_of}
 use Rattle.atomic_table.specs.Seated.{TableId}
-use Rattle.db_front.proofs.ShownTurns.{turn_fits}
+use Rattle.db_front.proofs.ShownTurns.{turn_fits, HasAll}
 use Rattle.db_front.proofs.TurnSteps.{lays_back}
 use Rattle.db_front.proofs.CommitSteps.{commits, lays_new}
 
@@ -25,7 +25,7 @@ hand_or d ((k, Some x) ∷ r) = x
 
 module _ {V : Type 0} (stands : List (ℕ × V) → V → Type 0) (fired : List (ℕ × V) → Log → Type 0) where
   abbrev Rule : ℕ → State (Option (V × Log)) (View V) → Type 0
-  Rule = IsKept stands fired
+  Rule = KeepsRule stands fired
 
   pub handed : (m1 m2 : Sat V) (v : View V) (i : ℕ) (x : V) (l l' : Log) (cs : List (ℕ × Option (V × Log))) → m1 ≡ (v, (i, None) ∷ cs) → l' ≡ l → m2 ≡ (m1.0, (i, Some (x, l')) ∷ rest m1.1) → m2 ≡ (v, (i, Some (x, l)) ∷ cs)
   handed m1 m2 v i x l l' cs is same now = now ∙ (ap (λ (m : Sat V). (m.0, (i, Some (x, l')) ∷ rest m.1)) is ∙ ap (λ (k : Log). (v, (i, Some (x, k)) ∷ cs)) same)
@@ -55,7 +55,7 @@ module _ {V : Type 0} (stands : List (ℕ × V) → V → Type 0) (fired : List 
       (lays_back stands fired callers slots id (v, (i, Some c) ∷ cs) i c os cs outs refl good)
 
   pub lays_new_at : (callers slots id : ℕ) (me : Sat V) (v : View V) (i : ℕ) (c : V × Log) (l : Log) (os : Outs) (cs : List (ℕ × Option (V × Log))) → me ≡ (v, (i, Some c) ∷ cs) → v.outs ≡ (i, l) ∷ os → 2 ≤ v.stage → i ≡ 8 * v.stage
-      → stands v.seen c.0 → HasFirings fired (length v.seen - 1) v.seen c.1
+      → stands v.seen c.0 → HasFirstFirings fired (length v.seen - 1) v.seen c.1
       → Allows (Rule callers) slots id me i (λ _. 0) (λ _. laid (me.0.stage + 1) (step slots i 0 0 none) me 0)
   lays_new_at callers slots id me v i c l os cs is outs published next good told =
       subst (λ (m : Sat V). Allows (Rule callers) slots id m i (λ _. 0) (λ _. laid (m.0.stage + 1) (step slots i 0 0 none) m 0)) (sym is)

@@ -24,5 +24,5 @@ module _ {V : Type 0} where
 
 -- the log is right for the opening value, and has what each of the first n commits fires
 module _ {V : Type 0} (fired : List (ℕ × V) → Log → Type 0) where
-  abbrev pub HasFirings : ℕ → List (ℕ × V) → Log → Type 0
-  HasFirings n h log = (k : ℕ) → k ≤ n → fired (take (suc k) h) log
+  abbrev pub HasFirstFirings : ℕ → List (ℕ × V) → Log → Type 0
+  HasFirstFirings n h log = (k : ℕ) → k ≤ n → fired (take (suc k) h) log

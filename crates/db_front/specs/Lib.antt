@@ -1,4 +1,5 @@
 pub mod AnyPass
+pub mod Codes
 pub mod Commits
 pub mod Passes
 pub mod Steps

@@ -25,7 +25,7 @@ pub record Known (V : Type 0) : Type 0 where
   pub log : Log
 
 -- a list of passes, and how many it has room for
-pub record Held (V : Type 0) : Type 0 where
+pub record PassList (V : Type 0) : Type 0 where
   pub room : ℕ
   pub passes : List (Known V)
 

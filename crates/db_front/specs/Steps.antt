@@ -6,7 +6,7 @@ use mathlib.Core.List.{IsPrefix}
 use Rattle.atomic_table.specs.Table.{Me, Step}
 use Rattle.watch_word.specs.Logs.{Log}
 use Rattle.db_front.specs.declared.board.View.{View}
-use Rattle.db_front.specs.Commits.{HasFirings, IsLastOf}
+use Rattle.db_front.specs.Commits.{HasFirstFirings, IsLastOf}
 
 -- COUNT: how many commits there are
 abbrev pub count_word : ℕ
@@ -66,7 +66,7 @@ module _ {V : Type 0} where
 abbrev pub LoadsDone : {V : Type 0} → (List (ℕ × V) → Log → Type 0) → At V → Sat V → ℕ → Sat V → Type 0
 LoadsDone fired st m e m' =
     (m' ≡ m)
-    × ((i : ℕ) (l : Log) (os : Outs) → m.0.outs ≡ (i, l) ∷ os → HasFirings fired e m.0.seen l
+    × ((i : ℕ) (l : Log) (os : Outs) → m.0.outs ≡ (i, l) ∷ os → HasFirstFirings fired e m.0.seen l
     × ((e + 1 ≡ length m.0.seen) ⊎ (e + 2 ≡ length m.0.seen))
     × (m.0.stage ≡ 0 → IsLastOf m.0.number m.0.seen → e + 1 ≡ length m.0.seen))
     × (m.0.stage ≡ 1 → e + 1 ≡ length m.0.seen)

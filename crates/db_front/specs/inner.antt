@@ -1,5 +1,4 @@
 pub mod Copies
-pub mod Kept
+pub mod FrontRule
 pub mod Plays
 pub mod Seats
-pub mod Stored

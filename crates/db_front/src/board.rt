@@ -1,10 +1,10 @@
 //! The table that the callers share: words, and for each caller a slot with the current value and its
 //! log. A turn word is 0, or the number of the caller that has the turn. The words that different
 //! callers use lie eight apart, and so do the slots. The rule of the table is in
-//! `specs/inner/Kept.antt`.
+//! `specs/inner/FrontRule.antt`.
 ghost use Rattle.std.specs.Prelude.{◌≡◌, ◌≤◌};
 ghost use Rattle.db_front.specs.Steps;
-ghost use Rattle.db_front.specs.inner.Kept;
+ghost use Rattle.db_front.specs.inner.FrontRule;
 
 use crate::card::Card;
 use crate::version::Version;
@@ -36,7 +36,7 @@ pub(crate) fn turn_of(number: u64) -> usize
 /// How many words a table for so many callers has, and how many places for slots.
 pub(crate) fn size_of(callers: u64) -> usize
     requires { callers ≤ 64 }
-    ensures { result ≡ Kept.size_of callers }
+    ensures { result ≡ FrontRule.size_of callers }
 {
     16 + 8 * callers as usize
 }
@@ -86,9 +86,9 @@ pub(crate) struct Law<V> {
 }
 
 impl<V: Version> TableRule<Option<Card<V>>, View<V>, Opening<V>> for Law<V> {
-    ghost use Rattle.db_front.specs.inner.Kept.{IsKept, first_view};
+    ghost use Rattle.db_front.specs.inner.FrontRule.{KeepsRule, first_view};
 
-    ghost holds = { λ key. IsKept V.stands V.fired key.1 };
+    ghost holds = { λ key. KeepsRule V.stands V.fired key.1 };
 
     ghost first = { first_view };
 }

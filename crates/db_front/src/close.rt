@@ -1,9 +1,9 @@
 //! The end of the front.
 ghost use Rattle.std.specs.Prelude.{◌≡◌, ℕ, ◌+◌, ◌^◌, ◌<◌, ◌≤◌, List, [], ◌∷◌, ◌++◌, length, map};
 ghost use Rattle.std.specs.Arc.{arc_value};
-ghost use Rattle.db_front.specs.Commits.{HasFirings, IsHistory};
+ghost use Rattle.db_front.specs.Commits.{HasFirstFirings, IsHistory};
 ghost use Rattle.db_front.specs.Passes.{AreAll, AreIdle, AreIn, AreMade};
-ghost use Rattle.db_front.specs.inner.Kept.{HasHand};
+ghost use Rattle.db_front.specs.inner.FrontRule.{HasHand};
 ghost use Rattle.db_front.specs.inner.Seats.{IsAt, IsFree, IsSame, hand_of};
 
 use crate::board::{Board, BoardTable, COUNT, DONE, Place, turn_of};
@@ -81,7 +81,7 @@ fn settle<V: Version, R: Wait>(
     ensures { (h : List (ℕ × V)) × IsHistory table.shared.key.1 h × HasHand h place.me.0
         × (result.number + 1 ≡ length h) × (result.finished ≡ result.number)
         × (result.number ≤ 2 ^ 63) × V.stands h (arc_value result.value)
-        × HasFirings V.fired result.finished h result.log }
+        × HasFirstFirings V.fired result.finished h result.log }
 {
     take_turn(rt, &table.shared, sleepers, &mut place, number);
     let turn = turn_of(number);
@@ -103,7 +103,7 @@ impl<V: Version> Shared<V> {
         ensures { (h : List (ℕ × V)) × IsHistory self.callers h × AreIn h passes.passes
             × (result.number + 1 ≡ length h) × (result.finished ≡ result.number)
             × (result.number ≤ 2 ^ 63) × V.stands h (arc_value result.value)
-            × HasFirings V.fired result.finished h result.log
+            × HasFirstFirings V.fired result.finished h result.log
             × AreMade self.callers h passes.passes }
     {
         let Shared {

@@ -4,7 +4,7 @@ ghost use Rattle.std.specs.Prelude.{IfSome, IfNone};
 ghost use Rattle.std.specs.Arc.{arc_value};
 ghost use Rattle.atomic_table.specs.Table.{rest as other_slots};
 ghost use Rattle.watch_word.specs.Logs.{Log};
-ghost use Rattle.db_front.specs.Commits.{HasFirings};
+ghost use Rattle.db_front.specs.Commits.{HasFirstFirings};
 ghost use Rattle.db_front.specs.Steps.{IsTurn};
 ghost use Rattle.db_front.specs.inner.Copies.{AreCopies};
 ghost use Rattle.db_front.specs.inner.Seats.{IsAt, IsFree, IsSame, HoldsTo, committing};
@@ -182,7 +182,7 @@ fn renew<V: Version, R: Wait>(
     requires table { IsAt board.now.table_id board.now.key.1 place.old }
     requires free { IsFree place.old number × (2 ≤ place.old.me.0.stage) }
     requires turn { IsTurn board.now.key.1 turn × (turn ≡ 8 * place.old.me.0.stage) }
-    requires log { HasFirings V.fired (length place.old.me.0.seen - 1) place.old.me.0.seen log }
+    requires log { HasFirstFirings V.fired (length place.old.me.0.seen - 1) place.old.me.0.seen log }
     ensures seat { IsSame place.old place.new }
     ensures renewed { place.new.me
         ≡ (record place.old.me.0 { stage = place.old.me.0.stage + 1 }, []) }
@@ -208,7 +208,7 @@ fn renew_all<V: Version, R: Wait>(
     requires table { IsAt board.now.table_id board.now.key.1 place.old }
     requires free { IsFree place.old number × (place.old.me.0.stage ≡ 2) }
     requires callers { callers ≡ board.now.key.1 }
-    requires log { HasFirings V.fired (length place.old.me.0.seen - 1) place.old.me.0.seen log.now }
+    requires log { HasFirstFirings V.fired (length place.old.me.0.seen - 1) place.old.me.0.seen log.now }
     ensures seat { IsSame place.old place.new }
     ensures renewed { place.new.me ≡ (record place.old.me.0 { stage = callers + 2 }, []) }
 {
@@ -240,7 +240,7 @@ pub(crate) fn end<V: Version, R: Wait>(
     requires free { IsFree place.old number × (place.old.me.0.stage ≡ 2) }
     requires callers { callers ≡ board.now.key.1 }
     requires count { count + 1 ≡ length place.old.me.0.seen }
-    requires log { HasFirings V.fired (length place.old.me.0.seen - 1) place.old.me.0.seen log }
+    requires log { HasFirstFirings V.fired (length place.old.me.0.seen - 1) place.old.me.0.seen log }
     ensures seat { IsSame place.old place.new }
     ensures ended { place.new.me ≡ (record place.old.me.0 { stage = 0 }, []) }
 {

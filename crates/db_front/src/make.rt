@@ -4,8 +4,8 @@ ghost use Rattle.std.specs.Prelude.{replicate};
 ghost use Rattle.std.specs.Arc.{arc_value};
 ghost use Rattle.watch_word.specs.Logs.{Log};
 ghost use Rattle.db_front.specs.Passes.{fresh, all_fresh, AreAll, AreIdle};
-ghost use Rattle.db_front.specs.inner.Kept;
-ghost use Rattle.db_front.specs.inner.Kept.{start, dealing};
+ghost use Rattle.db_front.specs.inner.FrontRule;
+ghost use Rattle.db_front.specs.inner.FrontRule.{start, dealing};
 ghost use Rattle.db_front.specs.inner.Seats.{IsSized, IsAt, LiesTo};
 
 use crate::board::{Board, BoardTable, Opening, Place, size_of, turn_of};
@@ -121,7 +121,7 @@ fn slots_of<V: Version>(
     callers: u64,
 ) -> Result<Vec<Option<Card<V>>>, AllocError>
     requires { callers ≤ 64 }
-    ensures size { IfOk result (λ slots. length slots.items ≡ Kept.size_of callers) }
+    ensures size { IfOk result (λ slots. length slots.items ≡ FrontRule.size_of callers) }
     ensures laid { IfOk result (λ slots. LiesTo callers card.now slots.items) }
 {
     let mut slots = places(alloc, size_of(callers))?;
@@ -134,7 +134,7 @@ fn slots_of<V: Version>(
 /// Words for so many callers, all 0.
 fn words_of(alloc: Global, callers: u64) -> Result<Vec<u64>, AllocError>
     requires { callers ≤ 64 }
-    ensures { IfOk result (λ words. words.items ≡ replicate (Kept.size_of callers) 0) }
+    ensures { IfOk result (λ words. words.items ≡ replicate (FrontRule.size_of callers) 0) }
 {
     Ok(vec![in alloc; 0; size_of(callers)]?)
 }
@@ -148,8 +148,8 @@ fn table_of<V: Version>(
 ) -> Result<(BoardTable<V>, Place<V>), AllocError>
     requires callers { (0 < opening.1) × (opening.1 ≤ 64) }
     requires stands { V.stands (start opening.0) opening.0 }
-    requires words { words.now ≡ replicate (Kept.size_of opening.1) 0 }
-    requires size { length slots.items ≡ Kept.size_of opening.1 }
+    requires words { words.now ≡ replicate (FrontRule.size_of opening.1) 0 }
+    requires size { length slots.items ≡ FrontRule.size_of opening.1 }
     requires laid { (log : Log) × LiesTo opening.1 (opening.0, log) slots.items
         × V.fired (start opening.0) log }
     ensures sized { IfOk result (λ t. IsSized t.0.shared.table_id t.0.shared.key.1) }

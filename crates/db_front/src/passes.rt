@@ -15,9 +15,9 @@ pub struct Passes<V: Drop> {
 
 impl<V: Drop> Model for Passes<V> {
     ghost use Rattle.std.specs.VecDeque.{deque_capacity};
-    ghost use Rattle.db_front.specs.Passes.{Held};
+    ghost use Rattle.db_front.specs.Passes.{PassList};
 
-    ghost Value = { Held V };
+    ghost Value = { PassList V };
 
     ghost view = { λ p. record { room = deque_capacity p.list; passes = p.list.items } };
 }

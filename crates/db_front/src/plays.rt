@@ -90,7 +90,7 @@ impl<V: Drop> Play<Option<Card<V>>, View<V>> for Finish {
 pub(crate) struct Hand;
 
 impl<V> Split<View<V>> for Hand {
-    ghost use Rattle.db_front.specs.inner.Kept.{fewer, handed_over};
+    ghost use Rattle.db_front.specs.inner.FrontRule.{fewer, handed_over};
 
     ghost left = { fewer };
 
@@ -99,7 +99,7 @@ impl<V> Split<View<V>> for Hand {
 
 impl<V> Join<View<V>> for Hand {
     ghost use Rattle.std.specs.Prelude.{[]};
-    ghost use Rattle.db_front.specs.inner.Kept.{joined, blank};
+    ghost use Rattle.db_front.specs.inner.FrontRule.{joined, blank};
 
     ghost both = { joined };
 

@@ -2,7 +2,7 @@
 ghost use Rattle.std.specs.Prelude.{IfOk, ◌≡◌, ◌+◌, ◌-◌, ◌<◌, ◌≤◌, ◌^◌, [], ◌∷◌, ◌++◌};
 ghost use Rattle.std.specs.Prelude.{length};
 ghost use Rattle.std.specs.Arc.{arc_value};
-ghost use Rattle.db_front.specs.Commits.{HasFirings};
+ghost use Rattle.db_front.specs.Commits.{HasFirstFirings};
 ghost use Rattle.db_front.specs.Passes.{HasBegun, HasLooked, HasTried, HasTurned, HasTurnIfOk};
 ghost use Rattle.db_front.specs.Passes.{IfBegun, IsFinished, IsNumber, MayBegin, TellsFinished};
 
@@ -58,7 +58,7 @@ impl<V: Version> Shared<V> {
         ensures value { IfOk result (λ s. V.stands pass.new.seen (arc_value s.value)) }
         ensures number { IfOk result (λ s. IsNumber pass.old pass.new s.number) }
         ensures finished { IfOk result (λ s. TellsFinished pass.old pass.new s.number s.finished) }
-        ensures log { IfOk result (λ s. HasFirings V.fired s.finished pass.new.seen s.log) }
+        ensures log { IfOk result (λ s. HasFirstFirings V.fired s.finished pass.new.seen s.log) }
     {
         let board = &self.table.shared;
         let sleepers = &self.sleepers;
@@ -79,7 +79,7 @@ impl<V: Version> Shared<V> {
         ensures stood { (v : V) × V.stands pass.new.seen v }
         ensures value { IfOk result (λ s. V.stands pass.new.seen (arc_value s.value)) }
         ensures number { IfOk result (λ s. IsFinished pass.old pass.new s.number s.finished) }
-        ensures log { IfOk result (λ s. HasFirings V.fired s.number pass.new.seen s.log) }
+        ensures log { IfOk result (λ s. HasFirstFirings V.fired s.number pass.new.seen s.log) }
         ensures turn { HasTurnIfOk result pass.new }
     {
         let board = &self.table.shared;
@@ -104,7 +104,7 @@ impl<V: Version> Shared<V> {
         ensures pass { HasTurned pass.old pass.new }
         ensures value { IfBegun result (λ s. V.stands pass.new.seen (arc_value s.value)) }
         ensures number { IfBegun result (λ s. IsFinished pass.old pass.new s.number s.finished) }
-        ensures log { IfBegun result (λ s. HasFirings V.fired s.number pass.new.seen s.log) }
+        ensures log { IfBegun result (λ s. HasFirstFirings V.fired s.number pass.new.seen s.log) }
         ensures turn { HasTried V.stands self.now.callers result pass.old pass.new }
     {
         let board = &self.table.shared;
@@ -165,7 +165,7 @@ impl<V: Version> Shared<V> {
     pub fn finish<R: Wait>(&self, rt: &R, pass: &mut Pass<V>, log: Front, wake: bool)
         requires own { pass.old.table ≡ self.now.table }
         requires published { pass.old.stage ≡ 2 }
-        requires log { HasFirings V.fired (length pass.old.seen - 1) pass.old.seen log }
+        requires log { HasFirstFirings V.fired (length pass.old.seen - 1) pass.old.seen log }
         ensures { pass.new ≡ record pass.old { stage = 0 } }
     {
         let board = &self.table.shared;

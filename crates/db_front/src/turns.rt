@@ -1,7 +1,7 @@
 //! Turns: taken, given back, and what is seen while one is held.
 ghost use Rattle.std.specs.Prelude.{IfOk, OnOk, OnErr, ◌≢◌, ◌≡◌, ◌+◌, ◌<◌, ◌≤◌, [], ◌∷◌, ◌++◌, drop};
 ghost use Rattle.std.specs.Prelude.{None};
-ghost use Rattle.db_front.specs.Commits.{HasFirings};
+ghost use Rattle.db_front.specs.Commits.{HasFirstFirings};
 ghost use Rattle.atomic_table.specs.Table.{rest as other_slots};
 ghost use Rattle.db_front.specs.Steps.{IsTurn};
 ghost use Rattle.db_front.specs.inner.Seats.{IsAt, IsOf, IsFree, IsSame, Entered, Began, Sees};
@@ -235,7 +235,7 @@ pub(crate) fn see<V: Version, R: Wait>(
     ensures sees { Sees place.old.me.0 place.new.me.0 result.0 result.1 }
     ensures stood { (v : V) × V.stands place.new.me.0.seen v }
     ensures value { IfOk result.2 (λ c. V.stands place.new.me.0.seen c.0) }
-    ensures log { IfOk result.2 (λ c. HasFirings V.fired result.1 place.new.me.0.seen c.1) }
+    ensures log { IfOk result.2 (λ c. HasFirstFirings V.fired result.1 place.new.me.0.seen c.1) }
 {
     let turn = turn_of(number);
     let card = enter(rt, board, sleepers, place, number, turn);
@@ -261,7 +261,7 @@ pub(crate) fn see_begun<V: Version, R: Wait>(
     ensures view { SeesBegun place.old place.new result.0 }
     ensures stood { (v : V) × V.stands place.old.me.0.seen v }
     ensures value { IfOk result.1 (λ c. V.stands place.old.me.0.seen c.0) }
-    ensures log { IfOk result.1 (λ c. HasFirings V.fired result.0 place.old.me.0.seen c.1) }
+    ensures log { IfOk result.1 (λ c. HasFirstFirings V.fired result.0 place.old.me.0.seen c.1) }
     ensures held { OnOk result.1 (place.new.me.0.stage ≡ 1) }
     ensures memory { OnErr result.1 (place.new.me.0.stage ≡ 0) }
 {

@@ -9,7 +9,7 @@ ghost use Rattle.std.specs.Prelude.{◌≡◌, ◌<◌, [], IfErr, IfOk, None, l
 ghost use Rattle.mem_txn.specs.CallerOf.{IsCaller};
 ghost use Rattle.mem_txn.specs.Checked.{IsHeldBy};
 ghost use Rattle.mem_txn.specs.Database.{Caller, reading_of};
-ghost use Rattle.mem_txn.specs.Transactions.{changes_of};
+ghost use Rattle.mem_txn.specs.Transactions.{txn_of};
 ghost use Rattle.watch_future.specs.Futures.{CanBePolled, MayGive, Waits};
 ghost use Rattle.watch_future.specs.Polls.{CanPoll};
 ghost use Rattle.watch_set.specs.Members.{AreHeldBy, watches_of};
@@ -270,7 +270,7 @@ fn insert<R: Wait>(
 
 /// The row, in a transaction. It borrows the transaction, and may use `?`.
 fn insert_row(alloc: Global, txn: &mut WriteTxn<u8>, text: &str) -> Result<(), AllocError>
-    ensures { (changes_of txn.new).caller ≡ (changes_of txn.old).caller }
+    ensures { (txn_of txn.new).caller ≡ (txn_of txn.old).caller }
 {
     let service = row_of(alloc, text)?;
     match txn.insert("services", &service) {
@@ -281,7 +281,7 @@ fn insert_row(alloc: Global, txn: &mut WriteTxn<u8>, text: &str) -> Result<(), A
 
 /// Commits a transaction.
 fn commit<R: Wait>(rt: &R, db: &Db, txn: WriteTxn<u8>) -> (Pass, Result<(), AllocError>)
-    requires own { IsCaller db.now 2 (changes_of txn).caller }
+    requires own { IsCaller db.now 2 (txn_of txn).caller }
     ensures { IsCaller db.now 2 result.0 }
 {
     match txn.commit(rt, db) {

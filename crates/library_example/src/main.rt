@@ -9,7 +9,7 @@ ghost use Rattle.std.specs.Prelude.{◌≡◌, [], IfOk, Some};
 ghost use Rattle.mem_txn.specs.Checked.{IsHeldBy};
 ghost use Rattle.mem_txn.specs.Database.{Caller, IsOf, reading_of};
 ghost use Rattle.mem_txn.specs.CallerOf.{IsCaller};
-ghost use Rattle.mem_txn.specs.Transactions.{changes_of};
+ghost use Rattle.mem_txn.specs.Transactions.{txn_of};
 ghost use Rattle.watch_set.specs.Members.{AreHeldBy, watches_of};
 
 use mdb_datum::{Datum, Items, Row, Text, read_doc};
@@ -201,7 +201,7 @@ fn insert<R: Wait>(
 
 /// The row, in a transaction. It borrows the transaction, and may use `?`.
 fn insert_row(alloc: Global, txn: &mut WriteTxn<u8>, text: &str) -> Result<(), AllocError>
-    ensures { (changes_of txn.new).caller ≡ (changes_of txn.old).caller }
+    ensures { (txn_of txn.new).caller ≡ (txn_of txn.old).caller }
 {
     let book = row_of(alloc, text)?;
     match txn.insert("books", &book) {
@@ -212,8 +212,8 @@ fn insert_row(alloc: Global, txn: &mut WriteTxn<u8>, text: &str) -> Result<(), A
 
 /// Commits a transaction. Its receipt has the number of the commit.
 fn commit<R: Wait>(rt: &R, db: &Db, txn: WriteTxn<u8>) -> (Pass, Result<(), AllocError>)
-    requires own { let caller = (changes_of txn).caller in IsOf db.now caller }
-    ensures { let caller = (changes_of txn).caller in IsCaller db.now caller.number result.0 }
+    requires own { let caller = (txn_of txn).caller in IsOf db.now caller }
+    ensures { let caller = (txn_of txn).caller in IsCaller db.now caller.number result.0 }
 {
     match txn.commit(rt, db) {
         Ok(Committed { pass, receipt: _ }) => (pass, Ok(())),

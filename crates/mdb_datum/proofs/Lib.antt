@@ -1,6 +1,7 @@
 mod MemberSearch
 pub mod ByteOrder
 pub mod Levels
+pub mod ListPlaces
 pub mod MembersRead
 pub mod Numbers
 pub mod OnLiterals

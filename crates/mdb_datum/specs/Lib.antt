@@ -1,5 +1,6 @@
 pub mod Bytes
 pub mod Canonical
+pub mod Codes
 pub mod Datum
 pub mod Doc
 pub mod Pairs

@@ -46,7 +46,7 @@ impl Model for Items {
     ghost use Rattle.std.specs.Prelude.{List, map};
     ghost use Rattle.mdb_datum.specs.Doc.{Doc};
     ghost use Rattle.mdb_datum.specs.Canonical.{docs_nesting};
-    ghost use Rattle.mdb_datum.specs.inner.Stored.{docs_code};
+    ghost use Rattle.mdb_datum.specs.Codes.{docs_code};
 
     ghost Value = { List Doc };
 
@@ -67,7 +67,7 @@ impl Model for Members {
     ghost use Rattle.std.specs.Prelude.{map};
     ghost use Rattle.mdb_datum.specs.Canonical.{fields_nesting};
     ghost use Rattle.mdb_datum.specs.Row.{Fields, IsCanonicalRow};
-    ghost use Rattle.mdb_datum.specs.inner.Stored.{fields_code};
+    ghost use Rattle.mdb_datum.specs.Codes.{fields_code};
 
     ghost Value = { Fields };
 

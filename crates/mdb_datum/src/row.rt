@@ -21,7 +21,7 @@ pub struct Row {
 
 impl Model for Row {
     ghost use Rattle.mdb_datum.specs.Row.{Fields};
-    ghost use Rattle.mdb_datum.specs.inner.Stored.{fields_code};
+    ghost use Rattle.mdb_datum.specs.Codes.{fields_code};
 
     ghost Value = { Fields };
 

@@ -5,6 +5,16 @@ ghost use Rattle.mdb_datum.specs.Datum.{doc_of, field_of};
 
 use crate::{Datum, Items, Members, Text};
 
+impl Items {
+    /// Whether two lists have the same items in the same order. It takes no memory, and stops at the
+    /// first difference.
+    pub fn has_same_items(&self, other: &Items) -> bool
+        ensures { Decides result (self.now ≡ other.now) }
+    {
+        has_same_items(self, other)
+    }
+}
+
 /// Whether two documents are the same.
 #[cycle(same)]
 fn is_same(one: &Datum, other: &Datum) -> bool

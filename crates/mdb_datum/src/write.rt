@@ -12,7 +12,6 @@ ghost use Rattle.mdb_datum.specs.Written.{compact, row_text};
 use crate::{Datum, Items, Members};
 use json::Writer;
 use std::alloc::{AllocError, Global};
-use std::mem;
 
 /// The compact text of a document: no blanks, members in their order, and the short escapes of
 /// RFC 8259. It takes memory for the text, and time in proportion to it.
@@ -34,27 +33,23 @@ pub(crate) fn write_members(members: &Members) -> Result<Vec<u8>, AllocError>
     ensures reads_back { IfOk result (λ v.
         reading v.items ≡ read_as (object (field_list members.now))) }
 {
-    let mut out = Vec::new(*members.pairs.allocator());
-    append_members(members, &mut out)?;
-    Ok(out)
+    let mut out = Writer::new(Vec::new(*members.pairs.allocator()));
+    put_members(members, &mut out)?;
+    Ok(out.into_inner())
 }
 
 /// Adds the compact text of the object with these members at the end of `out`. After `AllocError`
 /// the bytes are as before.
+///
+/// The text is made in a buffer of its own, for the writer fills up to 16 KiB behind what stands in
+/// its buffer, which is dearer than a copy where that is long and the text is short.
 pub(crate) fn append_members(members: &Members, out: &mut Vec<u8>) -> Result<(), AllocError>
     ensures ok { OnOk result
         (out.new.items ≡ out.old.items ++ row_text members.now) }
     ensures err { OnErr result (out.new.items ≡ out.old.items) }
 {
-    let len = out.len();
-    let empty = Vec::new(*out.allocator());
-    let mut writer = Writer::new(mem::replace(out, empty));
-    let written = put_members(members, &mut writer);
-    *out = writer.into_inner();
-    if written.is_err() {
-        out.truncate(len);
-    }
-    written
+    let text = write_members(members)?;
+    out.extend_from_slice(&text)
 }
 
 /// Writes a document's tokens.

@@ -5,7 +5,7 @@ use Rattle.mdb_encode.specs.Bytes.{Bytes}
 use Rattle.mdb_encode.specs.Indexer.{Indexer, str, str_list, str_map, uint, sint, truth, uuid, is_set, equals, compound, PartList, no_parts, part}
 use Rattle.mdb_encode.specs.Arguments.{Argued, arg_or, one, text_arg, uint_arg, sint_arg, truth_arg, uuid_arg, then_with, map_arg, raw_arg, joined_arg, part_count, limited_arg}
 use Rattle.mdb_encode.specs.Keys.{longest_key}
-use Rattle.mdb_encode.specs.Answers.{AnswersKey}
+use Rattle.mdb_encode.specs.KeyAnswers.{AnswersKey}
 use Rattle.mdb_encode.specs.declared.error.ArgError.{ArgError}
 use Rattle.mdb_encode.specs.declared.error.ArgError.TheVariants.{NoPrefixForm}
 use Rattle.mdb_encode.specs.ArgRefusal.{arg_count, arg_out_of_range, arg_bad_uuid, arg_too_long, no_prefix_form}

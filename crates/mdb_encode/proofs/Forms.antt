@@ -3,6 +3,7 @@ use Rattle.std.proofs.Common.{◌≡◌, ◌++◌, ◌+◌, ◌<◌, ◌≤◌, 
 use Rattle.std.proofs.lemmas.Bool.Decides.{nat_tests}
 use Rattle.std.specs.List.{slice_get}
 use Rattle.mdb_datum.specs.Doc.{Doc}
+use Rattle.mdb_datum.proofs.ListPlaces.{drop_at}
 use Rattle.mdb_encode.specs.Bytes.{Bytes}
 use Rattle.mdb_encode.specs.Indexer.{Indexer, PartList, no_parts, part}
 use Rattle.mdb_encode.specs.Arguments.{Argued, one, raw_arg, raw_pre, joined_arg, joined_pre, then_with, part_count}
@@ -11,7 +12,6 @@ use Rattle.mdb_encode.specs.Kind.{part_list, part_indexer}
 use Rattle.mdb_encode.specs.declared.kind.part.Part.{Part}
 use Rattle.mdb_encode.specs.declared.kind.part.Part.TheVariants as of_part
 use Rattle.mdb_encode.specs.ArgRefusal.{arg_count}
-use Rattle.mdb_encode.proofs.Walk.{drop_at}
 
 joined_arg_end : (so_far : Bytes) (ps : PartList) → joined_arg so_far ps [] ≡ Ok so_far
 joined_arg_end so_far no_parts = refl

@@ -1,5 +1,5 @@
 pub mod BigEndian
-pub mod Blank
+pub mod ZeroValues
 pub mod Exact
 pub mod Forms
 pub mod HexRuns

@@ -1,18 +1,10 @@
 -- A walk over a list by place.
-use Rattle.std.proofs.Common.{◌≡◌, ℕ, zero, suc, ◌+◌, ◌<◌, List, [], ◌∷◌, length, drop, Some, Bool, ap, subst, ◌∙◌, add-one, get_or, drop-cons}
-use Rattle.std.proofs.lemmas.Option.{slice_get_within, get_or_from_slice_get}
+use Rattle.std.proofs.Common.{◌≡◌, ℕ, zero, ◌+◌, List, [], drop, Some, Bool, ap, subst, ◌∙◌}
 use Rattle.std.specs.List.{slice_get}
 use Rattle.mdb_datum.specs.Doc.{Doc, DocList, doc, doc_list, Field, FieldList, field, field_list}
+use Rattle.mdb_datum.proofs.ListPlaces.{drop_at}
 use Rattle.mdb_encode.specs.Keys.{Keyed, item_keys, pair_keys}
 use Rattle.mdb_encode.specs.inner.Texts.{followed}
-
--- what is left from a place on begins with what stands there
-pub drop_at : {X : Type 0} (xs : List X) (at : ℕ) (x : X) → slice_get xs at ≡ Some x
-    → drop at xs ≡ x ∷ drop (at + 1) xs
-drop_at xs at x there =
-    let within : at < length xs = slice_get_within xs at x there in
-    let read : get_or xs at x ≡ x = get_or_from_slice_get xs at x x there in
-    rw add-one (drop-cons xs at x within ∙ ap (λ y. y ∷ drop (suc at) xs) read)
 
 pub item_keys_at : (fold : Bool) (ds : List Doc) (at : ℕ) (d : Doc) (k : Keyed)
     → slice_get ds at ≡ Some d

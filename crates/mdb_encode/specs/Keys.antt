@@ -120,15 +120,15 @@ uuid_keys (text []) = Ok []
 uuid_keys (text (b ∷ s)) = key_or bad_uuid (parsed_hyphenated (b ∷ s))
 uuid_keys d = Err wrong_kind
 
--- the value of its type that stands for nothing
-abbrev pub is_blank : Doc → Bool
-is_blank nil = true
-is_blank (flag b) = not b
-is_blank (whole z) = int_eq z (pos 0)
-is_blank (text []) = true
-is_blank (list no_docs) = true
-is_blank (object no_fields) = true
-is_blank d = false
+-- the zero value of its type, which stands for nothing
+abbrev pub is_zero_value : Doc → Bool
+is_zero_value nil = true
+is_zero_value (flag b) = not b
+is_zero_value (whole z) = int_eq z (pos 0)
+is_zero_value (text []) = true
+is_zero_value (list no_docs) = true
+is_zero_value (object no_fields) = true
+is_zero_value d = false
 
 -- the same scalar; a list or an object is none
 abbrev pub same_scalar : Doc → Doc → Bool
@@ -156,7 +156,7 @@ abbrev mutual
   raw_keys (truth name) row = truth_keys (value_at name row)
   raw_keys (uuid name) row = uuid_keys (value_at name row)
   -- go-memdb's FieldSetIndex
-  raw_keys (is_set name) row = Ok (bool_key (not (is_blank (value_at name row))) ∷ [])
+  raw_keys (is_set name) row = Ok (bool_key (not (is_zero_value (value_at name row))) ∷ [])
   -- go-memdb's ConditionalIndex, with the condition that the member equals a scalar
   raw_keys (equals name scalar) row = Ok (bool_key (same_scalar (value_at name row) scalar) ∷ [])
   raw_keys (compound parts allow_missing) row = joined_keys allow_missing [] parts row

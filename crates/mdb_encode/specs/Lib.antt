@@ -1,8 +1,9 @@
-pub mod Answers
 pub mod ArgRefusal
 pub mod Arguments
 pub mod Bytes
+pub mod Codes
 pub mod Indexer
+pub mod KeyAnswers
 pub mod KeyRefusal
 pub mod Keys
 pub mod Kind

@@ -5,7 +5,6 @@ pub mod KeyLength
 pub mod Piece
 pub mod Refusals
 pub mod RowReading
-pub mod Stored
 pub mod Tally
 pub mod Texts
 pub mod UuidStart

@@ -1,6 +1,6 @@
 //! The keys of a question's arguments.
 ghost use Rattle.std.specs.Prelude.{◌≡◌, ◌≢◌, Err};
-ghost use Rattle.mdb_encode.specs.Answers.{AnswersKey};
+ghost use Rattle.mdb_encode.specs.KeyAnswers.{AnswersKey};
 ghost use Rattle.mdb_encode.specs.Arguments.{arg, pre, raw_arg, raw_pre, map_arg, limited_arg};
 ghost use Rattle.mdb_encode.specs.Arguments.{one, text_arg, text_pre, uuid_pre};
 ghost use Rattle.mdb_encode.specs.Kind.{indexer_of, part_indexer};

@@ -1,7 +1,7 @@
 //! The rules that a row or arguments break. What only reads answers with one of these, since it
 //! takes no memory.
 ghost use Rattle.std.specs.Prelude.{◌≡◌};
-ghost use Rattle.mdb_encode.specs.Answers.{key_error, arg_error};
+ghost use Rattle.mdb_encode.specs.KeyAnswers.{key_error, arg_error};
 ghost use Rattle.mdb_encode.specs.inner.Refusals.{key_refusal, arg_refusal};
 
 use crate::{ArgError, KeyError};

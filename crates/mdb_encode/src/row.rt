@@ -1,6 +1,6 @@
 //! The keys of a row.
 ghost use Rattle.std.specs.Prelude.{◌∷◌, [], Ok};
-ghost use Rattle.mdb_encode.specs.Answers.{AnswersKeys};
+ghost use Rattle.mdb_encode.specs.KeyAnswers.{AnswersKeys};
 ghost use Rattle.mdb_encode.specs.Keys.{keys, limited, str_list_keys, str_map_keys};
 ghost use Rattle.mdb_encode.specs.Kind.{indexer_of, part_indexer};
 ghost use Rattle.mdb_encode.specs.inner.Piece.{bytes_of};

@@ -10,7 +10,7 @@ use Rattle.mdb_encode.specs.Kind.{part_list, part_indexer, indexer_of}
 use Rattle.mdb_encode.specs.declared.kind.part.Part.{Part}
 use Rattle.mdb_schema.specs.Broken.{◌>>=◌, passed, each, Checked}
 use Rattle.mdb_schema.specs.Reading.{part_in, compound_of}
-use Rattle.mdb_schema.specs.inner.IndexerAnswer.{Answers}
+use Rattle.mdb_schema.specs.inner.IndexerAnswer.{IsIndexerResult}
 use Rattle.mdb_schema.specs.declared.error.IndexerError.{IndexerError}
 use Rattle.mdb_schema.specs.declared.error.IndexerError.TheVariants as indexer_error
 use Rattle.mdb_schema.specs.declared.schema_rule.SchemaRule.{SchemaRule}
@@ -60,6 +60,6 @@ part_refused [] m r e = cc
 part_refused (d ∷ ds) m r e = some_documents d ds m ∙ ap (joined m) e
 
 -- the refusal of a part is that of the whole
-pub refused : (ds : List Doc) (m : Bool) (e : IndexerError) → Answers (λ (parts : Vec Part Global). map part_indexer parts.items) (each part_in ds) (Err e) → Answers indexer_of (compound_of ds m) (Err e)
+pub refused : (ds : List Doc) (m : Bool) (e : IndexerError) → IsIndexerResult (λ (parts : Vec Part Global). map part_indexer parts.items) (each part_in ds) (Err e) → IsIndexerResult indexer_of (compound_of ds m) (Err e)
 refused ds m indexer_error.Memory told = tt
 refused ds m (indexer_error.Broken r) told = part_refused ds m r told

@@ -2,10 +2,10 @@
 use Rattle.std.proofs.Common.{◌≡◌, ℕ, ◌+◌, List, [], ◌∷◌, ◌++◌, drop, ap, sym, ◌∙◌, refl, append_assoc, Some}
 use Rattle.std.specs.Prelude.{Result, Ok, Err}
 use Rattle.std.specs.List.{slice_get}
-use Rattle.mdb_encode.proofs.Walk.{drop_at}
+use Rattle.mdb_datum.proofs.ListPlaces.{drop_at}
 use Rattle.mdb_schema.specs.Broken.{◌>>=◌, each, Checked, Broken}
 use Rattle.mdb_schema.specs.SchemaAnswer.{AnswersSchema}
-use Rattle.mdb_schema.specs.inner.IndexerAnswer.{Answers}
+use Rattle.mdb_schema.specs.inner.IndexerAnswer.{IsIndexerResult}
 use Rattle.mdb_schema.specs.inner.ListAnswer.{AnswersList}
 use Rattle.mdb_schema.specs.declared.error.SchemaError.{SchemaError}
 use Rattle.mdb_schema.specs.declared.error.SchemaError.TheVariants as schema_error
@@ -30,7 +30,7 @@ each_stops {A} {B} {E} f done xs at x e there found =
     ap (λ l. behind done (each f l)) (drop_at xs at x (sym there)) ∙ ap (λ (r : Result B E). behind done (r >>= (λ z. each f (drop (at + 1) xs) >>= (λ zs. Ok (z ∷ zs))))) found
 
 -- the refusal of one is that of the list
-pub refused_at : {A B C D : Type 0} (view : C → B) (lists : D → List B) (f : A → Checked B) (done : List B) (xs : List A) (at : ℕ) (x : A) (e : IndexerError) → Some x ≡ slice_get xs at → each f xs ≡ behind done (each f (drop at xs)) → Answers view (f x) (Err e) → Answers lists (each f xs) (Err e)
+pub refused_at : {A B C D : Type 0} (view : C → B) (lists : D → List B) (f : A → Checked B) (done : List B) (xs : List A) (at : ℕ) (x : A) (e : IndexerError) → Some x ≡ slice_get xs at → each f xs ≡ behind done (each f (drop at xs)) → IsIndexerResult view (f x) (Err e) → IsIndexerResult lists (each f xs) (Err e)
 refused_at view lists f done xs at x indexer_error.Memory there walked told = tt
 refused_at view lists f done xs at x (indexer_error.Broken r) there walked told = walked ∙ each_stops f done xs at x r there told
 

@@ -12,7 +12,7 @@ use Rattle.mdb_schema.specs.Entries.{entries}
 use Rattle.mdb_schema.specs.Schema.{IndexSchema, TableSchema}
 use Rattle.mdb_schema.specs.State.{id_key, full_keys, row_at, with_row, without_row, AreLawfulRows}
 use Rattle.mdb_schema.specs.Write.{Changed, is_among, put_row, remove_row}
-use Rattle.mdb_schema.specs.inner.Edits.{put_all, without_all, stale_keys, full_keys_of}
+use Rattle.mdb_schema.specs.Edits.{put_all, without_all, stale_keys, full_keys_of}
 use Rattle.mdb_schema.proofs.EntriesOfRows.{has_full_key, AreApart, apart_in, one_with_key, sorted-entries, entry_at-entries}
 use Rattle.mdb_schema.proofs.EntryEdits.{entry_at, sorted-put_all, sorted-without_all, same_pairs, entry_at-put_all, entry_at-without_all, is_among-stale_keys}
 use Rattle.mdb_schema.proofs.FirstFound.{find-nothing, find-only, find-alike}

@@ -11,7 +11,7 @@ use Rattle.mdb_datum.specs.Row.{Fields, Pair}
 use Rattle.mdb_encode.specs.Bytes.{Bytes, byte_order}
 use Rattle.mdb_schema.specs.Entries.{with_entries}
 use Rattle.mdb_schema.specs.Write.{is_among}
-use Rattle.mdb_schema.specs.inner.Edits.{without, without_all, put_all, stale_keys}
+use Rattle.mdb_schema.specs.Edits.{without, without_all, put_all, stale_keys}
 use Rattle.mdb_schema.proofs.Membership.{bytes_eq-comm, same_key}
 use Rattle.mdb_datum.proofs.ByteOrder.{same_from_byte_order, T_from_true, true_from_T}
 

@@ -9,7 +9,7 @@ use Rattle.mdb_schema.specs.Entries.{entries}
 use Rattle.mdb_schema.specs.Schema.{IndexSchema, TableSchema}
 use Rattle.mdb_schema.specs.State.{id_key, full_keys, row_at}
 use Rattle.mdb_schema.specs.Write.{is_among, is_taken_by}
-use Rattle.mdb_schema.specs.inner.Edits.{full_keys_of}
+use Rattle.mdb_schema.specs.Edits.{full_keys_of}
 use Rattle.mdb_schema.proofs.EntriesOfRows.{AreApart, entry_at-some, entry_at-row}
 use Rattle.mdb_schema.proofs.EntryEdits.{entry_at}
 use Rattle.mdb_schema.proofs.Membership.{list_any-true, list_any-from, list_any-false, list_any-none, is_among-from, is_among-true, bytes_eq-itself, same_key}

@@ -14,10 +14,14 @@ use Rattle.mdb_schema.specs.Names.{is_declared_name}
 use Rattle.mdb_schema.specs.Reading.{index_list, table_list}
 use Rattle.mdb_schema.specs.Shapes.{has_only, both, flag_or_false, names_of_table, number_in, table_shape, schema_shape}
 use Rattle.mdb_schema.specs.Version.{version_numbered}
-use Rattle.mdb_schema.specs.inner.Regular.{EachRegular, AreMembersRegular}
+use Rattle.mdb_schema.specs.inner.Regular.{EachRegular}
 use Rattle.mdb_schema.specs.declared.schema_rule.SchemaRule.TheVariants as rule
 use Rattle.mdb_schema.specs.declared.version.Version.{Version}
 use Rattle.mdb_schema.proofs.Chains.{passed_on, needed_there, passed_true, both_there, under_test}
+
+-- the names rise, and the values are regular
+abbrev pub AreMembersRegular : List Field → Type 0
+AreMembersRegular fs = IsStrictlySortedBy byte_order (map (λ (f : Field). f.0) fs) × EachRegular fs
 
 names_there : (fs : FieldList) → map (λ (f : Field). f.0) (fields_in fs) ≡ names_in fs
 names_there no_fields = refl

@@ -12,7 +12,7 @@ use Rattle.mdb_encode.specs.Bytes.{Bytes, byte_order}
 use Rattle.mdb_schema.specs.Net.{Net, differ, net, net_at, rows_of_both, with_net, with_nets}
 use Rattle.mdb_schema.specs.Schema.{TableSchema}
 use Rattle.mdb_schema.specs.State.{id_key, with_row, without_row}
-use Rattle.mdb_schema.specs.inner.NetOfPairs.{come, gone, net_of_pairs, replaced}
+use Rattle.mdb_schema.specs.NetOfPairs.{come, gone, net_of_pairs, replaced}
 use Rattle.mdb_schema.proofs.IdEntries.{id_pairs}
 use Rattle.mdb_schema.proofs.Membership.{Contains-first, Contains-from_filter, Contains-from_map, Contains-later, bytes_eq-itself}
 use Rattle.mdb_schema.proofs.NetMerged.{IsLow, by_fronts, net-both, net-come, net-gone, net-of_pairs, with_row-lowest}

@@ -12,7 +12,7 @@ use Rattle.mdb_encode.specs.Bytes.{Bytes, byte_order}
 use Rattle.mdb_schema.specs.Net.{Net, IsDifference, differ, key_of_either, net, net_at, net_key, rows_of_both}
 use Rattle.mdb_schema.specs.Schema.{TableSchema}
 use Rattle.mdb_schema.specs.State.{id_key, row_at, with_row}
-use Rattle.mdb_schema.specs.inner.NetOfPairs.{come, gone}
+use Rattle.mdb_schema.specs.NetOfPairs.{come, gone}
 use Rattle.mdb_schema.proofs.Membership.{Contains-nil, Contains-cons_cases, Contains-filter, Contains-from_filter, Contains-from_map, Contains-map, All-from_contains, same_key}
 use Rattle.mdb_schema.proofs.NetMerged.{IsLow, by_fronts, net-both, net-come, net-gone}
 use Rattle.mdb_schema.proofs.RowsById.{AreRising, rising-first, row_at-some}

@@ -9,7 +9,7 @@ use Rattle.mdb_encode.specs.Bytes.{Bytes, byte_order}
 use Rattle.mdb_schema.specs.Net.{Net, differ, net, net_at, rows_of_both}
 use Rattle.mdb_schema.specs.Schema.{TableSchema}
 use Rattle.mdb_schema.specs.State.{id_key, row_at, with_row}
-use Rattle.mdb_schema.specs.inner.NetOfPairs.{come, gone, net_of_pairs, replaced}
+use Rattle.mdb_schema.specs.NetOfPairs.{come, gone, net_of_pairs, replaced}
 use Rattle.mdb_schema.proofs.IdEntries.{id_pairs}
 use Rattle.mdb_schema.proofs.Membership.{Contains-nil, Contains-cons_cases, Contains-first, Contains-later, bytes_eq-comm, bytes_eq-itself}
 use Rattle.mdb_schema.proofs.RowsById.{AreRising, apart_from_less, rising-first, rising-rest, row_at-nothing}

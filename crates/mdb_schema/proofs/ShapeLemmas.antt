@@ -9,8 +9,8 @@ use Rattle.mdb_datum.specs.Row.{Fields}
 use Rattle.mdb_datum.specs.declared.datum.Datum.{Datum}
 use Rattle.mdb_datum.specs.declared.datum.Datum.TheVariants as datum
 use Rattle.mdb_datum.proofs.Variants.{doc_of_items, docs_there_and_back, doc_of_members, fields_there_and_back}
+use Rattle.mdb_datum.proofs.ListPlaces.{drop_at}
 use Rattle.mdb_encode.specs.Bytes.{Bytes}
-use Rattle.mdb_encode.proofs.Walk.{drop_at}
 use Rattle.mdb_schema.specs.Members.{object_fields}
 use Rattle.mdb_schema.specs.Shapes.{has_only, list_in}
 

@@ -1,5 +1,7 @@
 pub mod Answer
 pub mod Broken
+pub mod Codes
+pub mod Edits
 pub mod Entries
 pub mod Guarded
 pub mod History
@@ -10,7 +12,9 @@ pub mod Laws
 pub mod Members
 pub mod Names
 pub mod Net
+pub mod NetOfPairs
 pub mod Query
+pub mod QueryCodes
 pub mod Reading
 pub mod Refusals
 pub mod RuleWord

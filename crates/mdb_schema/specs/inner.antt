@@ -1,10 +1,6 @@
-pub mod Edits
 pub mod IndexView
 pub mod IndexerAnswer
 pub mod ListAnswer
-pub mod NetOfPairs
 pub mod QueryView
 pub mod Regular
-pub mod Stored
-pub mod StoredQuery
 pub mod TableView

@@ -20,7 +20,7 @@ pub struct IndexDef {
 impl Model for IndexDef {
     ghost use Rattle.mdb_schema.specs.LawfulSchema.{IsLawfulIndex};
     ghost use Rattle.mdb_schema.specs.Schema.{IndexSchema};
-    ghost use Rattle.mdb_schema.specs.inner.Stored.{index_code};
+    ghost use Rattle.mdb_schema.specs.Codes.{index_code};
 
     ghost Value = { IndexSchema };
 

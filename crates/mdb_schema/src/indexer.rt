@@ -7,7 +7,7 @@ ghost use Rattle.mdb_encode.specs.Kind.{name_of, width_bytes, scalar_doc};
 ghost use Rattle.mdb_encode.specs.Kind.{part_indexer, indexer_of};
 ghost use Rattle.mdb_encode.specs.Lawful.{IsFieldName, IsScalar};
 ghost use Rattle.mdb_schema.specs.Broken.{needed, each};
-ghost use Rattle.mdb_schema.specs.inner.IndexerAnswer.{Answers};
+ghost use Rattle.mdb_schema.specs.inner.IndexerAnswer.{IsIndexerResult};
 ghost use Rattle.mdb_schema.specs.Reading.{width_of, folded_indexer, sized, width_indexer};
 ghost use Rattle.mdb_schema.specs.Reading.{equals_indexer, kind_in, single_indexer, part_in};
 ghost use Rattle.mdb_schema.specs.Reading.{compound_of, compound_indexer, whole_indexer, indexer_in};
@@ -66,7 +66,7 @@ fn field_copy(alloc: Global, name: &Text) -> Result<Field, AllocError>
 
 /// A copy of `field`, and `lowercase`.
 fn folded(alloc: Global, members: &Members) -> Result<(Field, bool), IndexerError>
-    ensures { Answers (λ p. (name_of p.0, p.1))
+    ensures { IsIndexerResult (λ p. (name_of p.0, p.1))
         (needed rule.BadShape (folded_shape members.now)) result }
 {
     let Some((field, lowercase)) = folded_shape(members) else {
@@ -77,7 +77,7 @@ fn folded(alloc: Global, members: &Members) -> Result<(Field, bool), IndexerErro
 
 /// A copy of `field`, and `width`.
 fn sized(alloc: Global, members: &Members) -> Result<(Field, Width), IndexerError>
-    ensures { Answers (λ p. (name_of p.0, width_bytes p.1)) (sized members.now) result }
+    ensures { IsIndexerResult (λ p. (name_of p.0, width_bytes p.1)) (sized members.now) result }
 {
     let Some((field, number)) = width_shape(members) else {
         return Err(IndexerError::Broken(SchemaRule::BadShape));
@@ -88,7 +88,7 @@ fn sized(alloc: Global, members: &Members) -> Result<(Field, Width), IndexerErro
 
 /// A copy of `field`.
 fn plain(alloc: Global, members: &Members) -> Result<Field, IndexerError>
-    ensures { Answers name_of
+    ensures { IsIndexerResult name_of
         (needed rule.BadShape (plain_shape members.now)) result }
 {
     let Some(field) = plain_shape(members) else {
@@ -113,7 +113,7 @@ fn scalar_copy(alloc: Global, document: &Datum) -> Result<Scalar, AllocError>
 
 /// Copies of `field` and `equals`.
 fn compared(alloc: Global, members: &Members) -> Result<(Field, Scalar), IndexerError>
-    ensures { Answers (λ p. (name_of p.0, scalar_doc p.1))
+    ensures { IsIndexerResult (λ p. (name_of p.0, scalar_doc p.1))
         (needed rule.BadShape (equals_shape members.now)) result }
 {
     let Some((field, scalar)) = equals_shape(members) else {
@@ -124,7 +124,7 @@ fn compared(alloc: Global, members: &Members) -> Result<(Field, Scalar), Indexer
 
 /// An indexer of the kind `text`.
 fn text_indexer(alloc: Global, members: &Members) -> Result<Part, IndexerError>
-    ensures { Answers part_indexer (folded_indexer str members.now) result }
+    ensures { IsIndexerResult part_indexer (folded_indexer str members.now) result }
 {
     let (field, lowercase) = folded(alloc, members)?;
     Ok(Part::Str { field, lowercase })
@@ -132,7 +132,7 @@ fn text_indexer(alloc: Global, members: &Members) -> Result<Part, IndexerError>
 
 /// An indexer of the kind `uint`.
 fn uint_indexer(alloc: Global, members: &Members) -> Result<Part, IndexerError>
-    ensures { Answers part_indexer (width_indexer uint members.now) result }
+    ensures { IsIndexerResult part_indexer (width_indexer uint members.now) result }
 {
     let (field, width) = sized(alloc, members)?;
     Ok(Part::Uint { field, width })
@@ -140,7 +140,7 @@ fn uint_indexer(alloc: Global, members: &Members) -> Result<Part, IndexerError>
 
 /// An indexer of the kind `int`.
 fn int_indexer(alloc: Global, members: &Members) -> Result<Part, IndexerError>
-    ensures { Answers part_indexer (width_indexer sint members.now) result }
+    ensures { IsIndexerResult part_indexer (width_indexer sint members.now) result }
 {
     let (field, width) = sized(alloc, members)?;
     Ok(Part::Sint { field, width })
@@ -148,7 +148,7 @@ fn int_indexer(alloc: Global, members: &Members) -> Result<Part, IndexerError>
 
 /// An indexer of the kind `conditional`.
 fn conditional_indexer(alloc: Global, members: &Members) -> Result<Part, IndexerError>
-    ensures { Answers part_indexer (equals_indexer members.now) result }
+    ensures { IsIndexerResult part_indexer (equals_indexer members.now) result }
 {
     let (field, scalar) = compared(alloc, members)?;
     Ok(Part::Equals { field, scalar })
@@ -156,7 +156,7 @@ fn conditional_indexer(alloc: Global, members: &Members) -> Result<Part, Indexer
 
 /// An indexer that may be a part, whose kind is known.
 fn single_indexer(alloc: Global, kind: KindName, members: &Members) -> Result<Part, IndexerError>
-    ensures { Answers part_indexer (single_indexer kind members.now) result }
+    ensures { IsIndexerResult part_indexer (single_indexer kind members.now) result }
 {
     match kind {
         KindName::Text => text_indexer(alloc, members),
@@ -180,7 +180,7 @@ fn single_indexer(alloc: Global, kind: KindName, members: &Members) -> Result<Pa
 
 /// A part of a compound indexer.
 fn part_in(alloc: Global, document: &Datum) -> Result<Part, IndexerError>
-    ensures { Answers part_indexer (part_in (doc_of document.now)) result }
+    ensures { IsIndexerResult part_indexer (part_in (doc_of document.now)) result }
 {
     let (kind, members) = kind_in(document)?;
     single_indexer(alloc, kind, members)
@@ -188,7 +188,7 @@ fn part_in(alloc: Global, document: &Datum) -> Result<Part, IndexerError>
 
 /// The parts of a compound indexer, from the left.
 fn parts_in(alloc: Global, documents: &Items) -> Result<Vec<Part>, IndexerError>
-    ensures { Answers (λ parts. map part_indexer parts.items)
+    ensures { IsIndexerResult (λ parts. map part_indexer parts.items)
         (each part_in documents.now) result }
 {
     let mut parts = Vec::new(alloc);
@@ -207,7 +207,7 @@ fn parts_in(alloc: Global, documents: &Items) -> Result<Vec<Part>, IndexerError>
 /// An indexer of these parts, of which there has to be one.
 #[tactic(auto, using(crate::proofs::CompoundReading::made, crate::proofs::CompoundReading::none_made, crate::proofs::CompoundReading::refused))]
 fn compound_of(alloc: Global, documents: &Items, allow_missing: bool) -> Result<Kind, IndexerError>
-    ensures { Answers indexer_of (compound_of documents.now allow_missing) result }
+    ensures { IsIndexerResult indexer_of (compound_of documents.now allow_missing) result }
 {
     let parts = parts_in(alloc, documents)?;
     let Some(parts) = Parts::of(parts) else {
@@ -221,7 +221,7 @@ fn compound_of(alloc: Global, documents: &Items, allow_missing: bool) -> Result<
 
 /// An indexer of several parts.
 fn compound_indexer(alloc: Global, members: &Members) -> Result<Kind, IndexerError>
-    ensures { Answers indexer_of (compound_indexer members.now) result }
+    ensures { IsIndexerResult indexer_of (compound_indexer members.now) result }
 {
     let Some((documents, allow_missing)) = compound_shape(members) else {
         return Err(IndexerError::Broken(SchemaRule::BadShape));
@@ -231,7 +231,7 @@ fn compound_indexer(alloc: Global, members: &Members) -> Result<Kind, IndexerErr
 
 /// An indexer whose kind is known.
 fn whole_indexer(alloc: Global, kind: KindName, members: &Members) -> Result<Kind, IndexerError>
-    ensures { Answers indexer_of (whole_indexer kind members.now) result }
+    ensures { IsIndexerResult indexer_of (whole_indexer kind members.now) result }
 {
     match kind {
         KindName::TextList => {
@@ -249,7 +249,7 @@ fn whole_indexer(alloc: Global, kind: KindName, members: &Members) -> Result<Kin
 
 /// The kind of an indexer, or the first rule that it breaks.
 pub(crate) fn read_indexer(alloc: Global, document: &Datum) -> Result<Kind, IndexerError>
-    ensures { Answers indexer_of (indexer_in (doc_of document.now)) result }
+    ensures { IsIndexerResult indexer_of (indexer_in (doc_of document.now)) result }
 {
     let (kind, members) = kind_in(document)?;
     whole_indexer(alloc, kind, members)

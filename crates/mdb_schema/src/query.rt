@@ -18,7 +18,7 @@ struct Parts {
 
 impl Model for Parts {
     ghost use Rattle.mdb_schema.specs.Query.{Query};
-    ghost use Rattle.mdb_schema.specs.inner.StoredQuery.{query_code};
+    ghost use Rattle.mdb_schema.specs.QueryCodes.{query_code};
 
     ghost Value = { Query };
 
@@ -39,7 +39,7 @@ pub struct Query {
 
 impl Model for Query {
     ghost use Rattle.mdb_schema.specs.Query.{Query};
-    ghost use Rattle.mdb_schema.specs.inner.StoredQuery.{query_code};
+    ghost use Rattle.mdb_schema.specs.QueryCodes.{query_code};
 
     ghost Value = { Query };
 

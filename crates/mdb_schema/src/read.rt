@@ -12,7 +12,7 @@ ghost use Rattle.mdb_schema.specs.Reading.{is_multi, id_in, index_rules, index_m
 ghost use Rattle.mdb_schema.specs.Reading.{index_in, named_index, index_list};
 ghost use Rattle.mdb_schema.specs.Reading.{table_in, table_list, schema_in, schema_of};
 ghost use Rattle.mdb_schema.specs.SchemaAnswer.{AnswersSchema};
-ghost use Rattle.mdb_schema.specs.inner.IndexerAnswer.{Answers};
+ghost use Rattle.mdb_schema.specs.inner.IndexerAnswer.{IsIndexerResult};
 ghost use Rattle.mdb_schema.specs.inner.ListAnswer.{AnswersList, IsNamed};
 ghost use Rattle.mdb_schema.specs.inner.Regular.{EachRegular};
 
@@ -107,7 +107,7 @@ fn index_kind(
     indexer: &Datum,
 ) -> Result<Kind, IndexerError>
     requires { IsTrue (is_declared_name name.now) }
-    ensures answer { Answers indexer_of
+    ensures answer { IsIndexerResult indexer_of
         (index_kind name.now unique allow_missing (doc_of indexer.now)) result }
     ensures lawful { IfOk result (λ kind. IsLawfulIndex (record {
       name = name.now;
@@ -123,7 +123,7 @@ fn index_kind(
 
 /// The index under a name.
 fn index_in(alloc: Global, name: &Text, document: &Datum) -> Result<IndexDef, IndexerError>
-    ensures { Answers (λ index. index) (index_in (name.now, doc_of document.now)) result }
+    ensures { IsIndexerResult (λ index. index) (index_in (name.now, doc_of document.now)) result }
 {
     let (indexer, (unique, allow_missing)) = index_members(name, document)?;
     // The name is copied first, so that want of memory for it has no kind to drop.

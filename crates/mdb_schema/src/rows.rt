@@ -17,7 +17,7 @@ pub struct Rows {
 impl Model for Rows {
     ghost use Rattle.std.specs.Prelude.{List};
     ghost use Rattle.mdb_datum.specs.Row.{Fields};
-    ghost use Rattle.mdb_schema.specs.inner.StoredQuery.{rows_code};
+    ghost use Rattle.mdb_schema.specs.QueryCodes.{rows_code};
 
     ghost Value = { List Fields };
 

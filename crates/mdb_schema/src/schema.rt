@@ -16,7 +16,7 @@ pub struct Schema {
 impl Model for Schema {
     ghost use Rattle.mdb_schema.specs.LawfulSchema.{IsLawfulSchema};
     ghost use Rattle.mdb_schema.specs.Schema.{DbSchema};
-    ghost use Rattle.mdb_schema.specs.inner.Stored.{schema_code};
+    ghost use Rattle.mdb_schema.specs.Codes.{schema_code};
 
     ghost Value = { DbSchema };
 

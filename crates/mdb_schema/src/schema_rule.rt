@@ -40,11 +40,11 @@ pub enum SchemaRule {
 }
 
 impl SchemaRule {
-    ghost use Rattle.mdb_schema.specs.RuleWord.{rule_word};
+    ghost use Rattle.mdb_schema.specs.RuleWord.{schema_rule_word};
 
     /// The rule's name as it is printed: lower case, its words joined by dashes.
     pub fn word(self) -> &'static str
-        ensures { result.now ≡ rule_word self }
+        ensures { result.now ≡ schema_rule_word self }
     {
         match self {
             SchemaRule::Syntax => "syntax",

@@ -28,7 +28,7 @@ struct TableParts {
 impl Model for TableDef {
     ghost use Rattle.mdb_schema.specs.LawfulSchema.{IsLawfulTable};
     ghost use Rattle.mdb_schema.specs.Schema.{TableSchema};
-    ghost use Rattle.mdb_schema.specs.inner.Stored.{table_code};
+    ghost use Rattle.mdb_schema.specs.Codes.{table_code};
 
     ghost Value = { TableSchema };
 

@@ -9,12 +9,12 @@ use Rattle.mdb_schema.specs.State.{State}
 use Rattle.table_index.specs.Table.{TableChange, TableRows}
 use Rattle.radix_node.specs.Ids.{Counter}
 use Rattle.mdb_schema.specs.History.{writes_in}
-use Rattle.mem_txn.specs.Changes.{Changes, begun}
+use Rattle.mem_txn.specs.DbTxn.{DbTxn, new_txn}
 use Rattle.mem_txn.specs.Database.{Caller, HasRead, HasSeen}
-use Rattle.mem_txn.specs.Transactions.{AnswersBegin, HasWon, HasWonAtLast, IsRefused, changes_of}
+use Rattle.mem_txn.specs.Transactions.{AnswersBegin, HasWon, HasWonAtLast, IsRefused, txn_of}
 use Rattle.mem_txn.specs.declared.outcome.BeginRefused.{BeginRefused}
 use Rattle.mem_txn.specs.declared.write_txn.WriteTxn.{WriteTxn}
-use Rattle.mem_txn.specs.inner.ChangesView.{AreCounted, AreSince}
+use Rattle.mem_txn.specs.inner.DbTxnView.{AreCounted, AreSince}
 use Rattle.mem_txn.specs.inner.Commits.{AnswersTurn, RefusesTurn}
 use Rattle.mem_txn.specs.inner.VersionTables.{HasChanged, StandFor, Tables, schemas_of, state_of, trees_of, unwritten}
 use Rattle.mem_txn.specs.inner.Versions.{AreFew, Forest, Turned}
@@ -50,11 +50,11 @@ module _ (p q : Caller) (seen : HasSeen p q) (read : HasRead p q (length q.seen)
 
   begins : {D : Type 0} (t : WriteTxn D) → AnswersTurn q (Ok t) → AnswersBegin p (Ok t)
   begins t answers =
-      let same : q ≡ (changes_of t).caller = sym (ap (λ (c : Changes). c.caller) answers.1) in (
+      let same : q ≡ (txn_of t).caller = sym (ap (λ (c : DbTxn). c.caller) answers.1) in (
         subst (HasSeen p) same seen,
         subst (λ (z : Caller). HasRead p z (length z.seen)) same read,
         subst (λ (z : Caller). length z.seen < 2 ^ 63) same answers.0,
-        answers.1 ∙ ap begun same,
+        answers.1 ∙ ap new_txn same,
         answers.2,
         subst (HasWonAtLast p) same turned,
       )
@@ -64,8 +64,8 @@ module _ (p q : Caller) (seen : HasSeen p q) (read : HasRead p q (length q.seen)
   begin_answers (Err r) answers = refuses r answers
 
   module _ (won : HasWon p q) where
-    pub try_begins : {D : Type 0} (t : WriteTxn D) → AnswersTurn q (Ok t) → AnswersBegin p (Ok t) × HasWon p (changes_of t).caller
-    try_begins t answers = (begins t answers, subst (HasWon p) (sym (ap (λ (c : Changes). c.caller) answers.1)) won)
+    pub try_begins : {D : Type 0} (t : WriteTxn D) → AnswersTurn q (Ok t) → AnswersBegin p (Ok t) × HasWon p (txn_of t).caller
+    try_begins t answers = (begins t answers, subst (HasWon p) (sym (ap (λ (c : DbTxn). c.caller) answers.1)) won)
 
     pub try_refuses : (r : BeginRefused) → RefusesTurn q r → HasSeen p r.pass × IsRefused p r.pass r.cause × HasWon p r.pass
     try_refuses r answers = let both = refuses r answers in (both.0, both.1, subst (HasWon p) (sym answers.0) won)

@@ -7,7 +7,7 @@ use Rattle.mdb_schema.specs.Schema.{DbSchema}
 use Rattle.mdb_schema.specs.State.{State}
 use Rattle.radix_node.specs.Cells.{CellTree}
 use Rattle.table_index.specs.Table.{TableRows, TableChange}
-use Rattle.table_index.specs.Written.{HasWritten, begun}
+use Rattle.table_index.specs.Written.{HasWritten, new_change}
 use Rattle.mem_txn.specs.inner.VersionTables.{AreOpened, HasChanged, IsSound, StandFor, schemas_of, standing, state_of, unwritten}
 
 pub standing-unwritten : (ts : List TableRows) → map standing (map unwritten ts) ≡ ts
@@ -32,9 +32,9 @@ none_opened first [] = tt
 none_opened first (t ∷ trees) = (λ c h. inl h, none_opened first trees)
 
 -- a table that begins with one that is known
-pub nothing_changed : (known shared : TableRows) → known ≡ shared → HasWritten [] (begun known) → (first : ℕ) → HasChanged first [] (unwritten shared)
+pub nothing_changed : (known shared : TableRows) → known ≡ shared → HasWritten [] (new_change known) → (first : ℕ) → HasChanged first [] (unwritten shared)
 nothing_changed known shared is none first =
-    record { opened = none_opened first shared.trees; written = subst (λ (t : TableRows). HasWritten [] (begun t)) is none }
+    record { opened = none_opened first shared.trees; written = subst (λ (t : TableRows). HasWritten [] (new_change t)) is none }
 
 -- one such table more
 pub one_more_unchanged : (first : ℕ) (ts more : List TableChange) (t : TableChange) → more ≡ ts ++ t ∷ [] → All (HasChanged first []) ts → HasChanged first [] t → All (HasChanged first []) more

@@ -3,7 +3,7 @@ use Rattle.std.proofs.Common.{◌≡◌, ◌∙◌, Bool, Option, length, sym, a
 use Rattle.std.specs.Prelude.{IfNone, IfSome}
 use Rattle.db_front.specs.Passes.{Known}
 use Rattle.watch_word.specs.Logs.{IsLater, Log, has_fired}
-use Rattle.mem_txn.specs.Checked.{HasHeard, Hears, IsHeldBy, IsLate, Tells, number_of}
+use Rattle.mem_txn.specs.Checked.{HasHeard, Hears, IsHeldBy, IsLate, IsLookAt, number_of}
 use Rattle.mem_txn.specs.Database.{Reading, reading_of}
 use Rattle.mem_txn.specs.Held.{HeldWatch}
 use Rattle.mem_txn.specs.declared.look.Look.{Look}
@@ -60,7 +60,7 @@ module _ (old new : Known Version) (token : IsToken 0 old) (front : Log) (kept :
       held_now = held_heard (caller_of old) (caller_of new) h check_hears held
 
       -- what is found is told
-      pub check_told : IfSome o (λ l. (number_of l ≡ length (caller_of new).seen) × Tells (caller_of new) h l)
+      pub check_told : IfSome o (λ l. (number_of l ≡ length (caller_of new).seen) × IsLookAt (caller_of new) h l)
       check_told =
           found_told (caller_of new) h held_now (watches_hold new check_token.begun check_token.steps) check_heard shown is_shown fired fired_now o found
 

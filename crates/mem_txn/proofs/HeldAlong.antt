@@ -18,7 +18,7 @@ use Rattle.mem_txn.specs.CellHistory.{Forest, asked_in, cell_at, forest_or_none,
 use Rattle.mem_txn.specs.Checked.{AskedIsHeld, HeldLonger, HeldStays, IsHeldBy}
 use Rattle.mem_txn.specs.Database.{Caller, HasSeen, cells_seen}
 use Rattle.mem_txn.specs.Held.{HeldWatch, IsLookedUp}
-use Rattle.mem_txn.specs.inner.Looks.{IsAsked}
+use Rattle.mem_txn.specs.AskedSpots.{IsAsked}
 use Rattle.mem_txn.proofs.AlongHistory.{table_of, watched_if}
 use Rattle.mem_txn.proofs.StepAtPlace.{named_there}
 

@@ -8,7 +8,7 @@ use Rattle.radix_node.specs.Ids.{Book, Counter}
 use Rattle.watch_word.specs.Logs.{Log}
 use Rattle.table_index.specs.Drawn.{HasDrawnCells, MayBeWritten}
 use Rattle.table_index.specs.Table.{AreAllOf, TableRows, TableChange}
-use Rattle.mem_txn.specs.inner.ChangesView.{AreCounted}
+use Rattle.mem_txn.specs.inner.DbTxnView.{AreCounted}
 use Rattle.mem_txn.specs.inner.Ended.{AreMade}
 use Rattle.mem_txn.specs.inner.VersionTables.{AreAllSeparate, AreAllWithin, AreChangesWithin, AreWithin, Draws, IsWithin, standing, trees_of, unwritten}
 use Rattle.mem_txn.specs.inner.Versions.{Turned}

@@ -5,6 +5,7 @@ use Rattle.std.proofs.lemmas.List.{length-map}
 use Rattle.std.proofs.lemmas.Option.{get_or_from_slice_get, same_Some, slice_get_within}
 use Rattle.db_front.specs.Passes.{Known}
 use Rattle.mdb_datum.specs.Row.{Fields}
+use Rattle.mdb_datum.proofs.ListPlaces.{there_within}
 use Rattle.mdb_encode.specs.Bytes.{Bytes}
 use Rattle.mdb_schema.specs.History.{Commit}
 use Rattle.mdb_schema.specs.Schema.{DbSchema, IndexSchema, TableSchema}
@@ -16,7 +17,6 @@ use Rattle.radix_node.specs.Paths.{Has}
 use Rattle.table_index.specs.Table.{TableRows}
 use Rattle.table_index.specs.Watched.{FiresAt}
 use Rattle.table_index.specs.Written.{EachKept, IsKeyOf, KeptBut}
-use Rattle.table_index.proofs.WipeSteps.{there_within}
 use Rattle.watch_word.specs.Logs.{Cell}
 use Rattle.mem_txn.specs.CellHistory.{AreComplete, CellHistory, Forest, KeepUntouched, KeepsUntouched, StayAway, state_after, trees_after}
 use Rattle.mem_txn.specs.Database.{cells_seen}

@@ -10,13 +10,13 @@ use Rattle.mdb_schema.specs.History.{Commit, IsMadeBy}
 use Rattle.table_index.specs.Watched.{is_watchable}
 use Rattle.watch_word.specs.Logs.{Cell, IsLater, Log, has_fired}
 use Rattle.mem_txn.specs.CellHistory.{HasFirings, WatchesHold, asked_in, cell_at, question_cell, state_after, table_in, trees_after}
-use Rattle.mem_txn.specs.Checked.{HasHeard, IdsTellCells, IsFired, IsHeldBy, IsLate, IsQuiet, Tells, number_of}
+use Rattle.mem_txn.specs.Checked.{HasHeard, IdsTellCells, IsFired, IsHeldBy, IsLate, IsQuiet, IsLookAt, number_of}
 use Rattle.mem_txn.specs.Database.{Caller, cells_seen, view_seen}
 use Rattle.mem_txn.specs.Held.{HeldWatch}
 use Rattle.mem_txn.specs.declared.look.Look.{Look}
 use Rattle.mem_txn.specs.declared.look.Look.TheVariants as look
 use Rattle.mem_txn.specs.inner.Looks.{Finds}
-use Rattle.mem_txn.specs.inner.Steps.{HasFired}
+use Rattle.mem_txn.specs.inner.Steps.{HasLastFirings}
 use Rattle.mem_txn.specs.inner.Values.{ViewWithTrees}
 use Rattle.mem_txn.specs.inner.Versions.{IsBegun, Version, Versions, caller_of, entry_of, history_in}
 use Rattle.mem_txn.proofs.AlongHistory.{watched_if}
@@ -107,7 +107,7 @@ module _ (p : Caller) (h : HeldWatch) (held : IsHeldBy p h) (holds : WatchesHold
     all_of at number = number ∙ ap (λ (w : ViewWithTrees). w.view.number) shown
 
     -- what is found is told
-    pub found_told : (o : Option Look) → Finds v fired h o → IfSome o (λ l. (number_of l ≡ length p.seen) × Tells p h l)
+    pub found_told : (o : Option Look) → Finds v fired h o → IfSome o (λ l. (number_of l ≡ length p.seen) × IsLookAt p h l)
     found_told None found = tt
     found_told (Some (look.Quiet at)) found = let all = all_of at found.0 in (all, quiet_told at all heard (sym is ∙ found.1))
     found_told (Some (look.Fired at)) found =
@@ -140,7 +140,7 @@ own_last (e ∷ es) p at begun seen count own =
     (e ∷ last.0, last.1, ap (λ (fs : Versions). e ∷ fs) last.2 ∙ ap (λ (c : ℕ). e ∷ (last.0 ++ (c, last.1) ∷ [])) own.3)
 
 -- a caller that keeps a log later than the one that is shown has heard
-pub log_shown : (k : Known Version) (number finished : ℕ) (log later : Log) → IsBegun k.seen → number + 1 ≡ length k.seen → AllOrAllButLast finished number → front.HasFirings HasFired finished k.seen log → (front.IsLastOf k.number k.seen → finished ≡ number) → IsLater log later → HasHeard (caller_of (record k { log = later }))
+pub log_shown : (k : Known Version) (number finished : ℕ) (log later : Log) → IsBegun k.seen → number + 1 ≡ length k.seen → AllOrAllButLast finished number → front.HasFirstFirings HasLastFirings finished k.seen log → (front.IsLastOf k.number k.seen → finished ≡ number) → IsLater log later → HasHeard (caller_of (record k { log = later }))
 log_shown k number finished log later begun count or has own is =
     let J = cells_seen (caller_of k) in
     let n = length (history_in k.seen) in

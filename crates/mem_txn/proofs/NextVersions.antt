@@ -17,9 +17,9 @@ use Rattle.watch_word.specs.Logs.{Cell}
 use Rattle.table_index.specs.Table.{TableChange, TableRows}
 use Rattle.table_index.specs.Watched.{HoldsRows}
 use Rattle.mem_txn.specs.CellHistory.{Forest}
-use Rattle.mem_txn.specs.Changes.{Changes, present}
+use Rattle.mem_txn.specs.DbTxn.{DbTxn, present}
 use Rattle.mem_txn.specs.Database.{Caller, View, state_seen}
-use Rattle.mem_txn.specs.inner.ChangesView.{AreCounted, AreSince, IsBase}
+use Rattle.mem_txn.specs.inner.DbTxnView.{AreCounted, AreSince, IsBase}
 use Rattle.mem_txn.specs.inner.Commits.{IsNextOf}
 use Rattle.mem_txn.specs.inner.Ended.{AreMade, AreTold, EndWith, IsMade, starts_of}
 use Rattle.mem_txn.specs.inner.Firing.{AreGone, cells_told}
@@ -82,7 +82,7 @@ module _ (writes : List Write) (spoiled : Bool) (turn : Turned) (ids : Counter) 
   abbrev p : Caller
   p = turn.caller
 
-  abbrev old : Changes
+  abbrev old : DbTxn
   old = record { caller = p; writes = writes; spoiled = spoiled }
 
   abbrev news : List TableRows

@@ -3,6 +3,7 @@ use Rattle.std.proofs.Common.{◌≡◌, ◌∙◌, ◌⊎◌, ◌+◌, ◌-◌,
 use Rattle.std.specs.Prelude.{All}
 use Rattle.std.proofs.lemmas.List.{length-map}
 use Rattle.std.proofs.lemmas.Option.{same_Some, slice_get_past, slice_get_within}
+use Rattle.mdb_datum.proofs.ListPlaces.{there_within}
 use Rattle.db_front.specs.Passes.{Known}
 use Rattle.mdb_schema.proofs.Tables.{table_place-name}
 use Rattle.mdb_schema.specs.Schema.{TableSchema, table_place}
@@ -13,7 +14,6 @@ use Rattle.radix_node.proofs.Members.{cell_piece}
 use Rattle.radix_txn.proofs.Steps.{lt_or_le}
 use Rattle.radix_txn.proofs.TxnTrees.{one_piece}
 use Rattle.table_index.specs.Table.{TableRows}
-use Rattle.table_index.proofs.WipeSteps.{there_within}
 use Rattle.watch_word.specs.Logs.{Cell}
 use Rattle.mem_txn.specs.CellHistory.{CellHistory, Forest, IdsTell, IsCellIn, forest_or_none, state_after, table_in, trees_after}
 use Rattle.mem_txn.specs.Checked.{IdsTellCells, IsHeldBy}

@@ -1,7 +1,7 @@
 -- What one look does, and how several calls are one look.
 use Rattle.std.proofs.Common.{◌≡◌, ◌⊎◌, ◌∙◌, ◌++◌, ℕ, zero, suc, List, [], ◌∷◌, length, Option, Some, append_assoc, inl, inr, sym, ap, subst}
 use Rattle.std.specs.Prelude.{IfSome}
-use Rattle.mem_txn.specs.Checked.{AnswersCheck, HasReadOnce, Hears, IsLate, LooksOnce, ReadsAgain, ReadsAndHears, Tells, number_of}
+use Rattle.mem_txn.specs.Checked.{AnswersCheck, HasReadOnce, Hears, IsLate, LooksOnce, ReadsAgain, ReadsAndHears, IsLookAt, number_of}
 use Rattle.mem_txn.specs.Database.{Caller, HasRead, HasSeen}
 use Rattle.mem_txn.specs.Held.{HeldWatch}
 use Rattle.mem_txn.specs.declared.look.Look.{Look}
@@ -115,7 +115,7 @@ tries_so old mid h so = elim so [
 ]
 
 -- a watch that is checked after each read is told so
-pub told_so : (old read new : Caller) (h : HeldWatch) (o : Option Look) (told : Look) → LooksOnce old read → Hears read new → IfSome o (λ l. (number_of l ≡ length new.seen) × Tells new h l) → o ≡ Some told → AnswersCheck old new h told
+pub told_so : (old read new : Caller) (h : HeldWatch) (o : Option Look) (told : Look) → LooksOnce old read → Hears read new → IfSome o (λ l. (number_of l ≡ length new.seen) × IsLookAt new h l) → o ≡ Some told → AnswersCheck old new h told
 told_so old read new h o told look hears all is =
-    let here : (number_of told ≡ length new.seen) × Tells new h told = subst (λ (x : Option Look). IfSome x (λ l. (number_of l ≡ length new.seen) × Tells new h l)) is all in
+    let here : (number_of told ≡ length new.seen) × IsLookAt new h told = subst (λ (x : Option Look). IfSome x (λ l. (number_of l ≡ length new.seen) × IsLookAt new h l)) is all in
     (look_hears old read new look hears, here.0, here.1)

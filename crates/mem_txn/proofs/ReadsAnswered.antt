@@ -5,7 +5,7 @@ use Rattle.db_front.specs.Passes.{HasLooked, IsNumber, Known, TellsFinished}
 use Rattle.watch_word.specs.Logs.{IsLater, Log}
 use Rattle.mem_txn.specs.Checked.{HasHeard}
 use Rattle.mem_txn.specs.Database.{HasRead, HasSeen, reading_of}
-use Rattle.mem_txn.specs.inner.Steps.{HasFired}
+use Rattle.mem_txn.specs.inner.Steps.{HasLastFirings}
 use Rattle.mem_txn.specs.inner.Versions.{IsBegun, IsToken, StandsFor, Version, caller_of}
 use Rattle.mem_txn.proofs.HeardAlong.{heard_seen}
 use Rattle.mem_txn.proofs.LooksTold.{log_shown}
@@ -24,7 +24,7 @@ module _ (old mid : Known Version) (token : IsToken 0 old) (look : HasLooked old
   begun : IsBegun mid.seen
   begun = begun_longer old.seen mid.seen token.begun look.seen
 
-  module _ (number finished : ℕ) (log : Log) (is : IsNumber old mid number) (told : TellsFinished old mid number finished) (has : front.HasFirings HasFired finished mid.seen log) where
+  module _ (number finished : ℕ) (log : Log) (is : IsNumber old mid number) (told : TellsFinished old mid number finished) (has : front.HasFirstFirings HasLastFirings finished mid.seen log) where
     -- the log that is shown is of its book
     pub shown_book : log.book ≡ mid.log.book
     shown_book = same_book mid.seen log.book mid.log.book (log_of finished mid.seen log begun has) looked_token.log

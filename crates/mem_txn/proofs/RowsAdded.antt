@@ -18,7 +18,7 @@ use Rattle.table_index.specs.Table.{AnswersPut, AnswersRemove, AnswersTake, AreD
 use Rattle.table_index.specs.Written.{Writes, row_there, rows_put, rows_told}
 use Rattle.table_index.specs.declared.wipe_error.WipeError.{WipeError}
 use Rattle.table_index.specs.declared.wipe_error.WipeError.TheVariants as wipe_errors
-use Rattle.mem_txn.specs.Changes.{gives_replaced, gives_row}
+use Rattle.mem_txn.specs.DbTxn.{gives_replaced, gives_row}
 use Rattle.mem_txn.specs.inner.VersionTables.{Adds, AnswersRows, AreOpened}
 use Rattle.mem_txn.specs.inner.Wipes.{AnswersGone, IsToldWhy, is_memory}
 

@@ -11,7 +11,7 @@ use Rattle.table_index.specs.Watched.{cell_of}
 use Rattle.table_index.proofs.Lookups.{looked_there}
 use Rattle.watch_word.specs.Logs.{Cell}
 use Rattle.mem_txn.specs.CellHistory.{question_cell}
-use Rattle.mem_txn.specs.inner.Looks.{IsAsked}
+use Rattle.mem_txn.specs.AskedSpots.{IsAsked}
 use Rattle.mem_txn.specs.inner.VersionTables.{schemas_of, state_of, trees_of}
 use Rattle.mem_txn.proofs.SpotsFound.{spot_cell}
 

@@ -7,6 +7,7 @@ use native.Mathlib.Decide.{dec_le}
 use Rattle.std.proofs.lemmas.List.{length-append, length-take-le, take_all, take-append-le}
 use Rattle.std.proofs.lemmas.List.Elements.{All-contains}
 use Rattle.std.proofs.lemmas.Option.{slice_get-map, slice_get_past}
+use Rattle.mdb_datum.proofs.ListPlaces.{there_within}
 use Rattle.db_front.specs.Commits as front
 use Rattle.db_front.specs.Passes.{Known}
 use Rattle.db_front.specs.Passes as front_passes
@@ -26,7 +27,7 @@ use Rattle.mem_txn.specs.CellHistory.{FiresIn, forest_or_none, trees_after}
 use Rattle.mem_txn.specs.Database.{AreOf, Database, Reading, View, cells_seen, reading_after, reading_of, view_after}
 use Rattle.mem_txn.specs.inner.Commits.{IsNext}
 use Rattle.mem_txn.specs.inner.Firing.{AreGone}
-use Rattle.mem_txn.specs.inner.Steps.{AreSteps, HasFired, IsStep, tables_of}
+use Rattle.mem_txn.specs.inner.Steps.{AreSteps, HasLastFirings, IsStep, tables_of}
 use Rattle.mem_txn.specs.inner.VersionTables.{AreAllWithin, AreWithin}
 use Rattle.mem_txn.specs.inner.Versions.{AreFew, AreTokens, Forest, IsBegun, IsBookOf, StandsFor, Version, Versions, book_in, caller_of, history_in, opening, schema_in}
 use Rattle.mem_txn.proofs.OneHistory.{begun_longer, book_longer, book_of_all, history_length, next_in, schema_longer, schema_of_all, trees_in, whole_of}
@@ -66,12 +67,6 @@ module _ {X : Type 0} where
   at_take (suc n) [] k less = refl
   at_take (suc n) (x ∷ xs) zero less = refl
   at_take (suc n) (x ∷ xs) (suc k) less = at_take n xs k (omega (arith, less))
-
-  -- each place within a list has an item
-  there_is : (xs : List X) (n : ℕ) → n < length xs → (x : X) × (slice_get xs n ≡ Some x)
-  there_is [] n less = absurd (omega (arith, less))
-  there_is (x ∷ xs) zero less = (x, refl)
-  there_is (x ∷ xs) (suc n) less = there_is xs n (omega (arith, less))
 
   -- two items in a row are two of those before, or the last two
   pub two_in_a_row : (xs r : List X) (d x e f : X) (n : ℕ) → xs ≡ r ++ d ∷ [] → slice_get (xs ++ x ∷ []) n ≡ Some e → slice_get (xs ++ x ∷ []) (suc n) ≡ Some f
@@ -144,7 +139,7 @@ module _ (h : Versions) (c : ℕ) (v : Version) (begun : IsBegun h) where
     }
 
     -- a log that has what the new commit fires, of the book
-    fired_last : (log : Log) → IsBookOf h log.book → ((cell : Cell) → FiresIn base.trees v.trees cell → has_fired cell log ≡ true) → HasFired more log
+    fired_last : (log : Log) → IsBookOf h log.book → ((cell : Cell) → FiresIn base.trees v.trees cell → has_fired cell log ≡ true) → HasLastFirings more log
     fired_last log of fired = record {
       of = book_longer h more log.book of longer;
       fired = λ n e f first second none cell fires. ⊎_elim
@@ -156,42 +151,42 @@ module _ (h : Versions) (c : ℕ) (v : Version) (begun : IsBegun h) where
     }
 
     -- the same of each commit
-    pub firings_more : (n : ℕ) (log : Log) → n + 1 ≡ length h → front.HasFirings HasFired n h log → IsBookOf h log.book → ((cell : Cell) → FiresIn base.trees v.trees cell → has_fired cell log ≡ true) → front.HasFirings HasFired (length more - 1) more log
+    pub firings_more : (n : ℕ) (log : Log) → n + 1 ≡ length h → front.HasFirstFirings HasLastFirings n h log → IsBookOf h log.book → ((cell : Cell) → FiresIn base.trees v.trees cell → has_fired cell log ≡ true) → front.HasFirstFirings HasLastFirings (length more - 1) more log
     firings_more n log count has of fired k le =
         let longer_by = length-append h ((c, v) ∷ []) in
         dite (dec_le k n)
-        (λ low. subst (λ (g : Versions). HasFired g log) (sym (take-append-le (suc k) h ((c, v) ∷ []) (omega (arith, low, count)))) (has k low))
-        (λ high. subst (λ (g : Versions). HasFired g log) (sym (take_all (suc k) more (omega (arith, high, longer_by, count)))) (fired_last log of fired))
+        (λ low. subst (λ (g : Versions). HasLastFirings g log) (sym (take-append-le (suc k) h ((c, v) ∷ []) (omega (arith, low, count)))) (has k low))
+        (λ high. subst (λ (g : Versions). HasLastFirings g log) (sym (take_all (suc k) more (omega (arith, high, longer_by, count)))) (fired_last log of fired))
 
 -- ---- the log
 
 -- a later log has what one commit fires
-fired_later : (h : Versions) (old new : Log) → IsLater old new → HasFired h old → HasFired h new
+fired_later : (h : Versions) (old new : Log) → IsLater old new → HasLastFirings h old → HasLastFirings h new
 fired_later h old new later has = record {
   of = subst (IsBookOf h) (sym later.0) has.of;
   fired = λ n e f first second none c fires. still_fired c old new later (has.fired n e f first second none c fires);
 }
 
 -- what a log has, each later one has
-pub firings_later : (n : ℕ) (h : Versions) (old new : Log) → IsLater old new → front.HasFirings HasFired n h old → front.HasFirings HasFired n h new
+pub firings_later : (n : ℕ) (h : Versions) (old new : Log) → IsLater old new → front.HasFirstFirings HasLastFirings n h old → front.HasFirstFirings HasLastFirings n h new
 firings_later n h old new later has k le = fired_later (take (suc k) h) old new later (has k le)
 
 -- the log is of the list's book
-pub log_of : (n : ℕ) (h : Versions) (log : Log) → IsBegun h → front.HasFirings HasFired n h log → IsBookOf h log.book
+pub log_of : (n : ℕ) (h : Versions) (log : Log) → IsBegun h → front.HasFirstFirings HasLastFirings n h log → IsBookOf h log.book
 log_of n [] log begun has = absurd begun
-log_of n (e ∷ es) log begun has = let first : HasFired (e ∷ []) log = has 0 (omega arith) in first.of
+log_of n (e ∷ es) log begun has = let first : HasLastFirings (e ∷ []) log = has 0 (omega arith) in first.of
 
 -- the trees after a commit are those of its value
 trees_at : (h : Versions) (n : ℕ) (x : ℕ × Version) → slice_get h n ≡ Some x → forest_or_none (slice_get (trees_in h) n) ≡ x.1.trees
 trees_at h n x there = ap forest_or_none (slice_get-map (λ (y : ℕ × Version). y.1.trees) h n ∙ ap (option_map (λ (y : ℕ × Version). y.1.trees)) there)
 
 -- it has what the commits of a caller fire, as far as its list has them
-pub firings_seen : (k : Known Version) (n : ℕ) (log : Log) → n + 1 ≤ length k.seen → front.HasFirings HasFired n k.seen log → cells.HasFirings (cells_seen (caller_of k)) n log
+pub firings_seen : (k : Known Version) (n : ℕ) (log : Log) → n + 1 ≤ length k.seen → front.HasFirstFirings HasLastFirings n k.seen log → cells.HasFirings (cells_seen (caller_of k)) n log
 firings_seen k n log count has j less c fires =
     let h = k.seen in
-    let e = there_is h j (omega (arith, less, count)) in
-    let f = there_is h (suc j) (omega (arith, less, count)) in
-    let here : HasFired (take (suc (suc j)) h) log = has (suc j) (omega (arith, less)) in
+    let e = there_within h j (omega (arith, less, count)) in
+    let f = there_within h (suc j) (omega (arith, less, count)) in
+    let here : HasLastFirings (take (suc (suc j)) h) log = has (suc j) (omega (arith, less)) in
     let first : slice_get (take (suc (suc j)) h) j ≡ Some e.0 = at_take (suc (suc j)) h j (omega arith) ∙ e.1 in
     let second : slice_get (take (suc (suc j)) h) (suc j) ≡ Some f.0 = at_take (suc (suc j)) h (suc j) (omega arith) ∙ f.1 in
     let size = length-take-le (suc (suc j)) h (omega (arith, less, count)) in
@@ -233,7 +228,7 @@ module _ (schema : DbSchema) (trees : Forest) (ids : Counter) (within : AreAllWi
   }
 
   -- any log of the book serves it
-  pub opening_fired : (log : Log) → log.book ≡ ids.book → HasFired ((0, first) ∷ []) log
+  pub opening_fired : (log : Log) → log.book ≡ ids.book → HasLastFirings ((0, first) ∷ []) log
   opening_fired log of = record { of = of; fired = λ n e f here there. absurd (cc there) }
 
 -- ---- the value after one commit more
@@ -330,12 +325,12 @@ module _ (k : Known Version) (base v : Version) (stands : StandsFor k.seen base)
   pub all_seen : base.view.number + 1 ≡ length k.seen
   all_seen = ap (λ (w : View). w.number + 1) stands.view ∙ history_length k.seen stands.begun
 
-  module _ (k' : Known Version) (made : k'.seen ≡ k.seen ++ (k.number, v) ∷ []) (old new : Log) (told : List Cell) (has : front.HasFirings HasFired base.view.number k.seen old) (later : IsLater old new) (gone : AreGone base.trees v.trees told) (fired : HaveFired new told) where
+  module _ (k' : Known Version) (made : k'.seen ≡ k.seen ++ (k.number, v) ∷ []) (old new : Log) (told : List Cell) (has : front.HasFirstFirings HasLastFirings base.view.number k.seen old) (later : IsLater old new) (gone : AreGone base.trees v.trees told) (fired : HaveFired new told) where
     -- the log has what all commits fire
-    pub turn_fires : front.HasFirings HasFired (length k'.seen - 1) k'.seen new
+    pub turn_fires : front.HasFirstFirings HasLastFirings (length k'.seen - 1) k'.seen new
     turn_fires =
         let has' = firings_later base.view.number k.seen old new later has in
-        subst (λ (h : Versions). front.HasFirings HasFired (length h - 1) h new) (sym made)
+        subst (λ (h : Versions). front.HasFirstFirings HasLastFirings (length h - 1) h new) (sym made)
         (firings_more k.seen k.number v stands.begun stands.last.1 stands.last.0 base stands.last.2 base.view.number new all_seen has' (log_of base.view.number k.seen new stands.begun has')
         (gone_fired new base.trees v.trees told gone fired))
 
@@ -348,7 +343,7 @@ module _ (k : Known Version) (base v : Version) (stands : StandsFor k.seen base)
     turn_fires_seen =
         let count = history_length k'.seen begun_so in
         let n : length k'.seen - 1 ≡ length (history_in k'.seen) = omega (arith, count) in
-        firings_seen k' (length (history_in k'.seen)) new (omega (arith, count)) (subst (λ (m : ℕ). front.HasFirings HasFired m k'.seen new) n turn_fires)
+        firings_seen k' (length (history_in k'.seen)) new (omega (arith, count)) (subst (λ (m : ℕ). front.HasFirstFirings HasLastFirings m k'.seen new) n turn_fires)
 
     -- the log is of the caller's book
     pub turn_of_book : IsBookOf k'.seen new.book
@@ -358,7 +353,7 @@ module _ (k : Known Version) (base v : Version) (stands : StandsFor k.seen base)
     turn_book = book_is k'.seen new.book turn_of_book
 
 -- so has the log of a turn of what its caller has seen
-pub turn_heard : (k : Known Version) (base : Version) (log : Log) → StandsFor k.seen base → front.HasFirings HasFired base.view.number k.seen log → cells.HasFirings (cells_seen (caller_of k)) (length (history_in k.seen)) log
+pub turn_heard : (k : Known Version) (base : Version) (log : Log) → StandsFor k.seen base → front.HasFirstFirings HasLastFirings base.view.number k.seen log → cells.HasFirings (cells_seen (caller_of k)) (length (history_in k.seen)) log
 turn_heard k base log stands has =
     let all = all_seen k base base stands in
     subst (λ n. cells.HasFirings (cells_seen (caller_of k)) n log) (ap (λ (w : View). w.number) stands.view) (firings_seen k base.view.number log (omega (arith, all)) has)

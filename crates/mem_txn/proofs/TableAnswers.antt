@@ -12,7 +12,7 @@ use Rattle.radix_node.specs.Cells.{CellTree}
 use Rattle.radix_node.specs.Ids.{Counter}
 use Rattle.table_index.specs.Table.{AnswersPut, AnswersRemove, AnswersTake, TableChange}
 use Rattle.table_index.specs.declared.wipe_error.WipeError.{WipeError}
-use Rattle.mem_txn.specs.inner.ChangesView.{BeginsAs}
+use Rattle.mem_txn.specs.inner.DbTxnView.{BeginsAs}
 use Rattle.mem_txn.specs.inner.VersionTables.{IsWithin}
 
 -- the table at a place

@@ -31,10 +31,10 @@ use Rattle.table_index.specs.contracts.table.Table
 use Rattle.table_index.specs.contracts.table_txn.TableTxn
 use Rattle.radix_node.proofs.Threads.{tree_send, tree_sync}
 use Rattle.mem_txn.specs.contracts.accepted.Accepted
-use Rattle.mem_txn.specs.contracts.changes.Changes
+use Rattle.mem_txn.specs.contracts.db_txn.DbTxn
 use Rattle.mem_txn.specs.contracts.read_txn.ReadTxn
 use Rattle.mem_txn.specs.contracts.snapshot.Snapshot
-use Rattle.mem_txn.specs.contracts.txn_table.TxnTable
+use Rattle.mem_txn.specs.contracts.lazy_table.LazyTable
 use Rattle.mem_txn.specs.contracts.view.View
 use Rattle.mem_txn.specs.contracts.version.Contents
 use Rattle.mem_txn.specs.contracts.version.Version
@@ -143,11 +143,11 @@ passes_send = search (sendable, version_send, version_sync, tokens.the_send) dep
 pub turn_send : IsSend Turn.the_row
 turn_send = search (sendable, crosses, version_send, version_sync, token.the_send) depth 20
 
-txn_table-send : IsSend TxnTable.the_row
-txn_table-send = search (sendable, crosses, table_send, table_sync, table_change_send) depth 20
+lazy_table-send : IsSend LazyTable.the_row
+lazy_table-send = search (sendable, crosses, table_send, table_sync, table_change_send) depth 20
 
-pub changes_send : IsSend Changes.the_row
-changes_send = search (sendable, crosses, turn_send, txn_table-send, accepted_send, ids-send) depth 20
+pub db_txn_send : IsSend DbTxn.the_row
+db_txn_send = search (sendable, crosses, turn_send, lazy_table-send, accepted_send, ids-send) depth 20
 
 pub read_send : IsSend ReadTxn.the_row
 read_send = search (sendable, crosses, version_send, version_sync) depth 20

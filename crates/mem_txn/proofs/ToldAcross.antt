@@ -1,11 +1,11 @@
 -- What a commit's log tells whoever holds a watch.
 use Rattle.std.proofs.Common.{◌≡◌, ◌∙◌, ◌≤◌, ℕ, List, [], ◌∷◌, length, slice_get, Contains, inl, inr, refl, sym, ap, subst, arith}
 use mathlib.Core.List.{IsPrefix}
+use Rattle.mdb_datum.proofs.ListPlaces.{there_within}
 use Rattle.mdb_schema.specs.Answer.{ask}
 use Rattle.mdb_schema.specs.History.{History, state_at}
 use Rattle.mdb_schema.specs.Schema.{DbSchema}
 use Rattle.mdb_schema.proofs.Membership.{Contains-cons_cases, Contains-nil}
-use Rattle.table_index.proofs.WipeSteps.{there_within}
 use Rattle.mem_txn.specs.CellHistory.{Forest, cell_at, forest_or_none, question_cell}
 use Rattle.mem_txn.specs.Checked.{IsBeginning}
 use Rattle.mem_txn.specs.Database.{AreIn, AreOf, Caller, Database, HaveSeenTrees, cells_seen}

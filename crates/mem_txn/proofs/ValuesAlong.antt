@@ -3,12 +3,12 @@ use Rattle.std.proofs.Common.{◌≡◌, ◌∙◌, ◌<◌, ℕ, suc, List, [],
 use Rattle.std.specs.Prelude.{All}
 use Rattle.std.proofs.lemmas.List.{length-map}
 use Rattle.std.proofs.lemmas.Option.{slice_get-map}
+use Rattle.mdb_datum.proofs.ListPlaces.{there_within}
 use Rattle.mdb_schema.specs.Schema.{DbSchema}
 use Rattle.mdb_schema.specs.State.{State}
 use Rattle.mdb_schema.specs.Touched.{rows_written}
 use Rattle.mdb_schema.specs.Write.{Write}
 use Rattle.table_index.specs.Watched.{HoldsRows}
-use Rattle.table_index.proofs.WipeSteps.{there_within}
 use Rattle.mem_txn.specs.CellHistory.{CellHistory, Forest, forest_or_none, state_after, trees_after}
 use Rattle.mem_txn.specs.Database.{View}
 use Rattle.mem_txn.specs.inner.Steps.{AreSteps, AreTableSteps, IsStep, tables_with}

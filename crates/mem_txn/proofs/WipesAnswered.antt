@@ -24,14 +24,14 @@ use Rattle.mdb_schema.proofs.WipeLaws.{wiped_once}
 use Rattle.table_index.specs.Table.{AreSpent, TableChange}
 use Rattle.table_index.specs.declared.wipe_error.WipeError.{WipeError}
 use Rattle.table_index.specs.declared.wipe_error.WipeError.TheVariants.{Refused}
-use Rattle.mem_txn.specs.Changes.{AnswersRemovals, AnswersTxnWipe, Changes, IsFull, present, table_seen}
+use Rattle.mem_txn.specs.DbTxn.{AnswersRemovals, AnswersTxnWipe, DbTxn, IsFull, present, table_seen}
 use Rattle.mem_txn.specs.Database.{Caller, state_seen}
 use Rattle.mem_txn.specs.declared.txn_error.TxnWipeError.{TxnWipeError}
 use Rattle.mem_txn.specs.declared.txn_error.TxnWipeError.TheVariants as wipe_refused
 use Rattle.mem_txn.specs.declared.wipe.Wipe.{Wipe}
 use Rattle.mem_txn.specs.declared.wipe.Wipe.TheVariants.{Listed, ByPrefix}
 use Rattle.radix_node.specs.Ids.{Counter}
-use Rattle.mem_txn.specs.inner.ChangesView.{AreCounted}
+use Rattle.mem_txn.specs.inner.DbTxnView.{AreCounted}
 use Rattle.mem_txn.specs.CellHistory.{Forest}
 use Rattle.mem_txn.specs.inner.VersionTables.{AreChangesOf, StandFor, Tables}
 use Rattle.mem_txn.specs.inner.Versions.{Turned}
@@ -66,24 +66,24 @@ abbrev txn_wiped : Result ℕ WipeError → Result ℕ TxnWipeError
 txn_wiped (Ok n) = Ok n
 txn_wiped (Err e) = Err (wipe_refused.Refused e)
 
-module _ (how : Wipe) (q : Query) (old : Changes) (sound : old.spoiled ≡ false) where
+module _ (how : Wipe) (q : Query) (old : DbTxn) (sound : old.spoiled ≡ false) where
   abbrev told : Asked (List Write)
   told = wipe_by how old.caller.schema (present old) q
 
-  unspoiled : (result : Result ℕ TxnWipeError) (new : Changes) → AnswersTxnWipe false q.table told result old new → AnswersTxnWipe old.spoiled q.table told result old new
+  unspoiled : (result : Result ℕ TxnWipeError) (new : DbTxn) → AnswersTxnWipe false q.table told result old new → AnswersTxnWipe old.spoiled q.table told result old new
   unspoiled result new answers = subst (λ (b : Bool). AnswersTxnWipe b q.table told result old new) (sym sound) answers
 
-  abbrev OfTable : Result ℕ TxnWipeError → Changes → Option Table → Type 0
+  abbrev OfTable : Result ℕ TxnWipeError → DbTxn → Option Table → Type 0
   OfTable result new o = MatchOption o ((result ≡ Err wipe_refused.UnknownTable) × (new ≡ old)) (λ t. AnswersRemovals told result old new)
 
   -- no such table
-  pub wipe_unknown : (new : Changes) → new ≡ old → table_place q.table old.caller.schema ≡ None → AnswersTxnWipe old.spoiled q.table told (Err wipe_refused.UnknownTable) old new
+  pub wipe_unknown : (new : DbTxn) → new ≡ old → table_place q.table old.caller.schema ≡ None → AnswersTxnWipe old.spoiled q.table told (Err wipe_refused.UnknownTable) old new
   wipe_unknown new same none =
       let result : Result ℕ TxnWipeError = Err wipe_refused.UnknownTable in
       unspoiled result new (subst (OfTable result new) (sym (table_at-none old.caller.schema (present old) q.table none)) (refl, same))
 
   -- the transaction with these writes
-  abbrev Leaves : Result ℕ WipeError → List Write → Changes → Type 0
+  abbrev Leaves : Result ℕ WipeError → List Write → DbTxn → Type 0
   Leaves (Ok n) writes' new = new ≡ record old { writes = writes' }
   Leaves (Err e) writes' new = new ≡ record old { writes = writes'; spoiled = is_memory e }
 
@@ -92,17 +92,17 @@ module _ (how : Wipe) (q : Query) (old : Changes) (sound : old.spoiled ≡ false
   rule_told why = sym sound
 
   -- the writes are as they were, and the transaction is spoiled or not
-  kept : (e : WipeError) (writes' : List Write) (new : Changes) (b : Bool) → Leaves (Err e) writes' new → writes' ≡ old.writes → is_memory e ≡ b → new ≡ record old { spoiled = b }
+  kept : (e : WipeError) (writes' : List Write) (new : DbTxn) (b : Bool) → Leaves (Err e) writes' new → writes' ≡ old.writes → is_memory e ≡ b → new ≡ record old { spoiled = b }
   kept e writes' new b leaves same told =
       leaves
-      ∙ ap (λ (ws : List Write). let c : Changes = record old { writes = ws; spoiled = is_memory e } in c) same
-      ∙ ap (λ (d : Bool). let c : Changes = record old { spoiled = d } in c) told
+      ∙ ap (λ (ws : List Write). let c : DbTxn = record old { writes = ws; spoiled = is_memory e } in c) same
+      ∙ ap (λ (d : Bool). let c : DbTxn = record old { spoiled = d } in c) told
 
   module _ (turn : Turned) (mine : turn.caller ≡ old.caller) (ids ids' : Counter) (counted : AreCounted turn (length old.writes) ids) where
     full : (rows : ℕ) → AreSpent ids.next rows → IsFull rows old
     full rows spent = subst (λ (p : Caller). 2 ^ 36 ≤ writes_in p.seen + length old.writes + rows) mine (ids_full ids.next (writes_in turn.caller.seen + length old.writes) rows counted.few spent)
 
-    gives_up : (gone : List Fields) (e : WipeError) (before after : TableChange) (writes' : List Write) (new : Changes) → GivesUp (length gone) e ids ids' before after → writes' ≡ old.writes → Leaves (Err e) writes' new
+    gives_up : (gone : List Fields) (e : WipeError) (before after : TableChange) (writes' : List Write) (new : DbTxn) → GivesUp (length gone) e ids ids' before after → writes' ≡ old.writes → Leaves (Err e) writes' new
         → AnswersRemovals (removed q.table (Ok gone)) (Err (wipe_refused.Refused e)) old new
     gives_up gone e before after writes' new (inr memory) same leaves = inr (ap wipe_refused.Refused memory, kept e writes' new true leaves same (ap is_memory memory))
     gives_up gone e before after writes' new (inl spent) same leaves =
@@ -114,11 +114,11 @@ module _ (how : Wipe) (q : Query) (old : Changes) (sound : old.spoiled ≡ false
           same = kept e writes' new old.spoiled leaves same quiet;
         })
 
-    answer : (r : Asked (List Fields)) (result : Result ℕ WipeError) (before after : TableChange) (writes' : List Write) (new : Changes) → JoinsGone q.table r result ids ids' before after old.writes writes'
+    answer : (r : Asked (List Fields)) (result : Result ℕ WipeError) (before after : TableChange) (writes' : List Write) (new : DbTxn) → JoinsGone q.table r result ids ids' before after old.writes writes'
         → Leaves result writes' new → AnswersRemovals (removed q.table r) (txn_wiped result) old new
     answer (Ok gone) (Ok n) before after writes' new joins leaves = (
       joins.0 ∙ sym (length-map gone (remove q.table)),
-      leaves ∙ ap (λ (ws : List Write). let c : Changes = record old { writes = ws } in c) joins.2,
+      leaves ∙ ap (λ (ws : List Write). let c : DbTxn = record old { writes = ws } in c) joins.2,
     )
     answer (Ok gone) (Err e) before after writes' new joins leaves = gives_up gone e before after writes' new joins.0 joins.1 leaves
     answer (Err why) (Ok n) before after writes' new joins leaves = let no_way : Ok n ≡ Err (Refused (ask_error why)) = joins.0.0 in cc
@@ -140,7 +140,7 @@ module _ (how : Wipe) (q : Query) (old : Changes) (sound : old.spoiled ≡ false
     seen : table_seen old q.table ≡ Some table
     seen = table_at-some old.caller.schema (present old) q.table table there
 
-    pub wipe_answer : (turn : Turned) → turn.caller ≡ old.caller → AreCounted turn (length old.writes) tables.ids → (new : Changes) → Leaves result writes' new → AnswersTxnWipe old.spoiled q.table told (txn_wiped result) old new
+    pub wipe_answer : (turn : Turned) → turn.caller ≡ old.caller → AreCounted turn (length old.writes) tables.ids → (new : DbTxn) → Leaves result writes' new → AnswersTxnWipe old.spoiled q.table told (txn_wiped result) old new
     wipe_answer turn mine counted new leaves =
         unspoiled (txn_wiped result) new
         (subst (OfTable (txn_wiped result) new) (sym seen)
@@ -218,7 +218,7 @@ module _ (how : Wipe) (q : Query) (old : Changes) (sound : old.spoiled ≡ false
     stays (Ok gone) e quiet (inl spent, same) = record { kept_tables = same_tables spent.0.same; kept_ids = spent.1; kept_writes = same }
     stays (Err why) e quiet joins = record { kept_tables = same_tables joins.0.1; kept_ids = joins.0.2; kept_writes = joins.1 }
 
-module _ (how : Wipe) (q : Query) (old : Changes) (sound : old.spoiled ≡ false) (place : ℕ) (found : table_place q.table old.caller.schema ≡ Some place)
+module _ (how : Wipe) (q : Query) (old : DbTxn) (sound : old.spoiled ≡ false) (place : ℕ) (found : table_place q.table old.caller.schema ≡ Some place)
     (tables tables' : Tables) (stand : StandFor tables.tables old.caller.schema (present old)) (writes' : List Write) where
   -- the tables stand for the state with the removals
   pub wipe_stand : (n : ℕ) (at : JoinsGoneAt (λ t. wiped_by how t.schema t.rows q) place q.table (Ok n) tables tables' old.writes writes') → IsLawfulTable at.before.schema

@@ -1,7 +1,8 @@
 -- What a write transaction answers a write, of what its tables and its list of writes tell.
-use Rattle.std.proofs.Common.{◌≡◌, ◌∙◌, ◌<◌, ◌≤◌, ◌+◌, ◌^◌, ◌++◌, ℕ, zero, suc, List, [], ◌∷◌, length, slice_get, append-nil, Bool, true, false, Option, Some, None, Result, Ok, Err, inl, inr, refl, sym, ap, subst, arith}
+use Rattle.std.proofs.Common.{◌≡◌, ◌∙◌, ◌<◌, ◌≤◌, ◌+◌, ◌^◌, ◌++◌, ℕ, List, [], ◌∷◌, length, slice_get, append-nil, Bool, true, false, Option, Some, None, Result, Ok, Err, inl, inr, refl, sym, ap, subst}
 use Rattle.std.specs.Prelude.{◌⊎◌, Contains, MatchOption, option_to_list}
 use Rattle.mdb_datum.specs.Row.{Fields}
+use Rattle.mdb_datum.proofs.ListPlaces.{there_within}
 use Rattle.mdb_schema.specs.History.{after_writes, state_or, writes_in}
 use Rattle.mdb_schema.specs.Schema.{TableSchema, DbSchema, table_place}
 use Rattle.mdb_schema.specs.State.{State, Table}
@@ -11,11 +12,11 @@ use Rattle.mdb_schema.specs.declared.write_error.WriteError.{WriteError}
 use Rattle.mdb_schema.specs.declared.write_error.WriteError.TheVariants.{Memory}
 use Rattle.mdb_schema.proofs.Tables.{table_at-some, table_place-name}
 use Rattle.table_index.specs.Table.{AreSpent, TableChange}
-use Rattle.mem_txn.specs.Changes.{AnswersStep, AnswersTxnWrite, Changes, IsFull, IsSpoiledBy, present, table_seen, with_writes}
+use Rattle.mem_txn.specs.DbTxn.{AnswersStep, AnswersTxnWrite, DbTxn, IsFull, IsSpoiledBy, present, table_seen, with_writes}
 use Rattle.mem_txn.specs.Database.{Caller, state_seen}
 use Rattle.mem_txn.specs.declared.txn_error.TxnWriteError.{TxnWriteError}
 use Rattle.mem_txn.specs.declared.txn_error.TxnWriteError.TheVariants as write_refused
-use Rattle.mem_txn.specs.inner.ChangesView.{AreCounted}
+use Rattle.mem_txn.specs.inner.DbTxnView.{AreCounted}
 use Rattle.mem_txn.specs.CellHistory.{Forest}
 use Rattle.mem_txn.specs.inner.VersionTables.{AnswersAt, AreChangesOf, StandFor, Tables, is_memory}
 use Rattle.mem_txn.specs.inner.Versions.{Turned}
@@ -25,26 +26,21 @@ use Rattle.mem_txn.proofs.SinceBegun.{rows_of_one, since_more}
 use Rattle.mem_txn.proofs.TablesFound.{schema_there, table_at-none}
 use Rattle.table_index.proofs.WriteAnswers.{told_memory}
 
-pub there_is : {X : Type 0} (xs : List X) (at : ℕ) → at < length xs → (x : X) × (slice_get xs at ≡ Some x)
-there_is [] at within = absurd (omega arith)
-there_is (x ∷ xs) zero within = (x, refl)
-there_is (x ∷ xs) (suc at) within = there_is xs at (omega arith)
-
 module _ {A : Type 0} (gives : Option Fields → A → Type 0) (w : Write) (change : TableSchema → List Fields → Tested Changed)
     (is_step : (schema : DbSchema) (s : State) → step schema s w ≡ step_in schema s (table_of w) (λ (t : Table). change t.schema t.rows))
-    (old : Changes) (sound : old.spoiled ≡ false) where
+    (old : DbTxn) (sound : old.spoiled ≡ false) where
   abbrev change_in : TableChange → Tested Changed
   change_in t = change t.schema t.rows
 
   abbrev told : Stepped
   told = step old.caller.schema (present old) w
 
-  unspoiled : (result : Result A TxnWriteError) (new : Changes) → AnswersTxnWrite gives w false result old new → AnswersTxnWrite gives w old.spoiled result old new
+  unspoiled : (result : Result A TxnWriteError) (new : DbTxn) → AnswersTxnWrite gives w false result old new → AnswersTxnWrite gives w old.spoiled result old new
   unspoiled result new answers = subst (λ (b : Bool). AnswersTxnWrite gives w b result old new) (sym sound) answers
 
   -- ---- no such table
 
-  pub unknown : (new : Changes) → new ≡ old → table_place (table_of w) old.caller.schema ≡ None → AnswersTxnWrite gives w old.spoiled (Err write_refused.UnknownTable) old new
+  pub unknown : (new : DbTxn) → new ≡ old → table_place (table_of w) old.caller.schema ≡ None → AnswersTxnWrite gives w old.spoiled (Err write_refused.UnknownTable) old new
   unknown new same none =
       let result : Result A TxnWriteError = Err write_refused.UnknownTable in
       unspoiled result new
@@ -53,7 +49,7 @@ module _ {A : Type 0} (gives : Option Fields → A → Type 0) (w : Write) (chan
 
   module _ (place : ℕ) (found : table_place (table_of w) old.caller.schema ≡ Some place) (tables tables' : Tables) (stand : StandFor tables.tables old.caller.schema (present old)) where
     -- of a table of the schema
-    of_table : (result : Result A TxnWriteError) (new : Changes) (t : TableChange) → slice_get tables.tables place ≡ Some t → AnswersStep gives w told result old new → AnswersTxnWrite gives w old.spoiled result old new
+    of_table : (result : Result A TxnWriteError) (new : DbTxn) (t : TableChange) → slice_get tables.tables place ≡ Some t → AnswersStep gives w told result old new → AnswersTxnWrite gives w old.spoiled result old new
     of_table result new t there answers =
         let table : Table = record { place = place; schema = t.schema; rows = t.rows } in
         let seen : table_seen old (table_of w) ≡ Some table =
@@ -63,7 +59,7 @@ module _ {A : Type 0} (gives : Option Fields → A → Type 0) (w : Write) (chan
 
     -- ---- accepted
 
-    module _ (x : A) (at : AnswersAt gives (row_put w) change_in place (Ok x) tables tables') (new : Changes) (joined : new ≡ with_writes old (w ∷ [])) where
+    module _ (x : A) (at : AnswersAt gives (row_put w) change_in place (Ok x) tables tables') (new : DbTxn) (joined : new ≡ with_writes old (w ∷ [])) where
       pub joins_answer : AnswersTxnWrite gives w old.spoiled (Ok x) old new
       joins_answer =
           let a = accepted gives (row_put w) change old.caller.schema (present old) (table_of w) place found tables tables' stand x at in
@@ -102,16 +98,16 @@ module _ {A : Type 0} (gives : Option Fields → A → Type 0) (w : Write) (chan
 
     -- ---- refused
 
-    memory_step : (r : Stepped) (e : WriteError) (new : Changes) → e ≡ Memory → IsSpoiledBy old new → AnswersStep gives w r (Err (write_refused.Refused e)) old new
+    memory_step : (r : Stepped) (e : WriteError) (new : DbTxn) → e ≡ Memory → IsSpoiledBy old new → AnswersStep gives w r (Err (write_refused.Refused e)) old new
     memory_step (Ok after) e new memory spoiled = inr (ap write_refused.Refused memory, spoiled)
     memory_step (Err why) e new memory spoiled = inr (ap write_refused.Refused memory, spoiled)
 
-    module _ (e : WriteError) (new : Changes) (is : new ≡ record old { spoiled = is_memory e }) where
+    module _ (e : WriteError) (new : DbTxn) (is : new ≡ record old { spoiled = is_memory e }) where
       memory_answer : e ≡ Memory → place < length tables.tables → AnswersTxnWrite gives w old.spoiled (Err (write_refused.Refused e)) old new
       memory_answer memory within =
-          let t = there_is tables.tables place within in
+          let t = there_within tables.tables place within in
           of_table (Err (write_refused.Refused e)) new t.0 t.1
-          (memory_step told e new memory (is ∙ ap (λ (b : Bool). let c : Changes = record old { spoiled = b } in c) (ap is_memory memory)))
+          (memory_step told e new memory (is ∙ ap (λ (b : Bool). let c : DbTxn = record old { spoiled = b } in c) (ap is_memory memory)))
 
       loud : {X : Type 0} → e ≡ Memory → is_memory e ≡ false → X
       loud memory quiet = let yes : is_memory e ≡ true = ap is_memory memory in absurd (cc)
@@ -149,7 +145,7 @@ module _ {A : Type 0} (gives : Option Fields → A → Type 0) (w : Write) (chan
         spent_answer : (t : TableChange) → slice_get tables.tables place ≡ Some t → Spends gives (row_put w) change old.caller.schema (present old) (table_of w) place found tables tables' stand e → AnswersTxnWrite gives w old.spoiled (Err (write_refused.Refused e)) old new
         spent_answer t there spent =
             let quiet : is_memory e ≡ old.spoiled = ap is_memory spent.error ∙ sym sound in
-            let same : new ≡ old = is ∙ ap (λ (b : Bool). let c : Changes = record old { spoiled = b } in c) quiet in
+            let same : new ≡ old = is ∙ ap (λ (b : Bool). let c : DbTxn = record old { spoiled = b } in c) quiet in
             of_table (Err (write_refused.Refused e)) new t there
             (subst (λ (s : Stepped). AnswersStep gives w s (Err (write_refused.Refused e)) old new) (sym (is_step old.caller.schema (present old) ∙ spent.step))
             (inl (record { error = ap write_refused.Refused spent.error; full = full spent.few; same = same })))
@@ -157,7 +153,7 @@ module _ {A : Type 0} (gives : Option Fields → A → Type 0) (w : Write) (chan
         answer_of : place < length tables.tables → (t : TableChange) → slice_get tables.tables place ≡ Some t → Failure → AnswersTxnWrite gives w old.spoiled (Err (write_refused.Refused e)) old new
         answer_of within t there (inl r) =
             let quiet : is_memory e ≡ old.spoiled = ap is_memory r.1.error ∙ told_memory r.0 ∙ sym sound in
-            let same : new ≡ old = is ∙ ap (λ (b : Bool). let c : Changes = record old { spoiled = b } in c) quiet in
+            let same : new ≡ old = is ∙ ap (λ (b : Bool). let c : DbTxn = record old { spoiled = b } in c) quiet in
             of_table (Err (write_refused.Refused e)) new t there
             (subst (λ (s : Stepped). AnswersStep gives w s (Err (write_refused.Refused e)) old new) (sym (is_step old.caller.schema (present old) ∙ r.1.stepped))
             (inl (ap write_refused.Refused r.1.error, same)))

@@ -64,9 +64,9 @@ pub record IsLate (p : Caller) (h : HeldWatch) : Type 0 where
   pub same : let spot = h.spot in cell_at (cells_seen p) h.query (length p.seen) ≡ Some spot.watch
 
 -- what a check tells of the commits that the caller now has seen
-abbrev pub Tells : Caller → HeldWatch → Look → Type 0
-Tells p h (look.Quiet at) = IsQuiet p h at
-Tells p h (look.Fired at) = IsFired p h at
+abbrev pub IsLookAt : Caller → HeldWatch → Look → Type 0
+IsLookAt p h (look.Quiet at) = IsQuiet p h at
+IsLookAt p h (look.Fired at) = IsFired p h at
 
 abbrev pub number_of : Look → ℕ
 number_of (look.Quiet at) = at
@@ -101,7 +101,7 @@ LooksOnce old new = (times : ℕ) × ReadsAgain times old new
 
 -- a check of a watch is one look, and tells of all commits that the caller then has seen
 abbrev pub AnswersCheck : Caller → Caller → HeldWatch → Look → Type 0
-AnswersCheck old new h l = LooksOnce old new × (number_of l ≡ length new.seen) × Tells new h l
+AnswersCheck old new h l = LooksOnce old new × (number_of l ≡ length new.seen) × IsLookAt new h l
 
 -- ---- what holds of every caller
 

@@ -1,9 +1,12 @@
+pub mod AskedSpots
 pub mod CallerOf
 pub mod CellHistory
-pub mod Changes
 pub mod Checked
+pub mod Codes
 pub mod Database
+pub mod DbTxn
 pub mod Held
+pub mod HeldCode
 pub mod Told
 pub mod Transactions
 pub mod inner

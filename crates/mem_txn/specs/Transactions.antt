@@ -7,7 +7,7 @@ use Rattle.mdb_schema.specs.Net as model
 use Rattle.mdb_schema.specs.Query.{Query}
 use Rattle.watch_word.specs.Logs.{Cell, IsLater, Log, has_fired}
 use Rattle.mem_txn.specs.CellHistory.{CellHistory, Forest, HasFirings, cell_at}
-use Rattle.mem_txn.specs.Changes.{Changes, after_commit, begun, present}
+use Rattle.mem_txn.specs.DbTxn.{DbTxn, after_commit, new_txn, present}
 use Rattle.mem_txn.specs.Checked.{HasHeard}
 use Rattle.mem_txn.specs.Database.{Caller, HasRead, HasSeen, View, cells_seen, state_seen}
 use Rattle.mem_txn.specs.declared.deferred.DeferredList.{DeferredList}
@@ -28,14 +28,14 @@ abbrev pub deferred_items : {D : Type 0} → DeferredList D → List D
 deferred_items l = reverse l.items.items
 
 -- the caller's transaction in one
-abbrev pub changes_of : {D : Type 0} → WriteTxn D → Changes
-changes_of t = t.changes
+abbrev pub txn_of : {D : Type 0} → WriteTxn D → DbTxn
+txn_of t = t.db_txn
 
 -- its deferred items, in the order in which they were deferred
 abbrev pub items_of : {D : Type 0} → WriteTxn D → List D
 items_of t = t.deferred.items
 
--- why no transaction is begun: want of memory, or exactly at as many commits as are counted
+-- why no transaction is new_txn: want of memory, or exactly at as many commits as are counted
 abbrev pub IsRefused : Caller → Caller → BeginError → Type 0
 IsRefused old new begin_errors.Memory = Unit {0}
 IsRefused old new begin_errors.CommitsSpent =
@@ -49,8 +49,8 @@ HasWonAtLast old new = any.WonAtLast (λ (p : Caller). p.tries) old new
 -- the caller is told why not, and has its pass back
 abbrev pub AnswersBegin : {D : Type 0} → Caller → Result (WriteTxn D) BeginRefused → Type 0
 AnswersBegin p (Ok t) =
-    let q = (changes_of t).caller in HasSeen p q × HasRead p q (length q.seen)
-    × (length q.seen < 2 ^ 63) × (changes_of t ≡ begun q) × (items_of t ≡ []) × HasWonAtLast p q
+    let q = (txn_of t).caller in HasSeen p q × HasRead p q (length q.seen)
+    × (length q.seen < 2 ^ 63) × (txn_of t ≡ new_txn q) × (items_of t ≡ []) × HasWonAtLast p q
 AnswersBegin p (Err refused) =
     HasSeen p refused.pass × IsRefused p refused.pass refused.cause × HasWonAtLast p refused.pass
 
@@ -66,7 +66,7 @@ HasLost callers old new = any.Lost (λ (p : Caller). p.tries) (λ p. p.number)
 -- the same of a call that makes one try: exactly where that found the number of another of so many
 -- callers, the turn is taken
 abbrev pub AnswersTry : {D : Type 0} → ℕ → Caller → Result (Tried D) BeginRefused → Type 0
-AnswersTry callers p (Ok (tried.Begun t)) = AnswersBegin p (Ok t) × HasWon p (changes_of t).caller
+AnswersTry callers p (Ok (tried.Begun t)) = AnswersBegin p (Ok t) × HasWon p (txn_of t).caller
 AnswersTry callers p (Ok (tried.Taken q)) = HasLost callers p q
 AnswersTry callers p (Err refused) =
     HasSeen p refused.pass × IsRefused p refused.pass refused.cause × HasWon p refused.pass
@@ -90,14 +90,14 @@ TellsChanges J log =
 -- made them: so it has the cell of each question whose answer has changed, whoever watches it.
 pub record IsCommitted {D : Type 0} (t : WriteTxn D) (c : Committed D) : Type 0 where
   pub trees : Forest
-  pub pass : c.pass ≡ after_commit (changes_of t) trees c.receipt.log
-  pub number : c.receipt.number ≡ length (changes_of t).caller.seen + 1
+  pub pass : c.pass ≡ after_commit (txn_of t) trees c.receipt.log
+  pub number : c.receipt.number ≡ length (txn_of t).caller.seen + 1
   pub few : c.receipt.number ≤ 2 ^ 63
   pub items : deferred_items c.receipt.items ≡ reverse (items_of t)
   pub changes : c.receipt.changes
-      ≡ model.changes (changes_of t).caller.schema (state_seen (changes_of t).caller)
-      (present (changes_of t))
-  pub later : let old = (changes_of t).caller in IsLater old.log c.receipt.log
+      ≡ model.changes (txn_of t).caller.schema (state_seen (txn_of t).caller)
+      (present (txn_of t))
+  pub later : let old = (txn_of t).caller in IsLater old.log c.receipt.log
   pub book : c.receipt.log.book ≡ c.pass.book
   pub heard : HasHeard c.pass
   pub fired : HasFirings (cells_seen c.pass) c.receipt.number c.receipt.log
@@ -106,7 +106,7 @@ pub record IsCommitted {D : Type 0} (t : WriteTxn D) (c : Committed D) : Type 0 
 -- a commit is made, or refused and the caller is as it was: exactly a spoiled transaction is told
 -- so
 abbrev pub AnswersCommit : {D : Type 0} → WriteTxn D → Result (Committed D) CommitRefused → Type 0
-AnswersCommit t (Ok c) = ((changes_of t).spoiled ≡ false) × IsCommitted t c
-AnswersCommit t (Err refused) = (refused.pass ≡ (changes_of t).caller)
-    × ((((changes_of t).spoiled ≡ true) × (refused.cause ≡ commit_errors.Spoiled))
-    ⊎ (((changes_of t).spoiled ≡ false) × (refused.cause ≡ commit_errors.Memory)))
+AnswersCommit t (Ok c) = ((txn_of t).spoiled ≡ false) × IsCommitted t c
+AnswersCommit t (Err refused) = (refused.pass ≡ (txn_of t).caller)
+    × ((((txn_of t).spoiled ≡ true) × (refused.cause ≡ commit_errors.Spoiled))
+    ⊎ (((txn_of t).spoiled ≡ false) × (refused.cause ≡ commit_errors.Memory)))

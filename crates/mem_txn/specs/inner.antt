@@ -1,15 +1,13 @@
 pub mod Accepted
-pub mod ChangesView
 pub mod Commits
+pub mod DbTxnView
 pub mod EmptyTables
 pub mod Ended
 pub mod Firing
 pub mod HeldView
 pub mod Looks
 pub mod Steps
-pub mod Stored
 pub mod StoredChange
-pub mod StoredHeld
 pub mod Values
 pub mod VersionTables
 pub mod Versions

@@ -26,7 +26,7 @@ pub(crate) struct Accepted {
 
 impl Model for Accepted {
     ghost use Rattle.mdb_schema.specs.Write.{Write};
-    ghost use Rattle.mem_txn.specs.inner.Stored.{write_code};
+    ghost use Rattle.mem_txn.specs.Codes.{write_code};
 
     ghost Value = { Write };
 

@@ -3,8 +3,8 @@ ghost use Rattle.mem_txn.specs.Database.{IsOf};
 ghost use Rattle.mem_txn.specs.Transactions.{AnswersBegin, AnswersTry};
 ghost use Rattle.mem_txn.specs.inner.Commits.{AnswersTurn};
 
-use crate::changes::Changes;
 use crate::db::Db;
+use crate::db_txn::DbTxn;
 use crate::outcome::{BeginRefused, Tried};
 use crate::pass::Pass;
 use crate::turn::Turn;
@@ -67,7 +67,7 @@ fn begun<D: Drop>(db: &Db, turn: Turn) -> Result<WriteTxn<D>, BeginRefused>
     }
     match turn.tables(db.alloc) {
         Ok(tables) => Ok(WriteTxn {
-            changes: Changes::begun(db.alloc, turn, number, tables),
+            db_txn: DbTxn::begun(db.alloc, turn, number, tables),
             deferred: Vec::new(db.alloc),
         }),
         Err(_) => Err(BeginRefused {

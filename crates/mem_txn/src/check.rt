@@ -1,9 +1,10 @@
 //! Checks of held watches.
 ghost use Rattle.std.specs.Prelude.{◌≡◌, IfNone, IfOk, IfSome, length};
-ghost use Rattle.mem_txn.specs.Checked.{AnswersCheck, HasHeard, Hears, IsHeldBy, IsLate, Tells};
+ghost use Rattle.mem_txn.specs.Checked.{AnswersCheck, HasHeard, Hears, IsHeldBy, IsLate, IsLookAt};
 ghost use Rattle.mem_txn.specs.Checked.{number_of};
 ghost use Rattle.mem_txn.specs.Database.{HasSeen, IsOf, reading_of};
-ghost use Rattle.mem_txn.specs.inner.Looks.{Finds, IsAsked};
+ghost use Rattle.mem_txn.specs.inner.Looks.{Finds};
+ghost use Rattle.mem_txn.specs.AskedSpots.{IsAsked};
 
 use crate::db::Db;
 use crate::held::Held;
@@ -51,7 +52,7 @@ impl ReadTxn {
         requires heard { HasHeard pass.old }
         requires held { IsHeldBy pass.old held.now }
         ensures look { IfSome result
-            (λ l. (number_of l ≡ length pass.new.seen) × Tells pass.new held.now l) }
+            (λ l. (number_of l ≡ length pass.new.seen) × IsLookAt pass.new held.now l) }
         ensures late { IfNone result (IsLate pass.new held.now) }
         ensures hears { Hears pass.old pass.new }
         ensures heard { HasHeard pass.new }

@@ -1,10 +1,10 @@
 //! Commits of write transactions.
 ghost use Rattle.mem_txn.specs.Database.{IsOf};
-ghost use Rattle.mem_txn.specs.inner.Commits.{AnswersChanges};
+ghost use Rattle.mem_txn.specs.inner.Commits.{AnswersDbTxn};
 
 use crate::change_list::ChangeList;
-use crate::changes::{Changes, Next};
 use crate::db::Db;
+use crate::db_txn::{DbTxn, Next};
 use crate::outcome::CommitRefused;
 use crate::pass::Pass;
 use crate::txn_error::CommitError;
@@ -16,19 +16,19 @@ use watch_word::Front;
 /// taken before the new state is shown.
 pub(crate) fn commit<R: Wait>(
     rt: &R,
-    changes: Changes,
+    txn: DbTxn,
     db: &Db,
 ) -> Result<(Pass, Front, ChangeList), CommitRefused>
-    requires own { IsOf db.now changes.caller }
-    ensures { AnswersChanges changes result }
+    requires own { IsOf db.now txn.caller }
+    ensures { AnswersDbTxn txn result }
 {
-    if changes.spoiled() {
+    if txn.spoiled() {
         return Err(CommitRefused {
-            pass: changes.abort(db),
+            pass: txn.abort(db),
             cause: CommitError::Spoiled,
         });
     }
-    match changes.freeze(db) {
+    match txn.freeze(db) {
         Ok((turn, next)) => {
             let Next {
                 ready,

@@ -5,7 +5,7 @@ ghost use Rattle.mem_txn.specs.CellHistory.{CellHistory, Forest};
 ghost use Rattle.mem_txn.specs.Checked.{HasHeard};
 ghost use Rattle.mem_txn.specs.Database.{AreAll, AreOf, HasRead, HasSeen, IsOf, IsWhole};
 ghost use Rattle.mem_txn.specs.Database.{new_callers, reading_after, reading_of};
-ghost use Rattle.mem_txn.specs.inner.Steps.{HasFired};
+ghost use Rattle.mem_txn.specs.inner.Steps.{HasLastFirings};
 ghost use Rattle.mem_txn.specs.inner.Versions.{StandsFor};
 
 use crate::pass::{Pass, hear};
@@ -33,7 +33,7 @@ pub struct Db {
 
 impl Model for Db {
     ghost use Rattle.mem_txn.specs.Database.{Database};
-    ghost use Rattle.mem_txn.specs.inner.Stored.{database_code};
+    ghost use Rattle.mem_txn.specs.Codes.{database_code};
 
     ghost Value = { Database };
 
@@ -136,7 +136,7 @@ fn opening(
     ensures schema { IfOk result (λ value. let v = arc_value value in v.view.schema ≡ schema) }
     ensures stands { IfOk result
         (λ value. let v = arc_value value in StandsFor ((0, v) ∷ []) v) }
-    ensures log { IfOk result (λ value. HasFired ((0, arc_value value) ∷ []) log.now) }
+    ensures log { IfOk result (λ value. HasLastFirings ((0, arc_value value) ∷ []) log.now) }
 {
     let mut ids = Ids::starting(book, 0);
     let view = View::empty(alloc, schema, log, &mut ids)?;
@@ -153,7 +153,7 @@ fn shared_by(
 ) -> Result<(Db, Passes), AllocError>
     requires callers { (1 ≤ callers) × (callers ≤ 64) }
     requires stands { let v = arc_value value in StandsFor ((0, v) ∷ []) v }
-    requires log { HasFired ((0, arc_value value) ∷ []) log }
+    requires log { HasLastFirings ((0, arc_value value) ∷ []) log }
     requires empty { log.fired ≡ [] }
     ensures schema { let v = arc_value value in
         IfOk result (λ made. made.0.schema ≡ v.view.schema) }

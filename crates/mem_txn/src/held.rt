@@ -18,7 +18,7 @@ struct Watching {
 
 impl Model for Watching {
     ghost use Rattle.mem_txn.specs.Held.{HeldWatch};
-    ghost use Rattle.mem_txn.specs.inner.StoredHeld.{held_code};
+    ghost use Rattle.mem_txn.specs.HeldCode.{held_code};
 
     ghost Value = { HeldWatch };
 
@@ -38,7 +38,7 @@ pub struct Held {
 
 impl Model for Held {
     ghost use Rattle.mem_txn.specs.Held.{HeldWatch};
-    ghost use Rattle.mem_txn.specs.inner.StoredHeld.{held_code};
+    ghost use Rattle.mem_txn.specs.HeldCode.{held_code};
 
     ghost Value = { HeldWatch };
 

@@ -19,7 +19,7 @@ pub struct Pass {
 
 impl Model for Pass {
     ghost use Rattle.mem_txn.specs.Database.{Caller};
-    ghost use Rattle.mem_txn.specs.inner.Stored.{caller_code};
+    ghost use Rattle.mem_txn.specs.Codes.{caller_code};
 
     ghost Value = { Caller };
 

@@ -5,7 +5,7 @@ ghost use Rattle.mem_txn.specs.CellHistory.{StayAway, WatchesHold};
 ghost use Rattle.mem_txn.specs.Checked.{AskedIsHeld, HeldLonger, HeldStays, IdsTellCells};
 ghost use Rattle.mem_txn.specs.Database.{cells_seen};
 ghost use Rattle.mem_txn.specs.Told.{TellsWhoeverHolds};
-ghost use Rattle.mem_txn.specs.Transactions.{changes_of};
+ghost use Rattle.mem_txn.specs.Transactions.{txn_of};
 
 use crate::pass::Pass;
 use crate::write_txn::WriteTxn;
@@ -85,9 +85,9 @@ pub fn ids_tell_cells(pass: &Pass)
 
 /// The same of the pass that a write transaction owns.
 pub fn ids_tell_cells_within<D: Drop>(txn: &WriteTxn<D>)
-    ensures { IdsTellCells (changes_of txn.now).caller }
+    ensures { IdsTellCells (txn_of txn.now).caller }
 {
-    txn.changes.ids_tell_cells();
+    txn.db_txn.ids_tell_cells();
 }
 
 /// The log that a commit gives tells whoever holds a watch whose answer has changed: of the whole

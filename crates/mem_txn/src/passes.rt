@@ -13,7 +13,7 @@ pub struct Passes {
 
 impl Model for Passes {
     ghost use Rattle.mem_txn.specs.Database.{Callers};
-    ghost use Rattle.mem_txn.specs.inner.Stored.{callers_code};
+    ghost use Rattle.mem_txn.specs.Codes.{callers_code};
 
     ghost Value = { Callers };
 

@@ -28,7 +28,7 @@ pub struct ReadTxn {
 
 impl Model for ReadTxn {
     ghost use Rattle.mem_txn.specs.Database.{Reading};
-    ghost use Rattle.mem_txn.specs.inner.Stored.{reading_code};
+    ghost use Rattle.mem_txn.specs.Codes.{reading_code};
 
     ghost Value = { Reading };
 

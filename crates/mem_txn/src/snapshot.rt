@@ -16,7 +16,7 @@ pub struct Snapshot {
 
 impl Model for Snapshot {
     ghost use Rattle.mem_txn.specs.Database.{View};
-    ghost use Rattle.mem_txn.specs.inner.Stored.{view_code};
+    ghost use Rattle.mem_txn.specs.Codes.{view_code};
 
     ghost Value = { View };
 

@@ -2,14 +2,14 @@
 ghost use Rattle.std.specs.Prelude.{◌≡◌, ◌≤◌, ◌<◌, ◌+◌, ◌^◌, ◌++◌, ◌∷◌, [], IfOk, length};
 ghost use Rattle.std.specs.Arc.{arc_value};
 ghost use Rattle.mem_txn.specs.Database.{IsOf, cells_seen, state_seen};
-ghost use Rattle.db_front.specs.Commits.{HasFirings};
+ghost use Rattle.db_front.specs.Commits.{HasFirstFirings};
 ghost use Rattle.mem_txn.specs.CellHistory as firings;
 ghost use Rattle.mem_txn.specs.Checked.{Hears, IdsTellCells};
 ghost use Rattle.mem_txn.specs.Transactions.{TellsChanges};
-ghost use Rattle.mem_txn.specs.inner.ChangesView.{AreCounted, AreSince, IsBase};
+ghost use Rattle.mem_txn.specs.inner.DbTxnView.{AreCounted, AreSince, IsBase};
 ghost use Rattle.mem_txn.specs.inner.Commits.{IsNext};
 ghost use Rattle.mem_txn.specs.inner.Firing.{AreGone, cells_told};
-ghost use Rattle.mem_txn.specs.inner.Steps.{HasFired};
+ghost use Rattle.mem_txn.specs.inner.Steps.{HasLastFirings};
 ghost use Rattle.mem_txn.specs.inner.VersionTables.{StandFor};
 ghost use Rattle.mem_txn.specs.inner.Versions.{IsToken, StandsFor, caller_of};
 ghost use Rattle.watch_word.specs.Logs.{IsLater};
@@ -35,7 +35,7 @@ pub(crate) struct Turn {
 }
 
 impl Model for Turn {
-    ghost use Rattle.mem_txn.specs.inner.Stored.{turned_code};
+    ghost use Rattle.mem_txn.specs.Codes.{turned_code};
     ghost use Rattle.mem_txn.specs.inner.Versions.{Turned};
 
     ghost Value = { Turned };
@@ -55,7 +55,7 @@ impl Turn {
         requires begun { IsToken 1 token }
         requires stands { StandsFor token.seen (arc_value shown.value) }
         requires number { shown.number + 1 ≡ length token.seen }
-        requires log { HasFirings HasFired shown.number token.seen shown.log }
+        requires log { HasFirstFirings HasLastFirings shown.number token.seen shown.log }
         ensures { Hears (caller_of token) result.caller }
     {
         let Shown {

@@ -4,7 +4,7 @@ ghost use Rattle.std.specs.Prelude.{Option, length, map, option_to_list, Some, u
 ghost use Rattle.std.specs.Arc.{arc_value};
 ghost use Rattle.mdb_schema.specs.Net.{Net, change_at};
 ghost use Rattle.mdb_schema.specs.Write.{put_row, remove_row};
-ghost use Rattle.mem_txn.specs.Changes.{gives_replaced, gives_row};
+ghost use Rattle.mem_txn.specs.DbTxn.{gives_replaced, gives_row};
 ghost use Rattle.mem_txn.specs.inner.VersionTables.{AnswersAskAt, AnswersAt, AreAllWithin, HasChanged};
 ghost use Rattle.mem_txn.specs.inner.VersionTables.{IsSound, standing, trees_of, unwritten};
 ghost use Rattle.mem_txn.specs.inner.Ended.{AreNetsOf, AreTold, EndWith, EndsWith};
@@ -12,7 +12,7 @@ ghost use Rattle.watch_word.specs.Logs.{Cell};
 ghost use Rattle.mem_txn.specs.inner.Wipes.{AnswersGoneAt, wiped_by};
 
 use crate::change_list::ChangeList;
-use crate::txn_table::{Ended, TxnTable};
+use crate::lazy_table::{Ended, LazyTable};
 use crate::wipe::Wipe;
 use mdb_datum::Row;
 use mdb_schema::{Answer, AskError, Query, Rows, WriteError};
@@ -27,12 +27,12 @@ use watch_word::Front;
 /// that come next; seen as `Tables`.
 #[derive(Drop)]
 pub(crate) struct TxnTables {
-    tables: Vec<TxnTable>,
+    tables: Vec<LazyTable>,
     ids: Ids,
 }
 
 impl Model for TxnTables {
-    ghost use Rattle.mem_txn.specs.inner.Stored.{tables_code};
+    ghost use Rattle.mem_txn.specs.Codes.{tables_code};
     ghost use Rattle.mem_txn.specs.inner.VersionTables.{Tables};
 
     ghost Value = { Tables };
@@ -163,20 +163,20 @@ impl TxnTables {
 }
 
 /// Tables that nobody has written to.
-fn unwritten(alloc: Global, shared: &[Arc<Table, Global>]) -> Result<Vec<TxnTable>, AllocError>
+fn unwritten(alloc: Global, shared: &[Arc<Table, Global>]) -> Result<Vec<LazyTable>, AllocError>
     ensures tables { IfOk result (λ ts. ts.items ≡ map unwritten (map arc_value shared.now)) }
     ensures changed { IfOk result (λ ts. (first : ℕ) → All (HasChanged first []) ts.items) }
 {
     let mut tables = Vec::with_capacity(alloc, shared.len())?;
     for table in shared {
-        tables.push(TxnTable::of(Arc::try_clone(table)?))?;
+        tables.push(LazyTable::of(Arc::try_clone(table)?))?;
     }
     Ok(tables)
 }
 
 /// The tables that writes to these end with, the notices of those that were open, and what has
 /// changed.
-fn frozen_tables(alloc: Global, tables: Vec<TxnTable>) -> Result<Frozen, AllocError>
+fn frozen_tables(alloc: Global, tables: Vec<LazyTable>) -> Result<Frozen, AllocError>
     requires sound { All IsSound tables.items }
     requires few { length tables.items ≤ 64 }
     ensures tables { IfOk result
@@ -196,7 +196,7 @@ fn frozen_tables(alloc: Global, tables: Vec<TxnTable>) -> Result<Frozen, AllocEr
 
 /// Adds the tables that writes to these end with, their notices, and what has changed, where there
 /// are none yet.
-fn freeze_all(frozen: &mut Frozen, tables: Vec<TxnTable>) -> Result<(), AllocError>
+fn freeze_all(frozen: &mut Frozen, tables: Vec<LazyTable>) -> Result<(), AllocError>
     requires sound { All IsSound tables.items }
     requires few { length tables.items ≤ 64 }
     requires none { (frozen.old.tables.items ≡ []) × (frozen.old.gone.items ≡ [])
@@ -215,7 +215,7 @@ fn freeze_all(frozen: &mut Frozen, tables: Vec<TxnTable>) -> Result<(), AllocErr
 
 /// Adds the table that writes to one end with, its notices, if it was open, and what has changed in
 /// it.
-fn freeze_onto(frozen: &mut Frozen, table: TxnTable) -> Result<(), AllocError>
+fn freeze_onto(frozen: &mut Frozen, table: LazyTable) -> Result<(), AllocError>
     requires sound { table.spoiled ≡ false }
     requires few { length frozen.old.tables.items < 64 }
     ensures table { OnOk result (map arc_value frozen.new.tables.items
@@ -265,7 +265,7 @@ fn push_notices(gone: &mut Vec<Notices>, notices: Option<Notices>) -> Result<(),
 }
 
 /// The present tables.
-fn standing(alloc: Global, tables: &mut [TxnTable]) -> Result<Vec<Arc<Table, Global>>, AllocError>
+fn standing(alloc: Global, tables: &mut [LazyTable]) -> Result<Vec<Arc<Table, Global>>, AllocError>
     requires sound { All IsSound tables.old }
     ensures tables { IfOk result (λ ts. map arc_value ts.items ≡ map standing tables.old) }
     ensures unchanged { tables.new ≡ tables.old }

@@ -18,7 +18,7 @@ struct Contents {
 
 impl Model for Contents {
     ghost use Rattle.mem_txn.specs.inner.Values.{Version};
-    ghost use Rattle.mem_txn.specs.inner.Stored.{version_code};
+    ghost use Rattle.mem_txn.specs.Codes.{version_code};
 
     ghost Value = { Version };
 
@@ -39,7 +39,7 @@ pub(crate) struct Version {
 
 impl Model for Version {
     ghost use Rattle.mem_txn.specs.inner.Values.{Version};
-    ghost use Rattle.mem_txn.specs.inner.Stored.{version_code};
+    ghost use Rattle.mem_txn.specs.Codes.{version_code};
 
     ghost Value = { Version };
 
@@ -51,12 +51,12 @@ impl Model for Version {
 }
 
 impl db_front::Version for Version {
-    ghost use Rattle.mem_txn.specs.inner.Steps.{HasFired};
+    ghost use Rattle.mem_txn.specs.inner.Steps.{HasLastFirings};
     ghost use Rattle.mem_txn.specs.inner.Versions.{StandsFor};
 
     ghost stands = { StandsFor };
 
-    ghost fired = { HasFired };
+    ghost fired = { HasLastFirings };
 
     /// One more owner of the same. It takes no memory.
     fn copy(&self, _alloc: Global) -> Result<Version, AllocError>

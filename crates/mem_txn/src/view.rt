@@ -12,7 +12,7 @@ ghost use Rattle.table_index.specs.Walks.{WalksAsk};
 ghost use Rattle.table_index.specs.Watched.{AnswersWatch, HoldsRows, is_watchable};
 ghost use Rattle.mem_txn.specs.CellHistory.{question_cell, table_in};
 ghost use Rattle.mem_txn.specs.Held.{IsLookedUp, tells_own};
-ghost use Rattle.mem_txn.specs.inner.Looks.{IsAsked};
+ghost use Rattle.mem_txn.specs.AskedSpots.{IsAsked};
 
 use mdb_schema::{Answer, AskError, Query, Schema, TableDef};
 use radix_iter::Walk;
@@ -34,7 +34,7 @@ pub(crate) struct View {
 }
 
 impl Model for View {
-    ghost use Rattle.mem_txn.specs.inner.Stored.{view_with_trees_code};
+    ghost use Rattle.mem_txn.specs.Codes.{view_with_trees_code};
     ghost use Rattle.mem_txn.specs.inner.Values.{ViewWithTrees};
 
     ghost Value = { ViewWithTrees };

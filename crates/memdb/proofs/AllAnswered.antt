@@ -4,7 +4,7 @@ use Rattle.client_script.specs.Legal.{Legal}
 use Rattle.client_script.specs.Reply.{Reply}
 use Rattle.client_script.specs.Session.{Sessions}
 use Rattle.client_script.specs.declared.line.Line.{Line}
-use Rattle.client_session.proofs.ManyClients.{TellAllMade, Told, all_answered_lines, all_legal, answered_is_told, as_many_after, begun_from, items_are, left_are, lines_are, named_all, replies_told, sessions_made, tell}
+use Rattle.client_session.proofs.ManyClients.{TellAllMade, Told, all_answered_lines, all_legal, answered_is_told, as_many_after, sessions_from, items_are, left_are, lines_are, named_all, replies_told, sessions_made, tell}
 use Rattle.client_session.specs.Clients.{AreLater, AreOpened, ArePassesLater, CanClose, callers_back, headed}
 use Rattle.client_session.specs.Progress.{Progress}
 use Rattle.mdb_datum.specs.Bytes.{Bytes}
@@ -15,13 +15,13 @@ use Rattle.memdb.specs.inner.Sessions.{HaveAnswered}
 
 -- ---- what each tells
 
-tell_all : (db : Database) (opening : Forest) (k : ℕ) (scripts : List (List Line)) (ts : List Progress) → HaveAnswered (begun_from db opening k scripts) ts → TellAllMade db.schema k ts
+tell_all : (db : Database) (opening : Forest) (k : ℕ) (scripts : List (List Line)) (ts : List Progress) → HaveAnswered (sessions_from db opening k scripts) ts → TellAllMade db.schema k ts
 tell_all db opening k [] [] h = tt
 tell_all db opening k [] (t ∷ ts) h = absurd h
 tell_all db opening k (s ∷ ss) [] h = absurd h
 tell_all db opening k (s ∷ ss) (t ∷ ts) h = (answered_is_told db opening k s t h.1 h.2 h.0, tell_all db opening (k + 1) ss ts h.3)
 
-all_lines : (db : Database) (opening : Forest) (k : ℕ) (scripts : List (List Line)) (ts : List Progress) → HaveAnswered (begun_from db opening k scripts) ts → all_answered_lines ts ≡ scripts
+all_lines : (db : Database) (opening : Forest) (k : ℕ) (scripts : List (List Line)) (ts : List Progress) → HaveAnswered (sessions_from db opening k scripts) ts → all_answered_lines ts ≡ scripts
 all_lines db opening k [] [] h = refl
 all_lines db opening k [] (t ∷ ts) h = absurd h
 all_lines db opening k (s ∷ ss) [] h = absurd h
@@ -63,7 +63,7 @@ module _ (db : Database) (scripts : List (List Line)) (left : Callers) (items : 
       (subst (λ (ps : List Caller). IsWhole new (ps ++ callers_back ts) J) none whole)
 
   module _ (ts : List Progress) (later : AreLater items ts) (J : CellHistory) (whole : IsWhole db (callers_back ts) J) where
-    answered_from : HaveAnswered items ts → HaveAnswered (begun_from db opened.opening 1 scripts) ts
+    answered_from : HaveAnswered items ts → HaveAnswered (sessions_from db opened.opening 1 scripts) ts
     answered_from = subst (λ (ss : List Progress). HaveAnswered ss ts) (items_are db scripts 0 left items opened)
 
     abbrev replies_by : HaveAnswered items ts → List (List Reply)

@@ -16,7 +16,8 @@ use Rattle.clap.specs.declared.parser.matches.ArgMatches.{ArgMatches}
 use Rattle.clap.proofs.FaultLemmas.{stopped_fault}
 use Rattle.clap.proofs.OnLiterals.{clap_on_literals}
 use Rattle.memdb.specs.Words.{numbers_behind}
-use Rattle.memdb.specs.inner.CommandLine.{Asked, asked_at, asked_by, asked_of_matches, bare, either, files, make_rows, program, run_rows, to_make}
+use Rattle.memdb.specs.inner.CommandLine.{Asked, asked_at, asked_by, asked_of_matches, bare, either, files, program, to_make}
+use Rattle.memdb.proofs.CommandRows.{run_rows, make_rows}
 use Rattle.run_io.specs.Named.{files_behind, may_name_a_file}
 use Rattle.memdb.proofs.PlainWords.{left, no_dashes, plain_long, plain_short, right}
 use Rattle.memdb.proofs.MakeWords as make

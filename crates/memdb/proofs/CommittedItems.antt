@@ -10,8 +10,9 @@ use Rattle.mdb_schema.specs.Write.{Write, put, remove, Stepped}
 use Rattle.mdb_schema.proofs.Membership.{Contains-nil, Contains-first, Contains-later, Contains-cons_cases, Contains-from_map, Contains-filter}
 use Rattle.mem_txn.specs.Database.{AreNamed, commits_by}
 use Rattle.memdb.specs.Made.{Numbers, AreInRange, Item, items_by}
-use Rattle.memdb.specs.inner.MadeInputs.{made_schema, commit_of, HasMadeItems, age_in}
-use Rattle.memdb.specs.inner.MadeItem.{IsItem}
+use Rattle.memdb.specs.inner.MadeInputs.{made_schema, age_in}
+use Rattle.memdb.proofs.MadeHistory.{commit_of, HasMadeItems}
+use Rattle.memdb.proofs.MadeItem.{IsItem}
 use Rattle.memdb.proofs.ClientItems.{Tagged, items_of, is_of, tag, AreOf}
 use Rattle.memdb.proofs.ItemTotals.{AreMade, after_items}
 use Rattle.memdb.proofs.MadeNames.{items_by-by}

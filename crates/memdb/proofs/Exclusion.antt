@@ -43,12 +43,12 @@ one_command words named n run make = by_test (list_all may_name_a_file words) ru
 -- ---- what is answered
 
 -- by the words: they are numbers, or no command, or name files that were loaded
-data Answers (words : List Bytes) (seen : Observed) (status : ℕ) : Type 0 where
-  to_numbers : status ≡ 0 → (n : Numbers) → numbers_named words ≡ Some n → Answers words seen status
-  to_none : status ≡ 1 → files_named words ≡ None → numbers_named words ≡ None → Answers words seen status
-  to_files : HasLoaded (files_named words) seen status → Answers words seen status
+data StatusByWords (words : List Bytes) (seen : Observed) (status : ℕ) : Type 0 where
+  to_numbers : status ≡ 0 → (n : Numbers) → numbers_named words ≡ Some n → StatusByWords words seen status
+  to_none : status ≡ 1 → files_named words ≡ None → numbers_named words ≡ None → StatusByWords words seen status
+  to_files : HasLoaded (files_named words) seen status → StatusByWords words seen status
 
-by_answer : (words : List Bytes) (seen : Observed) (status : ℕ) (text : Bytes) → IsAnswer words seen status text → Answers words seen status
+by_answer : (words : List Bytes) (seen : Observed) (status : ℕ) (text : Bytes) → IsAnswer words seen status text → StatusByWords words seen status
 by_answer words seen status text (done is d) = to_files (read_loaded (files_named words) seen status d.named d.inputs is d.read)
 by_answer words seen status text (outcome.made is m) = to_numbers is m.numbers m.command
 by_answer words seen status text (usage is u) = to_none is u.no_run u.no_make
@@ -56,18 +56,18 @@ by_answer words seen status text (outcome.refused r) = to_files (refused_loaded 
 
 -- ---- each cause
 
-no_command_usage : (words : List Bytes) (seen : Observed) (status : ℕ) → Answers words seen status → files_named words ≡ None → numbers_named words ≡ None → status ≡ 1
+no_command_usage : (words : List Bytes) (seen : Observed) (status : ℕ) → StatusByWords words seen status → files_named words ≡ None → numbers_named words ≡ None → status ≡ 1
 no_command_usage words seen status (to_numbers is n make) none no_make = absurd (numbers_once words n no_make make)
 no_command_usage words seen status (to_none is no_run not_made) none no_make = is
 no_command_usage words seen status (to_files h) none no_make = absurd (never_named (files_named words) h.named none h.is_named)
 
 -- words that are a `make` are answered by it
-made_answered : (words : List Bytes) (seen : Observed) (status : ℕ) (n : Numbers) → Answers words seen status → numbers_named words ≡ Some n → status ≡ 0
+made_answered : (words : List Bytes) (seen : Observed) (status : ℕ) (n : Numbers) → StatusByWords words seen status → numbers_named words ≡ Some n → status ≡ 0
 made_answered words seen status n (to_numbers is m makes) make = is
 made_answered words seen status n (to_none is no_run no_make) make = absurd (numbers_once words n no_make make)
 made_answered words seen status n (to_files h) make = absurd (one_command words h.named n h.is_named make)
 
-refusal_answered : (words : List Bytes) (seen : Observed) (status called : ℕ) → Answers words seen status → CallsForRefusal (files_named words) seen called → status ≡ called
+refusal_answered : (words : List Bytes) (seen : Observed) (status called : ℕ) → StatusByWords words seen status → CallsForRefusal (files_named words) seen called → status ≡ called
 refusal_answered words seen status called (to_numbers is n make) r =
     let f = refusal_leads (files_named words) seen called r in
     absurd (one_command words f.named n f.is_named make)
@@ -76,7 +76,7 @@ refusal_answered words seen status called (to_none is no_run no_make) r =
     absurd (never_named (files_named words) f.named no_run f.is_named)
 refusal_answered words seen status called (to_files h) r = refusal_comes (files_named words) seen status called h r
 
-lawful_answered : (words : List Bytes) (seen : Observed) (status called : ℕ) → Answers words seen status → called ≡ 0 → AreLawful (files_named words) seen → status ≡ called
+lawful_answered : (words : List Bytes) (seen : Observed) (status called : ℕ) → StatusByWords words seen status → called ≡ 0 → AreLawful (files_named words) seen → status ≡ called
 lawful_answered words seen status called (to_numbers is n make) are l = is ∙ sym are
 lawful_answered words seen status called (to_none is no_run no_make) are l =
     absurd (never_named (files_named words) l.named no_run l.finds.is_named)

@@ -17,7 +17,7 @@ use Rattle.mdb_schema.proofs.RowsById.{AreRising, rising-first, rising-rest, fir
 use Rattle.mdb_schema.proofs.RowsWith.{rising-with_row}
 use Rattle.memdb.specs.Made.{Item, is_named, last_items}
 use Rattle.memdb.specs.inner.MadeInputs.{row_of, age_in, ages_in}
-use Rattle.memdb.specs.inner.MadeItem.{IsItem, item_table}
+use Rattle.memdb.proofs.MadeItem.{IsItem, item_table}
 use Rattle.memdb.proofs.MadeStep.{id_key-item}
 use Rattle.mdb_datum.proofs.ByteOrder.{same_from_byte_order}
 use Rattle.mdb_schema.proofs.FreeKeys.{same_answer}

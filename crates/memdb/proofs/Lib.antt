@@ -2,6 +2,7 @@ pub mod AgesBounded
 pub mod AllAnswered
 pub mod AskedWords
 pub mod ClientItems
+pub mod CommandRows
 pub mod CommandWords
 pub mod CommittedItems
 pub mod Converses
@@ -9,6 +10,8 @@ pub mod DrawnNumbers
 pub mod Exclusion
 pub mod ItemTotals
 pub mod LastMade
+pub mod MadeHistory
+pub mod MadeItem
 pub mod MadeLines
 pub mod MadeNames
 pub mod MadeRows

@@ -22,7 +22,7 @@ use Rattle.mdb_schema.proofs.OneKey.{one_key}
 use Rattle.mdb_schema.proofs.Writes.{MayPut, put_answer}
 use Rattle.memdb.specs.Made.{Item, item_of}
 use Rattle.memdb.specs.inner.MadeInputs.{made_schema, row_of}
-use Rattle.memdb.specs.inner.MadeItem.{IsItem, item_table}
+use Rattle.memdb.proofs.MadeItem.{IsItem, item_table}
 
 -- ---- the rows of the clients
 

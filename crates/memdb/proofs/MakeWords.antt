@@ -8,7 +8,8 @@ use Rattle.clap.specs.Faults.{check_fault, defaults_fault, level_fault, settle_f
 use Rattle.clap.specs.Kinds.{Kinds, or_else}
 use Rattle.clap.specs.declared.error.kind.ErrorKind.TheVariants as kind
 use Rattle.clap.proofs.OnLiterals.{clap_on_literals}
-use Rattle.memdb.specs.inner.CommandLine.{bare, make_app, make_rows, row, word_rule}
+use Rattle.memdb.specs.inner.CommandLine.{bare, make_app, word_rule}
+use Rattle.memdb.proofs.CommandRows.{row, make_rows}
 use Rattle.run_io.specs.Named.{may_name_a_file}
 use Rattle.memdb.proofs.PlainWords.{left, met_idle, no_dashes, plain_long, plain_short, right}
 

@@ -8,7 +8,7 @@ use Rattle.mdb_datum.specs.Bytes.{Bytes}
 use Rattle.client_script.proofs.LineSplits.{lines_in-read}
 use Rattle.client_script.proofs.ScriptAnswered.{script_lines}
 use Rattle.client_script.specs.Script.{line_limit, line_in, lines_in, script_in}
-use Rattle.client_script.specs.inner.FirstLine.{put_before}
+use Rattle.client_script.proofs.LineSplits.{put_before}
 use Rattle.client_script.specs.declared.command.AskCommand.TheVariants as ask_line
 use Rattle.client_script.specs.declared.command.Command.{Command}
 use Rattle.client_script.specs.declared.command.Command.TheVariants as command

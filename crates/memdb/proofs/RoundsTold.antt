@@ -27,7 +27,8 @@ use Rattle.client_script.specs.declared.command.WriteCommand.TheVariants as writ
 use Rattle.client_session.specs.Answered.{commit_at}
 use Rattle.memdb.proofs.SmallHistory.{fewer_writes}
 use Rattle.memdb.specs.Made.{Item}
-use Rattle.memdb.specs.inner.MadeInputs.{commit_of, first_of, rounds_behind, row_of}
+use Rattle.memdb.specs.inner.MadeInputs.{first_of, rounds_behind, row_of}
+use Rattle.memdb.proofs.MadeHistory.{commit_of}
 
 -- a row of `items`, put
 abbrev item_put : Item → Write
@@ -37,9 +38,9 @@ item_put x = put (codes "items") (row_of x)
 abbrev item_insert : Item → WriteCommand
 item_insert x = write_line.Insert (codes "items") (row_of x)
 
--- a write transaction that has just begun
-abbrev begun : ℕ → Writing
-begun m = record { number = m; writes = []; texts = [] }
+-- a write transaction that has just new_writing
+abbrev new_writing : ℕ → Writing
+new_writing m = record { number = m; writes = []; texts = [] }
 
 -- and one that has put a row
 abbrev with_item : ℕ → Item → Writing
@@ -74,21 +75,21 @@ module _ (schema : DbSchema) (H : History) (client : ℕ) where
   -- where no transaction is open and commits are left, `write` begins one
   begins_write : (now : ℕ) (v : Client) → now < commit_limit → v.transaction ≡ closed
       → outcome v (transaction_turn schema H now v transaction_line.Write)
-      ≡ (write_at now, with_transaction now (writing (begun now)) v)
+      ≡ (write_at now, with_transaction now (writing (new_writing now)) v)
   begins_write now v few none =
       ap (λ (t : Transaction). outcome v (none_open t >>= (λ free. of (nat_lt now commit_limit)))) none
       ∙ ap (λ (b : Bool). outcome v (of b)) (lt-ltb now commit_limit few)
     where
       of : Bool → Turn
       of b = passed (codes "commits-spent") b
-          >>= (λ few. Ok (write_at now, with_transaction now (writing (begun now)) v))
+          >>= (λ few. Ok (write_at now, with_transaction now (writing (new_writing now)) v))
 
   -- so the line does
   by_write : (v next : Client) (r : Reply) → length H < commit_limit → v.transaction ≡ closed
-      → Answers schema H client v (command.Transaction transaction_line.Write) r next → (m : ℕ) × Leaves (writing (begun m)) r next
+      → Answers schema H client v (command.Transaction transaction_line.Write) r next → (m : ℕ) × Leaves (writing (new_writing m)) r next
   by_write v next r few none a =
       let begins = begins_write a.now v (let there = a.there in omega arith) none in
-      (a.now, leaves (writing (begun a.now)) _ r next refl refl (sym begins ∙ a.says))
+      (a.now, leaves (writing (new_writing a.now)) _ r next refl refl (sym begins ∙ a.says))
 
   -- `commit` tells the number of the entry that it is
   by_commit : (v next : Client) (r : Reply) (t : Writing) → v.transaction ≡ writing t
@@ -157,25 +158,25 @@ module _ (schema : DbSchema) (H : History) (client : ℕ) where
   by_question v next r q a =
       subst (Same v) a.says (same_question v (some_open v.transaction) q)
 
-  -- ---- an insert, in a transaction that has just begun
+  -- ---- an insert, in a transaction that has just new_writing
 
   module _ (x : Item) (small : writes_in H + 1 < 2 ^ 36) (puts : IsEverPut schema H x) where
     -- its reply, and what the client knows then
     inserted_as : ℕ → Client → Option Fields → Reply × Client
-    inserted_as m v was = (insert_reply was, with_writes (item_put x ∷ []) (begun m) v)
+    inserted_as m v was = (insert_reply was, with_writes (item_put x ∷ []) (new_writing m) v)
 
     -- by its turn the row is put
-    insert_turn : (m : ℕ) (v : Client) → v.transaction ≡ writing (begun m)
+    insert_turn : (m : ℕ) (v : Client) → v.transaction ≡ writing (new_writing m)
         → (was : Option Fields) × (write_turn schema H v (item_insert x) ≡ Ok (inserted_as m v was))
     unfolding inserted_as
     insert_turn m v is = (
       p.0.1,
-      ap (λ (o : Transaction). write_open o >>= at) is ∙ ap (λ (s : Stepped). of (begun m) s) p.1,
+      ap (λ (o : Transaction). write_open o >>= at) is ∙ ap (λ (s : Stepped). of (new_writing m) s) p.1,
     )
       where
         p : (p : State × Option Fields)
-            × (step schema (state_seen schema H (sight_of (begun m))) (item_put x) ≡ Ok p)
-        p = puts (sight_of (begun m))
+            × (step schema (state_seen schema H (sight_of (new_writing m))) (item_put x) ≡ Ok p)
+        p = puts (sight_of (new_writing m))
 
         of : Writing → Stepped → Turn
         of t s = stepped (indexes_of schema (codes "items")) s
@@ -210,7 +211,7 @@ module _ (schema : DbSchema) (H : History) (client : ℕ) where
         opened = sym s.transaction ∙ ap (λ (p : Reply × Client). p.1.transaction) after
 
     -- whatever it is told, the row is put
-    insert_told : (m : ℕ) (v next : Client) (r : Reply) → v.transaction ≡ writing (begun m)
+    insert_told : (m : ℕ) (v next : Client) (r : Reply) → v.transaction ≡ writing (new_writing m)
         → IsWriteTold schema H v (item_insert x) r next → Leaves (writing (with_item m x)) r next
     unfolding inserted_as
     insert_told m v next r is (by_turn told) =
@@ -222,7 +223,7 @@ module _ (schema : DbSchema) (H : History) (client : ℕ) where
         absurd (not_spent m v next r allowed.0 allowed.1 s)
 
     -- so it is by the line
-    by_insert : (v next : Client) (r : Reply) (m : ℕ) → v.transaction ≡ writing (begun m)
+    by_insert : (v next : Client) (r : Reply) (m : ℕ) → v.transaction ≡ writing (new_writing m)
         → Answers schema H client v (command.Write (item_insert x)) r next → Leaves (writing (with_item m x)) r next
     by_insert v next r m is a = insert_told m v next r is a.says
 

@@ -14,8 +14,9 @@ use Rattle.mdb_schema.proofs.LawfulStates.{state_at_lawful}
 use Rattle.mdb_schema.proofs.RowsById.{rising-nil}
 use Rattle.mem_txn.specs.Database.{AreNamed}
 use Rattle.memdb.specs.Made.{Numbers, AreInRange, Item, all_items, last_items, ages}
-use Rattle.memdb.specs.inner.MadeInputs.{made_schema, row_of, HasMadeItems, all_rows, age_in}
-use Rattle.memdb.specs.inner.MadeItem.{item_table}
+use Rattle.memdb.specs.inner.MadeInputs.{made_schema, row_of, all_rows, age_in}
+use Rattle.memdb.proofs.MadeHistory.{HasMadeItems}
+use Rattle.memdb.proofs.MadeItem.{item_table}
 use Rattle.memdb.specs.inner.MadeLeft.{AreLeft}
 use Rattle.memdb.proofs.ClientItems.{items_of, last_adds_up, lengths_add_up, same_in_order, length-items_from}
 use Rattle.memdb.proofs.CommittedItems.{all_told, told_are, each_puts, told_made, after_told}

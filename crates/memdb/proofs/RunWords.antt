@@ -9,7 +9,8 @@ use Rattle.clap.specs.Kinds.{Kinds, or_else, range_kinds, values_kinds}
 use Rattle.clap.specs.declared.builder.value_parser.ValueParser.TheVariants as vp
 use Rattle.clap.specs.declared.error.kind.ErrorKind.TheVariants as kind
 use Rattle.clap.proofs.OnLiterals.{clap_on_literals}
-use Rattle.memdb.specs.inner.CommandLine.{bare, clients_rule, row, run_app, word_rule}
+use Rattle.memdb.specs.inner.CommandLine.{bare, clients_rule, run_app, word_rule}
+use Rattle.memdb.proofs.CommandRows.{row}
 use Rattle.run_io.specs.Named.{may_name_a_file}
 use Rattle.memdb.proofs.PlainWords.{left, met_idle, met_more, no_dashes, plain_long, plain_short, right}
 

@@ -18,9 +18,9 @@ use Rattle.memdb.proofs.MadeStep.{is_item, step_item}
 use Rattle.memdb.proofs.RoundsTold.{AreEverPut, IsEverPut, rounds_told}
 use Rattle.memdb.proofs.SmallHistory.{all_light, session_light, weights, weights_are, weigh, weigh_some}
 use Rattle.memdb.specs.Made.{Item, Numbers, drawn, item_of, items_behind, items_by}
-use Rattle.memdb.specs.inner.MadeHistory.{MadeAreKept}
-use Rattle.memdb.specs.inner.MadeInputs.{commit_of, made_schema, made_script, row_of, scripts_from}
-use Rattle.memdb.specs.inner.MadeItem.{IsItem, item_table}
+use Rattle.memdb.proofs.MadeHistory.{MadeAreKept, commit_of}
+use Rattle.memdb.specs.inner.MadeInputs.{made_schema, made_script, row_of, scripts_from}
+use Rattle.memdb.proofs.MadeItem.{IsItem, item_table}
 
 -- ---- a made row is put, whatever is seen
 

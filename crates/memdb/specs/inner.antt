@@ -1,9 +1,7 @@
 pub mod CommandLine
 pub mod CommandOf
 pub mod LastState
-pub mod MadeHistory
 pub mod MadeInputs
-pub mod MadeItem
 pub mod MadeLeft
 pub mod MadeText
 pub mod Sessions

@@ -11,7 +11,7 @@ use Rattle.radix_node.specs.declared.edge.Edge.{Edge}
 use Rattle.radix_iter.proofs.EndSteps.{up_to_last}
 use Rattle.radix_iter.proofs.NodeCount.{size, size_at}
 use Rattle.radix_iter.proofs.RowsGathered.{back, more, more_back, pairs_at_edge, pairs_at_edges, pairs_one, pairs_last}
-use Rattle.radix_iter.specs.inner.Held.{held, held_down, held_up, level_pairs}
+use Rattle.radix_iter.specs.inner.LevelRows.{level_rows, rows_down, rows_up, level_pairs}
 use Rattle.radix_iter.specs.declared.level.Level.{Level}
 
 -- a measure of what is left of a walk: twice the nodes, and the levels
@@ -27,9 +27,9 @@ size_snoc : (es : List Edge) (e : Edge) → size_at (es ++ e ∷ []) ≡ suc (si
 size_snoc [] e = omega arith
 size_snoc (d ∷ es) e = omega (arith, size_snoc es e)
 
-pub held_snoc : (f : List Pair → List Fields) (ls : List Level) (l : Level) → held f (ls ++ l ∷ []) ≡ held f ls ++ f (level_pairs l)
-held_snoc f [] l = append-nil (f (level_pairs l))
-held_snoc f (k ∷ ls) l = ap (λ (z : List Fields). f (level_pairs k) ++ z) (held_snoc f ls l) ∙ sym (append_assoc (f (level_pairs k)) (held f ls) (f (level_pairs l)))
+pub level_rows_snoc : (f : List Pair → List Fields) (ls : List Level) (l : Level) → level_rows f (ls ++ l ∷ []) ≡ level_rows f ls ++ f (level_pairs l)
+level_rows_snoc f [] l = append-nil (f (level_pairs l))
+level_rows_snoc f (k ∷ ls) l = ap (λ (z : List Fields). f (level_pairs k) ++ z) (level_rows_snoc f ls l) ∙ sym (append_assoc (f (level_pairs k)) (level_rows f ls) (f (level_pairs l)))
 
 -- the last level is taken off, or another stands in its place, perhaps with one more behind it
 module _ (front items : List Level) (x : Level) (is : items ≡ front ++ x ∷ []) where
@@ -52,18 +52,18 @@ module _ (front items : List Level) (x : Level) (is : items ≡ front ++ x ∷ [
 
 -- what is left of levels
 abbrev pub left_up : List Level → List Fields
-left_up ls = reverse (held_up ls)
+left_up ls = reverse (rows_up ls)
 
 abbrev pub left_down : List Level → List Fields
-left_down ls = reverse (held_down ls)
+left_down ls = reverse (rows_down ls)
 
 left_up_snoc : (ls : List Level) (l : Level) → left_up (ls ++ l ∷ []) ≡ rows_of (level_pairs l) ++ left_up ls
 left_up_snoc ls l =
-    ap reverse (held_snoc back ls l) ∙ reverse-append (held_up ls) (back (level_pairs l))
+    ap reverse (level_rows_snoc back ls l) ∙ reverse-append (rows_up ls) (back (level_pairs l))
     ∙ ap (λ (z : List Fields). z ++ left_up ls) (reverse-reverse (rows_of (level_pairs l)))
 
 left_down_snoc : (ls : List Level) (l : Level) → left_down (ls ++ l ∷ []) ≡ back (level_pairs l) ++ left_down ls
-left_down_snoc ls l = ap reverse (held_snoc rows_of ls l) ∙ reverse-append (held_down ls) (rows_of (level_pairs l))
+left_down_snoc ls l = ap reverse (level_rows_snoc rows_of ls l) ∙ reverse-append (rows_down ls) (rows_of (level_pairs l))
 
 -- a row comes first, and what comes after it is left
 pub record IsStep (row : Fields) (before after : List Fields) : Type 0 where
@@ -111,11 +111,11 @@ module _ (items : List Level) (x : Level) (there : Some x ≡ slice_get items (l
     nothing None (d ∷ es) f b = absurd (omega (arith, b))
     nothing (Some k) es f b = absurd cc
 
-    pub passed : (f : List Pair → List Fields) (whole : List Fields) → f [] ≡ [] → held f items ≡ whole → held f new ≡ whole
+    pub passed : (f : List Pair → List Fields) (whole : List Fields) → f [] ≡ [] → level_rows f items ≡ whole → level_rows f new ≡ whole
     passed f whole none so_far =
-        ap (held f) (taken before_last items x is len new all e) ∙ sym (append-nil (held f before_last))
-        ∙ ap (λ (z : List Fields). held f before_last ++ z) (sym (ap f (nothing x.own x.edges.now own bare) ∙ none))
-        ∙ sym (held_snoc f before_last x) ∙ ap (held f) (sym is) ∙ so_far
+        ap (level_rows f) (taken before_last items x is len new all e) ∙ sym (append-nil (level_rows f before_last))
+        ∙ ap (λ (z : List Fields). level_rows f before_last ++ z) (sym (ap f (nothing x.own x.edges.now own bare) ∙ none))
+        ∙ sym (level_rows_snoc f before_last x) ∙ ap (level_rows f) (sym is) ∙ so_far
 
   pub passed_less : (len : ℕ) (new : List Level) → len ≡ length items → new ≡ take (len - 1) items → weight new < weight items
   passed_less len new all e =
@@ -130,28 +130,28 @@ module _ (items : List Level) (x : Level) (there : Some x ≡ slice_get items (l
     past_last = record { own = x.own; edges = r }
 
     module _ (pairs : level_pairs z ≡ pairs_of (below n)) (whole : List Fields) where
-      pub deeper_up : (new : List Level) → new ≡ slice_set bigger (at - 1) (record { own = None; edges = r }) → x.own ≡ None → x.edges.now ≡ e ∷ r.now → held_up items ≡ whole → held_up new ≡ whole
+      pub deeper_up : (new : List Level) → new ≡ slice_set bigger (at - 1) (record { own = None; edges = r }) → x.own ≡ None → x.edges.now ≡ e ∷ r.now → rows_up items ≡ whole → rows_up new ≡ whole
       deeper_up new set own first so_far =
-          ap held_up (grown before_last items x is past_first z bigger new at all pushed set)
-          ∙ held_snoc back (before_last ++ past_first ∷ []) z
-          ∙ ap (λ (h : List Fields). h ++ back (level_pairs z)) (held_snoc back before_last past_first)
-          ∙ ap (λ (ps : List Pair). (held_up before_last ++ back (pairs_at_edges r.now)) ++ back ps) (pairs ∙ ap (λ (m : PlainNode). pairs_of (below m)) led)
-          ∙ more_back (held_up before_last) (pairs_at_edge e) (pairs_at_edges r.now)
-          ∙ ap (λ (ps : List Pair). held_up before_last ++ back ps) (sym (pairs_one e r.now) ∙ ap pairs_at_edges (sym first))
-          ∙ ap (λ o. held_up before_last ++ back (pairs_of_leaf (option_map (λ (k : Bor CellLeaf). k.now.pair) o) ++ pairs_at_edges x.edges.now)) (sym own)
-          ∙ sym (held_snoc back before_last x) ∙ ap held_up (sym is) ∙ so_far
+          ap rows_up (grown before_last items x is past_first z bigger new at all pushed set)
+          ∙ level_rows_snoc back (before_last ++ past_first ∷ []) z
+          ∙ ap (λ (h : List Fields). h ++ back (level_pairs z)) (level_rows_snoc back before_last past_first)
+          ∙ ap (λ (ps : List Pair). (rows_up before_last ++ back (pairs_at_edges r.now)) ++ back ps) (pairs ∙ ap (λ (m : PlainNode). pairs_of (below m)) led)
+          ∙ more_back (rows_up before_last) (pairs_at_edge e) (pairs_at_edges r.now)
+          ∙ ap (λ (ps : List Pair). rows_up before_last ++ back ps) (sym (pairs_one e r.now) ∙ ap pairs_at_edges (sym first))
+          ∙ ap (λ o. rows_up before_last ++ back (pairs_of_leaf (option_map (λ (k : Bor CellLeaf). k.now.pair) o) ++ pairs_at_edges x.edges.now)) (sym own)
+          ∙ sym (level_rows_snoc back before_last x) ∙ ap rows_up (sym is) ∙ so_far
 
-      pub deeper_down : (new : List Level) → new ≡ slice_set bigger (at - 1) (record { own = x.own; edges = r }) → x.edges.now ≡ r.now ++ e ∷ [] → held_down items ≡ whole → held_down new ≡ whole
+      pub deeper_down : (new : List Level) → new ≡ slice_set bigger (at - 1) (record { own = x.own; edges = r }) → x.edges.now ≡ r.now ++ e ∷ [] → rows_down items ≡ whole → rows_down new ≡ whole
       deeper_down new set last so_far =
           let leaf = pairs_of_leaf (option_map (λ (k : Bor CellLeaf). k.now.pair) x.own) in
-          ap held_down (grown before_last items x is past_last z bigger new at all pushed set)
-          ∙ held_snoc rows_of (before_last ++ past_last ∷ []) z
-          ∙ ap (λ (h : List Fields). h ++ rows_of (level_pairs z)) (held_snoc rows_of before_last past_last)
-          ∙ ap (λ (ps : List Pair). (held_down before_last ++ rows_of (level_pairs past_last)) ++ rows_of ps) (pairs ∙ ap (λ (m : PlainNode). pairs_of (below m)) led)
-          ∙ more (held_down before_last) (level_pairs past_last) (pairs_at_edge e)
-          ∙ ap (λ (ps : List Pair). held_down before_last ++ rows_of ps)
+          ap rows_down (grown before_last items x is past_last z bigger new at all pushed set)
+          ∙ level_rows_snoc rows_of (before_last ++ past_last ∷ []) z
+          ∙ ap (λ (h : List Fields). h ++ rows_of (level_pairs z)) (level_rows_snoc rows_of before_last past_last)
+          ∙ ap (λ (ps : List Pair). (rows_down before_last ++ rows_of (level_pairs past_last)) ++ rows_of ps) (pairs ∙ ap (λ (m : PlainNode). pairs_of (below m)) led)
+          ∙ more (rows_down before_last) (level_pairs past_last) (pairs_at_edge e)
+          ∙ ap (λ (ps : List Pair). rows_down before_last ++ rows_of ps)
           (append_assoc leaf (pairs_at_edges r.now) (pairs_at_edge e) ∙ ap (λ (ps : List Pair). leaf ++ ps) (sym (pairs_last r.now e) ∙ ap pairs_at_edges (sym last)))
-          ∙ sym (held_snoc rows_of before_last x) ∙ ap held_down (sym is) ∙ so_far
+          ∙ sym (level_rows_snoc rows_of before_last x) ∙ ap rows_down (sym is) ∙ so_far
 
     module _ (under : nodes_in (map edge_node z.edges.now) ≡ n.under) where
       less : (y : Level) (new : List Level) → new ≡ slice_set bigger (at - 1) y → y.edges.now ≡ r.now → size_at x.edges.now ≡ suc (size (plain_edge e).node.under + size_at r.now) → weight new < weight items

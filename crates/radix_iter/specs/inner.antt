@@ -1,3 +1,3 @@
 pub mod Beside
-pub mod Held
+pub mod LevelRows
 pub mod Rests

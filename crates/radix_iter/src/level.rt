@@ -6,7 +6,7 @@ ghost use Rattle.mdb_datum.specs.Bytes.{byte_order};
 ghost use Rattle.mdb_datum.specs.Pairs.{first_item, rows_of};
 ghost use Rattle.radix_node.specs.Node.{below_prefix, edge_node, nodes_in, plain_node};
 ghost use Rattle.radix_node.specs.Nodes.{pairs_of, pairs_of_leaf, pairs_of_nodes};
-ghost use Rattle.radix_iter.specs.inner.Held.{held_down, held_up, level_pairs};
+ghost use Rattle.radix_iter.specs.inner.LevelRows.{rows_down, rows_up, level_pairs};
 
 use crate::edges::edges_under;
 use mdb_datum::Row;
@@ -24,10 +24,10 @@ pub(crate) struct Level<'a> {
 /// The next row of levels, the last of which comes first: of each its leaf, and then what is under
 /// its edges.
 pub(crate) fn next_rising(levels: &mut Vec<Level<'_>>) -> Result<Option<Row>, AllocError>
-    ensures next { IfOk result (λ r. r ≡ first_item (reverse (held_up levels.old.items))) }
+    ensures next { IfOk result (λ r. r ≡ first_item (reverse (rows_up levels.old.items))) }
     ensures rest { OnOk result
-        (reverse (held_up levels.new.items) ≡ drop 1 (reverse (held_up levels.old.items))) }
-    ensures unchanged { OnErr result (held_up levels.new.items ≡ held_up levels.old.items) }
+        (reverse (rows_up levels.new.items) ≡ drop 1 (reverse (rows_up levels.old.items))) }
+    ensures unchanged { OnErr result (rows_up levels.new.items ≡ rows_up levels.old.items) }
 {
     while let Some(level) = levels.last() {
         let Level { own, edges } = *level;
@@ -59,10 +59,10 @@ pub(crate) fn next_rising(levels: &mut Vec<Level<'_>>) -> Result<Option<Row>, Al
 /// The next row of levels, the last of which comes first: of each what is under its edges, from the
 /// last one on, and then its leaf.
 pub(crate) fn next_falling(levels: &mut Vec<Level<'_>>) -> Result<Option<Row>, AllocError>
-    ensures next { IfOk result (λ r. r ≡ first_item (reverse (held_down levels.old.items))) }
+    ensures next { IfOk result (λ r. r ≡ first_item (reverse (rows_down levels.old.items))) }
     ensures rest { OnOk result
-        (reverse (held_down levels.new.items) ≡ drop 1 (reverse (held_down levels.old.items))) }
-    ensures unchanged { OnErr result (held_down levels.new.items ≡ held_down levels.old.items) }
+        (reverse (rows_down levels.new.items) ≡ drop 1 (reverse (rows_down levels.old.items))) }
+    ensures unchanged { OnErr result (rows_down levels.new.items ≡ rows_down levels.old.items) }
 {
     while let Some(level) = levels.last() {
         let Level { own, edges } = *level;
@@ -104,8 +104,8 @@ pub(crate) fn push_edges<'a>(
     levels: &mut Vec<Level<'a>>,
     edges: &'a [Edge],
 ) -> Result<(), AllocError>
-    ensures { IfOk result (λ _. held_up levels.new.items
-        ≡ held_up levels.old.items
+    ensures { IfOk result (λ _. rows_up levels.new.items
+        ≡ rows_up levels.old.items
         ++ reverse (rows_of (pairs_of_nodes (nodes_in (map edge_node edges.now))))) }
 {
     levels.push(Level { own: None, edges })?;
@@ -114,8 +114,8 @@ pub(crate) fn push_edges<'a>(
 
 /// Adds all of a node, for a walk upward.
 pub(crate) fn push_up<'a>(levels: &mut Vec<Level<'a>>, node: &'a Node) -> Result<(), AllocError>
-    ensures { IfOk result (λ _. held_up levels.new.items
-        ≡ held_up levels.old.items ++ reverse (rows_of (pairs_of (below_prefix node.now)))) }
+    ensures { IfOk result (λ _. rows_up levels.new.items
+        ≡ rows_up levels.old.items ++ reverse (rows_of (pairs_of (below_prefix node.now)))) }
 {
     levels.push(level_of(node))?;
     Ok(())
@@ -123,8 +123,8 @@ pub(crate) fn push_up<'a>(levels: &mut Vec<Level<'a>>, node: &'a Node) -> Result
 
 /// Adds all of a node, for a walk downward.
 pub(crate) fn push_down<'a>(levels: &mut Vec<Level<'a>>, node: &'a Node) -> Result<(), AllocError>
-    ensures { IfOk result (λ _. held_down levels.new.items
-        ≡ held_down levels.old.items ++ rows_of (pairs_of (below_prefix node.now))) }
+    ensures { IfOk result (λ _. rows_down levels.new.items
+        ≡ rows_down levels.old.items ++ rows_of (pairs_of (below_prefix node.now))) }
 {
     levels.push(level_of(node))?;
     Ok(())
@@ -132,8 +132,8 @@ pub(crate) fn push_down<'a>(levels: &mut Vec<Level<'a>>, node: &'a Node) -> Resu
 
 /// Adds a node's leaf alone, for a walk downward.
 pub(crate) fn push_own<'a>(levels: &mut Vec<Level<'a>>, node: &'a Node) -> Result<(), AllocError>
-    ensures { let n = plain_node node.now in IfOk result (λ _. held_down levels.new.items
-        ≡ held_down levels.old.items ++ rows_of (pairs_of_leaf n.leaf)) }
+    ensures { let n = plain_node node.now in IfOk result (λ _. rows_down levels.new.items
+        ≡ rows_down levels.old.items ++ rows_of (pairs_of_leaf n.leaf)) }
 {
     levels.push(Level {
         own: node.leaf(),
@@ -149,8 +149,8 @@ pub(crate) fn push_before<'a>(
     node: &'a Node,
     lower: &'a [Edge],
 ) -> Result<(), AllocError>
-    ensures { let n = plain_node node.now in IfOk result (λ _. held_down levels.new.items
-        ≡ held_down levels.old.items
+    ensures { let n = plain_node node.now in IfOk result (λ _. rows_down levels.new.items
+        ≡ rows_down levels.old.items
         ++ rows_of (pairs_of_leaf n.leaf ++ pairs_of_nodes (nodes_in (map edge_node lower.now)))) }
 {
     levels.push(Level {
@@ -167,7 +167,7 @@ pub(crate) fn push_if_higher<'a>(
     rest: &[u8],
 ) -> Result<(), AllocError>
     ensures { let n = plain_node node.now in
-        IfOk result (λ _. held_up levels.new.items ≡ held_up levels.old.items ++ reverse (rows_of
+        IfOk result (λ _. rows_up levels.new.items ≡ rows_up levels.old.items ++ reverse (rows_of
         (if is_lt (byte_order rest.now n.prefix) then pairs_of (below_prefix node.now) else []))) }
 {
     if rest < node.prefix() {
@@ -183,7 +183,7 @@ pub(crate) fn push_if_lower<'a>(
     rest: &[u8],
 ) -> Result<(), AllocError>
     ensures { let n = plain_node node.now in
-        IfOk result (λ _. held_down levels.new.items ≡ held_down levels.old.items ++ rows_of
+        IfOk result (λ _. rows_down levels.new.items ≡ rows_down levels.old.items ++ rows_of
         (if is_gt (byte_order rest.now n.prefix) then pairs_of (below_prefix node.now) else [])) }
 {
     if node.prefix() < rest {

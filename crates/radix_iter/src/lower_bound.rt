@@ -3,7 +3,7 @@ ghost use Rattle.std.specs.Prelude.{◌≡◌, ◌++◌, IfOk, reverse};
 ghost use Rattle.mdb_datum.specs.Pairs.{at_least, rows_of};
 ghost use Rattle.radix_node.specs.Cells.{plain_of};
 ghost use Rattle.radix_node.specs.Nodes.{pairs_of};
-ghost use Rattle.radix_iter.specs.inner.Held.{held_up};
+ghost use Rattle.radix_iter.specs.inner.LevelRows.{rows_up};
 
 use crate::edges::child_and_higher;
 use crate::level::{Level, push_edges, push_if_higher, push_up};
@@ -31,8 +31,8 @@ fn push_at_least<'a>(
     tree: &'a Tree,
     key: &[u8],
 ) -> Result<(), AllocError>
-    ensures { IfOk result (λ _. held_up levels.new.items
-        ≡ held_up levels.old.items ++ reverse (rows_of (at_least key.now (pairs_of (plain_of tree.now))))) }
+    ensures { IfOk result (λ _. rows_up levels.new.items
+        ≡ rows_up levels.old.items ++ reverse (rows_of (at_least key.now (pairs_of (plain_of tree.now))))) }
 {
     let mut node = tree.root();
     let mut rest = key;

@@ -3,7 +3,7 @@ ghost use Rattle.std.specs.Prelude.{◌≡◌, ◌++◌, IfOk, reverse};
 ghost use Rattle.mdb_datum.specs.Pairs.{at_most, rows_of};
 ghost use Rattle.radix_node.specs.Cells.{plain_of};
 ghost use Rattle.radix_node.specs.Nodes.{pairs_of};
-ghost use Rattle.radix_iter.specs.inner.Held.{held_down};
+ghost use Rattle.radix_iter.specs.inner.LevelRows.{rows_down};
 
 use crate::edges::lower_and_child;
 use crate::level::{Level, push_before, push_if_lower, push_own};
@@ -31,8 +31,8 @@ fn push_at_most<'a>(
     tree: &'a Tree,
     key: &[u8],
 ) -> Result<(), AllocError>
-    ensures { IfOk result (λ _. held_down levels.new.items
-        ≡ held_down levels.old.items ++ rows_of (at_most key.now (pairs_of (plain_of tree.now)))) }
+    ensures { IfOk result (λ _. rows_down levels.new.items
+        ≡ rows_down levels.old.items ++ rows_of (at_most key.now (pairs_of (plain_of tree.now)))) }
 {
     let mut node = tree.root();
     let mut rest = key;

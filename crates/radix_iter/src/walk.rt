@@ -28,7 +28,7 @@ impl<'a> Model for Walk<'a> {
     ghost use Rattle.std.specs.Prelude.{List};
     ghost use Rattle.std.specs.Coded.{coded_list};
     ghost use Rattle.mdb_datum.specs.Row.{Fields};
-    ghost use Rattle.mdb_datum.specs.inner.Stored.{fields_code};
+    ghost use Rattle.mdb_datum.specs.Codes.{fields_code};
 
     ghost Value = { List Fields };
 

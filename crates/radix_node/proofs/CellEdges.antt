@@ -8,7 +8,7 @@ use Rattle.radix_node.specs.Cells.{CellNode, CellNodes, cells_in}
 use Rattle.radix_node.specs.Edges.{place_of, further_by}
 use Rattle.radix_node.specs.Node.{edges_of, plain_edge}
 use Rattle.radix_node.specs.Nodes.{first_order}
-use Rattle.radix_node.specs.inner.Siblings.{bare}
+use Rattle.radix_node.specs.Siblings.{bare}
 use Rattle.radix_node.specs.declared.edge.Edge.{Edge}
 use Rattle.radix_node.specs.declared.edges.Edges.{Edges, out-Edges}
 use Rattle.radix_node.proofs.CellLevels.{cell_edges_out, out_cell_edge, bare_edges}

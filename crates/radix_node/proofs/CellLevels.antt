@@ -7,7 +7,7 @@ use Rattle.radix_node.specs.CellNode.{CellEdge, led, tree_at, cell_edge_step, ce
 use Rattle.radix_node.specs.Cells.{CellNode, cells_in, plain_leaf, plain_nodes, plain_of}
 use Rattle.radix_node.specs.Node.{PlainEdge, PlainNode, labelled, leaf_pair, below, below_prefix, nodes_in, plain_edge, edges_of, plain_node, node_of, edge_node}
 use Rattle.radix_node.specs.Nodes.{node}
-use Rattle.radix_node.specs.inner.Siblings.{bare}
+use Rattle.radix_node.specs.Siblings.{bare}
 use Rattle.radix_node.specs.declared.leaf.Leaf.{Leaf}
 use Rattle.radix_node.specs.declared.edge.Edge.{Edge, Edge-F, out-Edge, roll-Edge, fold_out-Edge, fold-roll-Edge}
 use Rattle.radix_node.specs.declared.edges.Edges.{Edges, Edges-F, out-Edges, roll-Edges, fold_out-Edges, fold-roll-Edges, ind-Edges}

@@ -9,7 +9,7 @@ use Rattle.radix_node.specs.Nodes.{Nodes, no_nodes, node, first_order}
 use Rattle.radix_node.specs.Shape.{FirstBytes, IsShaped}
 use Rattle.radix_node.specs.Edges.{EdgesRise, place_of, further_by}
 use Rattle.radix_node.specs.Node.{PlainEdge, PlainNode, nodes_in, edges_of, edge_node, edge_of, labelled}
-use Rattle.radix_node.specs.inner.Siblings.{nodes_list}
+use Rattle.radix_node.specs.Siblings.{nodes_list}
 use Rattle.radix_node.specs.declared.edge.Edge.{Edge}
 use Rattle.radix_node.specs.declared.edges.Edges.{Edges, out-Edges}
 use Rattle.radix_node.proofs.ByteCompare.{what_less, what_equal, what_greater, less_from, equal_from, greater_from}

@@ -28,8 +28,8 @@ pub leaf_past : (P : ℕ → Type 0) (path : List ℕ) (b : ℕ) (p : List ℕ) 
 leaf_past P path b p None h keyed = tt
 leaf_past P path b p (Some pair) h keyed = ((b, p, h, keyed), tt)
 
-further : (P : ℕ → Type 0) (path : List ℕ) (b : ℕ) (p : List ℕ) → P b → (k : List ℕ) → Past Any (path ++ b ∷ p) k → Past P path k
-further P path b p h k w = (b, p ++ w.0 ∷ w.1, h, w.3 ∙ append_assoc path (b ∷ p) (w.0 ∷ w.1))
+pub Past-further : (P : ℕ → Type 0) (path : List ℕ) (b : ℕ) (p : List ℕ) → P b → (k : List ℕ) → Past Any (path ++ b ∷ p) k → Past P path k
+Past-further P path b p h k w = (b, p ++ w.0 ∷ w.1, h, w.3 ∙ append_assoc path (b ∷ p) (w.0 ∷ w.1))
 
 -- keys under a node go on past its path
 pub keys_past : (P : ℕ → Type 0) (path : List ℕ) (ns : Nodes) → IsShaped path ns → FirstBytes P ns → Each (Past P path) (pairs_of_nodes ns)
@@ -38,7 +38,7 @@ keys_past P path (node [] leaf under later) s h = absurd s
 keys_past P path (node (b ∷ p) leaf under later) s h =
     Each-append (Past P path) (pairs_of_leaf leaf) _ (leaf_past P path b p leaf h.0 s.keyed)
     (Each-append (Past P path) (pairs_of_nodes under) (pairs_of_nodes later)
-    (Each-weaken (Past Any (path ++ b ∷ p)) (Past P path) (pairs_of_nodes under) (further P path b p h.0) (keys_past Any (path ++ b ∷ p) under s.under (any_first (path ++ b ∷ p) under s.under)))
+    (Each-weaken (Past Any (path ++ b ∷ p)) (Past P path) (pairs_of_nodes under) (Past-further P path b p h.0) (keys_past Any (path ++ b ∷ p) under s.under (any_first (path ++ b ∷ p) under s.under)))
     (keys_past P path later s.later h.1))
 
 -- keys past a node's path
@@ -47,7 +47,7 @@ below_past path ns s = keys_past Any path ns s (any_first path ns s)
 
 -- the keys under a node, seen from the path above it
 pub under_past : (P : ℕ → Type 0) (path : List ℕ) (b : ℕ) (p : List ℕ) (under : Nodes) → P b → IsShaped (path ++ b ∷ p) under → Each (Past P path) (pairs_of_nodes under)
-under_past P path b p under h s = Each-weaken (Past Any (path ++ b ∷ p)) (Past P path) (pairs_of_nodes under) (further P path b p h) (below_past (path ++ b ∷ p) under s)
+under_past P path b p under h s = Each-weaken (Past Any (path ++ b ∷ p)) (Past P path) (pairs_of_nodes under) (Past-further P path b p h) (below_past (path ++ b ∷ p) under s)
 
 -- ---- how such keys compare
 

@@ -8,7 +8,7 @@ use Rattle.radix_node.specs.Pairs.{find}
 use Rattle.radix_node.specs.Shape.{HasShape}
 use Rattle.radix_node.specs.Paths.{Has}
 use Rattle.radix_node.specs.Watches.{leaf_with}
-use Rattle.radix_node.specs.inner.Walk.{walk_tree, end_leaf}
+use Rattle.radix_node.specs.WalkDown.{walk_tree, end_leaf}
 use Rattle.radix_node.proofs.Lookup.{row_of_pair}
 use Rattle.radix_node.proofs.Paths.{Has-left, Has-right, Has-split}
 use Rattle.radix_node.proofs.WalkedTree.{leaf_reached}

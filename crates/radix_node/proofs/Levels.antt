@@ -3,7 +3,7 @@ use Rattle.std.proofs.Common.{◌≡◌, ◌∷◌, ◌∙◌, ℕ, List, [], ma
 use Rattle.std.specs.Arc.{arc_value}
 use Rattle.radix_node.specs.Nodes.{first_order}
 use Rattle.radix_node.specs.Node.{PlainEdge, PlainNode, leaf_pair, nodes_in, edge_step, edges_step, node_step, ref_step, plain_edge, edges_of, plain_node, node_of, edge_node, labelled}
-use Rattle.radix_node.specs.inner.Siblings.{nodes_list}
+use Rattle.radix_node.specs.Siblings.{nodes_list}
 use Rattle.radix_node.specs.declared.edge.Edge.{Edge, Edge-F, out-Edge, roll-Edge, fold_out-Edge, fold-roll-Edge}
 use Rattle.radix_node.specs.declared.edges.Edges.{Edges, Edges-F, out-Edges, roll-Edges, fold_out-Edges, fold-roll-Edges}
 use Rattle.radix_node.specs.declared.node.Node.{Node, Node-F, out-Node, roll-Node, fold_out-Node, fold-roll-Node}

@@ -34,5 +34,5 @@ pub mod TwoTrees
 pub mod WalkSteps
 pub mod WalkedTree
 pub mod Walks
-pub mod WatchesHold
+pub mod TreeWatches
 pub mod WholeTree

@@ -17,7 +17,7 @@ use Rattle.radix_node.proofs.Prefixes.{is_prefix_all, is_prefix_other, is_prefix
 use Rattle.radix_node.proofs.Filters.{kept}
 use Rattle.radix_node.proofs.KeyOrder.{Each, same_start}
 use Rattle.radix_node.proofs.PairLaws.{below_rest, rising_rest}
-use Rattle.radix_node.proofs.LookupSteps.{ended, led, child_shaped, rest_past_label}
+use Rattle.radix_node.proofs.LookupSteps.{no_bytes, led, child_shaped, rest_past_label}
 use Rattle.radix_node.proofs.WholeTree.{rising_plain}
 use Rattle.radix_node.proofs.KeysUnder.{Past}
 use Rattle.radix_node.proofs.PathFilter.{IsTest, Sides, narrow, when, kept_plain, walked, walked_at, walked_edge, walked_narrow}
@@ -162,7 +162,7 @@ pub record IsBest (whole best : Option Pair) (rest : List ℕ) (n : PlainNode) :
 
 module _ (whole best : Option Pair) (k : List ℕ) (n : PlainNode) (on : IsBest whole best k n) where
   pub best_end : length k ≡ 0 → best ≡ whole
-  best_end e = ap (λ (z : List ℕ). last_or best (beyond z (below n))) (sym (ended k e)) ∙ on.same
+  best_end e = ap (λ (z : List ℕ). last_or best (beyond z (below n))) (sym (no_bytes k e)) ∙ on.same
 
   module _ (x : ℕ) (after : List ℕ) (first : k ≡ x ∷ after) where
     by_edge : beyond k (below n) ≡ walked_edge (narrow true true false) (x ∷ after) (edge_of x n.under)

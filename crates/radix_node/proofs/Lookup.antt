@@ -8,7 +8,7 @@ use Rattle.mdb_datum.specs.Row.{Fields, Pair}
 use Rattle.radix_node.specs.Pairs.{find}
 use Rattle.radix_node.specs.Nodes.{Nodes, no_nodes, node, pairs_of_leaf, pairs_of_nodes, part}
 use Rattle.radix_node.specs.Shape.{FirstBytes, IsKeyed, IsShaped}
-use Rattle.radix_node.specs.inner.Seek.{seek, found}
+use Rattle.radix_node.specs.Seek.{seek, found}
 use Rattle.radix_node.proofs.KeyOrder.{Each, Each-append, Each-weaken, same_start}
 use Rattle.radix_node.proofs.Parts.{HeadsDiffer, part_parts}
 use Rattle.radix_node.proofs.KeysUnder.{Any, Past, weaken_first, leaf_past, keys_past, below_past, under_past, Past-less, Past-greater, Past-end, leaf_greater}

@@ -91,9 +91,9 @@ rest_past_label x p k = ap (λ (s : List ℕ × List ℕ × List ℕ). left_of s
 abbrev pub led : ℕ → PlainNode → PlainNode
 led x m = labelled (record { label = x; node = m })
 
-pub ended : (k : List ℕ) → length k ≡ 0 → k ≡ []
-ended [] e = refl
-ended (x ∷ k) e = absurd (omega (arith, e))
+pub no_bytes : (k : List ℕ) → length k ≡ 0 → k ≡ []
+no_bytes [] e = refl
+no_bytes (x ∷ k) e = absurd (omega (arith, e))
 
 pub child_shaped : (path : List ℕ) (x : ℕ) (ns : Nodes) (m : PlainNode) → IsShaped path ns → Some (led x m) ≡ edge_of x ns → IsShaped (path ++ x ∷ m.prefix) m.under
 child_shaped path x ns m s e = (edge_shaped path x ns (led x m) s e).shaped

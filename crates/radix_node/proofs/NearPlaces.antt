@@ -11,9 +11,9 @@ use Rattle.radix_node.specs.Cells.{CellLeaf, CellNodes, no_cells, celled, CellTr
 use Rattle.radix_node.specs.Nodes.{part}
 use Rattle.radix_node.specs.Shape.{FirstBytes, IsShaped, HasShape}
 use Rattle.radix_node.specs.Watches.{longest_place, shorter_place, shortest_place, place_or, further_place, near}
-use Rattle.radix_node.specs.inner.Walk.{End, arrived, walk, walk_tree}
+use Rattle.radix_node.specs.WalkDown.{End, arrived, walk, walk_tree}
 use Rattle.radix_node.proofs.ByteCompare.{what_less, what_equal, what_greater}
-use Rattle.radix_node.proofs.KeysUnder.{Any, Past, any_first, weaken_first}
+use Rattle.radix_node.proofs.KeysUnder.{Any, Past, Past-further, any_first, weaken_first}
 use Rattle.radix_node.proofs.Parts.{HeadsDiffer, part_parts}
 use Rattle.radix_node.proofs.Prefixes.{is_prefix_start}
 
@@ -30,9 +30,6 @@ each_weaken : (P Q : Bytes → Type 0) → ((x : Bytes) → P x → Q x) → (xs
 each_weaken P Q f [] h = tt
 each_weaken P Q f (x ∷ xs) h = (f x.path h.0, each_weaken P Q f xs h.1)
 
-further : (P : ℕ → Type 0) (path : Bytes) (b : ℕ) (p : Bytes) → P b → (k : Bytes) → Past Any (path ++ b ∷ p) k → Past P path k
-further P path b p h k w = (b, p ++ w.0 ∷ w.1, h, w.3 ∙ append_assoc path (b ∷ p) (w.0 ∷ w.1))
-
 -- the places under a path go on past it
 pub places_past : (P : ℕ → Type 0) (path : Bytes) (ns : CellNodes) → IsShaped path (plain_nodes ns) → FirstBytes P (plain_nodes ns) → EachPlace (Past P path) (node_places path ns)
 places_past P path no_cells s h = tt
@@ -40,7 +37,7 @@ places_past P path (celled cell [] leaf under later) s h = absurd s
 places_past P path (celled cell (b ∷ p) leaf under later) s h = (
   (b, p, h.0, refl),
   each_append (Past P path) (node_places (path ++ b ∷ p) under) (node_places path later)
-      (each_weaken (Past Any (path ++ b ∷ p)) (Past P path) (further P path b p h.0) (node_places (path ++ b ∷ p) under) (places_past Any (path ++ b ∷ p) under s.under (any_first (path ++ b ∷ p) (plain_nodes under) s.under)))
+      (each_weaken (Past Any (path ++ b ∷ p)) (Past P path) (Past-further P path b p h.0) (node_places (path ++ b ∷ p) under) (places_past Any (path ++ b ∷ p) under s.under (any_first (path ++ b ∷ p) (plain_nodes under) s.under)))
       (places_past P path later s.later h.1),
 )
 
@@ -145,7 +142,7 @@ drop_rest : (key p u : Bytes) → key ≡ p ++ u → drop (length p) key ≡ u
 drop_rest key p u e = ap (drop (length p)) e ∙ drop_at p u (length p) refl
 
 module _ (path : Bytes) (x : ℕ) (k key : Bytes) (is_key : key ≡ path ++ x ∷ k) where
-  -- one byte further it still goes the way of the key
+  -- one byte Past-further it still goes the way of the key
   next_byte : (p : Place) → (on : OnWay path key p) → (y : ℕ) (r : Bytes) → on.rest ≡ y ∷ r → (z : Bytes) × (p.path ++ y ∷ [] ≡ path ++ x ∷ z)
   next_byte p on y r e =
       let whole : path ++ (on.more ++ y ∷ r) ≡ path ++ x ∷ k = sym (append_assoc path on.more (y ∷ r)) ∙ ap (λ (z : Bytes). z ++ y ∷ r) (sym on.at) ∙ ap (λ (z : Bytes). p.path ++ z) (sym e) ∙ sym on.whole ∙ is_key in

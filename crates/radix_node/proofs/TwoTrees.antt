@@ -7,7 +7,7 @@ use Rattle.radix_node.specs.Cells.{CellLeaf, CellTree, Piece, a_node, a_leaf, pi
 use Rattle.radix_node.specs.Shape.{HasShape}
 use Rattle.radix_node.specs.Paths.{Has}
 use Rattle.radix_node.specs.Watches.{Fires, TellTheSame, leaf_cell_or}
-use Rattle.radix_node.specs.inner.Walk.{End, walk_tree, end_leaf}
+use Rattle.radix_node.specs.WalkDown.{End, walk_tree, end_leaf}
 use Rattle.radix_node.proofs.Members.{has_cell, cell_piece, with_id}
 use Rattle.radix_node.proofs.WalkedTree.{end_piece, leaf_reached, leaf_found, same_walk}
 

@@ -9,11 +9,11 @@ use Rattle.radix_node.specs.Cells.{CellLeaf, CellNode, CellNodes, no_cells, cell
 use Rattle.radix_node.specs.Node.{left_of, rest_past}
 use Rattle.radix_node.specs.Nodes.{part, first_order, pairs_of_leaf, pairs_of_nodes}
 use Rattle.radix_node.specs.inner.Descent.{leaf_by, pairs_by, EndsAt}
-use Rattle.radix_node.specs.inner.Walk.{End, arrived, walk, walk_on, walk_tree, leaf_if, end_leaf, pairs_if, end_pairs}
+use Rattle.radix_node.specs.WalkDown.{End, arrived, walk, walk_on, walk_tree, leaf_if, end_leaf, pairs_if, end_pairs}
 use Rattle.radix_node.specs.declared.tree.descent.KeyEnd.{KeyEnd}
 use Rattle.radix_node.specs.declared.tree.descent.KeyEnd.TheVariants.{At, Within, Outside}
 use Rattle.radix_node.proofs.Levels.{first_byte}
-use Rattle.radix_node.proofs.LookupSteps.{ended, is_empty, rest_past_label, prefix_tested}
+use Rattle.radix_node.proofs.LookupSteps.{no_bytes, is_empty, rest_past_label, prefix_tested}
 use Rattle.radix_node.proofs.Parts.{part_first}
 use Rattle.radix_node.proofs.Walks.{on_at}
 
@@ -87,7 +87,7 @@ pairs_parted (x ∷ k) n = refl
 module _ (end : End) (k : Bytes) (n : CellNode) (at : IsWalkAt end k n) where
   pub walk_ended : length k ≡ 0 → EndsAt end n At
   walk_ended e =
-      let none = ended k e in
+      let none = no_bytes k e in
       let is : at.above ≡ end = ap (λ (z : Bytes). walk_on at.above z n.under) (sym none) ∙ at.same in
       record {
         cell = sym at.cell ∙ ap (λ (z : End). z.node.cell) is;

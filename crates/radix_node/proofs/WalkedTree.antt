@@ -6,7 +6,7 @@ use Rattle.radix_node.specs.Cells.{CellLeaf, CellNode, CellNodes, CellTree, a_no
 use Rattle.radix_node.specs.Nodes.{part}
 use Rattle.radix_node.specs.Shape.{IsKeyed, HasShape}
 use Rattle.radix_node.specs.Paths.{Has}
-use Rattle.radix_node.specs.inner.Walk.{End, walk, walk_on, walk_tree, leaf_if, end_leaf}
+use Rattle.radix_node.specs.WalkDown.{End, walk, walk_on, walk_tree, leaf_if, end_leaf}
 use Rattle.radix_node.proofs.Members.{leaf_is, leaf_has, no_leaf_node, node_no_leaf, same_node}
 use Rattle.radix_node.proofs.Paths.{Has-left, Has-right, Has-split}
 use Rattle.radix_node.proofs.Parts.{part_parts}

@@ -8,8 +8,8 @@ use Rattle.mdb_datum.specs.Row.{Pair}
 use Rattle.radix_node.specs.Cells.{CellLeaf, CellNode, CellNodes, no_cells, celled, CellTree, plain_leaf, plain_nodes, plain_of, root_of}
 use Rattle.radix_node.specs.Nodes.{part, first_order, pairs_of_leaf, pairs_of_nodes}
 use Rattle.radix_node.specs.Shape.{IsShaped}
-use Rattle.radix_node.specs.inner.Seek.{seek, seek_plain, found}
-use Rattle.radix_node.specs.inner.Walk.{End, arrived, walk, walk_tree, leaf_if, end_leaf, pairs_if, end_pairs}
+use Rattle.radix_node.specs.Seek.{seek, seek_plain, found}
+use Rattle.radix_node.specs.WalkDown.{End, arrived, walk, walk_tree, leaf_if, end_leaf, pairs_if, end_pairs}
 use Rattle.radix_node.proofs.ByteCompare.{what_equal, equal_from, greater_from}
 use Rattle.radix_node.proofs.Parts.{part_parts, part_first}
 use Rattle.radix_node.proofs.PathFilter.{when, walked_at, walked, walked_plain}

@@ -6,7 +6,7 @@ use Rattle.radix_node.specs.Pairs.{IsRising, find}
 use Rattle.radix_node.specs.Nodes.{Plain, pairs_of_leaf, pairs_of_nodes, pairs_of, common}
 use Rattle.radix_node.specs.Shape.{HasShape}
 use Rattle.radix_node.specs.Paths.{Has, HasKey, IsPath, root, whole_key, shared, paths_of_plain}
-use Rattle.radix_node.specs.inner.Seek.{seek_plain}
+use Rattle.radix_node.specs.Seek.{seek_plain}
 use Rattle.radix_node.proofs.KeyOrder.{Each-weaken}
 use Rattle.radix_node.proofs.KeysUnder.{Any, Past, below_past, Past-end, leaf_greater}
 use Rattle.radix_node.proofs.Lookup.{Apart, apart_less, apart_greater, row_of_pair, at_leaf, find_skip, find_seek}

@@ -1,5 +1,6 @@
 pub mod CellNode
 pub mod Cells
+pub mod Codes
 pub mod Edges
 pub mod Ids
 pub mod Left
@@ -9,7 +10,10 @@ pub mod Node
 pub mod Nodes
 pub mod Pairs
 pub mod Paths
+pub mod Seek
 pub mod Shape
+pub mod Siblings
+pub mod WalkDown
 pub mod Watches
 pub mod inner
 pub mod worked

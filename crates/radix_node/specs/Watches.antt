@@ -86,7 +86,7 @@ HoldsSeek old new prefix =
     ⊎ ((seek_watch prefix new ≡ seek_watch prefix old)
     × (with_prefix prefix (pairs_of (plain_of new)) ≡ with_prefix prefix (pairs_of (plain_of old))))
 
--- whatever is watched in the old tree, its cell fires, or nothing has changed there
-pub record WatchesHold (old new : CellTree) : Type 0 where
+-- whatever is watched in the old tree holds: its cell fires, or nothing has changed there
+pub record HoldsWatched (old new : CellTree) : Type 0 where
   pub get : (key : Bytes) → HoldsGet old new key
   pub seek : (prefix : Bytes) → HoldsSeek old new prefix

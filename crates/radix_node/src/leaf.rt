@@ -20,7 +20,7 @@ pub struct Leaf {
 impl Model for Leaf {
     ghost use Rattle.std.specs.Arc.{arc_value};
     ghost use Rattle.radix_node.specs.Cells.{CellLeaf};
-    ghost use Rattle.radix_node.specs.inner.Stored.{cell_leaf_code};
+    ghost use Rattle.radix_node.specs.Codes.{cell_leaf_code};
 
     ghost Value = { CellLeaf };
 

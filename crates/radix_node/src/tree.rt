@@ -35,7 +35,7 @@ pub struct Tree {
 
 impl Model for Tree {
     ghost use Rattle.radix_node.specs.Cells.{CellTree};
-    ghost use Rattle.radix_node.specs.inner.Stored.{tree_code};
+    ghost use Rattle.radix_node.specs.Codes.{tree_code};
 
     ghost Value = { CellTree };
 

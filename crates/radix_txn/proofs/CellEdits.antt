@@ -7,7 +7,7 @@ use Rattle.radix_node.specs.Cells.{CellLeaf, CellNode, CellNodes, no_cells, Piec
 use Rattle.radix_node.specs.Left.{leave, leave_leaf}
 use Rattle.radix_txn.specs.inner.Pieces.{led, inside_of, inside, whole}
 use Rattle.radix_txn.specs.inner.Steps.{IsStep, IsNext}
-use Rattle.radix_txn.proofs.Steps.{at, SameBag, bag_is, bag_swap, bag_under, bag_then, bag_front, step_same, step_then, step_bag, step_from, step_beside, step_made, step_gone, step_held}
+use Rattle.radix_txn.proofs.Steps.{at, SameBag, bag_is, bag_swap, bag_under, bag_then, bag_front, step_same, step_then, step_bag, step_from, step_beside, step_made, step_gone, step_in_place}
 
 -- ---- nodes side by side
 
@@ -176,4 +176,4 @@ module _ (P : Cell → Type 0) (first : ℕ) (bytes : Bytes) (n m : CellNode) (l
       step_from P first _ ((loose ++ inside n) ++ top ∷ []) n0 l0 (at (whole (led bytes m)) n1 l1) to
       (step_then P first
       (step_bag P first (at ((loose ++ inside n) ++ top ∷ []) n0 l0) (at (new ++ top ∷ []) n1 l1) (step_beside P first (at (loose ++ inside n) n0 l0) (at new n1 l1) s (top ∷ [])) (top ∷ new) (bag_swap new (top ∷ [])))
-      (step_held P first top (a_node (led bytes m)) new n1 l1 (omega (arith, begun, later)) same low))
+      (step_in_place P first top (a_node (led bytes m)) new n1 l1 (omega (arith, begun, later)) same low))

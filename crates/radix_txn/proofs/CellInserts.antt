@@ -12,7 +12,7 @@ use Rattle.radix_node.specs.declared.edges.Edges.{Edges}
 use Rattle.radix_node.proofs.CellEdges.{same_label}
 use Rattle.radix_node.proofs.EdgeSearch.{edge_at_place, edge_label}
 use Rattle.radix_node.specs.Left.{leave, leave_leaf}
-use Rattle.radix_node.specs.inner.Siblings.{cells_list}
+use Rattle.radix_node.specs.Siblings.{cells_list}
 use Rattle.radix_txn.specs.inner.Pieces.{led, inside_of, inside, whole}
 use Rattle.radix_txn.specs.inner.Steps.{IsStep, Ledger, IsOnward, Steps, one_drawn, one_left, leaf_left, IsNew, IsNext, IsNextOf}
 use Rattle.radix_txn.proofs.CellEdits.{pieces_one, step_middle, step_remade, step_leaf, step_new}

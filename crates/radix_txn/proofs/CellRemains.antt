@@ -10,7 +10,7 @@ use Rattle.radix_node.specs.declared.edges.Edges.{Edges}
 use Rattle.radix_node.proofs.CellLevels.{bare_edges}
 use Rattle.radix_node.specs.Cells.{CellLeaf, CellNode, CellNodes, no_cells, Piece, a_node, node_pieces, cells_in}
 use Rattle.radix_node.specs.Left.{all_cells, leave, leave_all}
-use Rattle.radix_node.specs.inner.Siblings.{bare, cells_list}
+use Rattle.radix_node.specs.Siblings.{bare, cells_list}
 use Rattle.radix_txn.specs.inner.Pieces.{led, inside_of, inside, whole}
 use Rattle.radix_txn.specs.inner.Steps.{IsStep, Ledger, IsOnward, Steps, many_left, IsNew, IsNextOf, one_drawn, one_left}
 use Rattle.radix_txn.proofs.CellEdits.{pieces_one, step_middle, step_unmade, step_without_leaf, step_settled, step_nothing}

@@ -6,12 +6,12 @@ use Rattle.std.proofs.lemmas.Bool.{eqb-true, false_from_ne_true}
 use Rattle.radix_node.specs.Cells.{AreApart, AreBelow, AreOf, CellTree, Piece, a_node, cells_of, count, piece_cell, pieces_of, plain_of, root_of}
 use Rattle.radix_node.specs.Ids.{Book, Counter}
 use Rattle.radix_node.specs.Shape.{HasShape}
-use Rattle.radix_node.specs.Watches.{TellTheSame, WatchesHold}
+use Rattle.radix_node.specs.Watches.{TellTheSame, HoldsWatched}
 use Rattle.radix_txn.specs.Notice.{IsBetween, IsDrawn, IsNotice, IsOpened, IsTold}
 use Rattle.radix_node.specs.Paths.{Has}
 use Rattle.radix_node.proofs.Members.{cell_piece, has_cell}
 use Rattle.radix_node.proofs.OneBook.{all_are, each_is}
-use Rattle.radix_txn.specs.inner.Kept.{IsChanged, IsWritten}
+use Rattle.radix_txn.specs.inner.Unspoiled.{IsChanged, IsWritten}
 use Rattle.radix_txn.specs.inner.Steps.{IsNew, IsOnward, IsStep, Ledger, Steps, Tally, tally}
 use Rattle.radix_txn.proofs.Steps.{at, count_other, drawn_after, drawn_before, drawn_between, lt_or_le, step_same, step_then, step_weaker}
 use Rattle.radix_txn.proofs.TxnTrees.{agree, counted, held, notice, opened}
@@ -220,7 +220,7 @@ above_all (c ∷ cs) =
 pub record Frozen (start tree : CellTree) (gone : List Cell) : Type 0 where
   pub notice : IsNotice gone start tree
   pub same : TellTheSame start tree
-  pub held : WatchesHold start tree
+  pub held : HoldsWatched start tree
   pub opened : (first : ℕ) × AreBelow first start × IsOpened first start tree
 
 frozen_step : (P : Cell → Type 0) (first next : ℕ) (start tree : CellTree) (gone : List Cell) → IsStep P first (at (pieces_of start) first []) (at (pieces_of tree) next gone) → AreBelow first start → AreApart start → HasShape (plain_of start) → HasShape (plain_of tree) → Frozen start tree gone

@@ -4,7 +4,7 @@ use Rattle.std.specs.List.{slice_get}
 use Rattle.std.specs.FinMap.Entries as entries
 use Rattle.mdb_datum.specs.Row.{Pair}
 use Rattle.radix_node.specs.Nodes.{Nodes, no_nodes, node, part, first_order}
-use Rattle.radix_node.specs.inner.Seek.{seek, seek_plain, found}
+use Rattle.radix_node.specs.Seek.{seek, seek_plain, found}
 use Rattle.radix_node.specs.Edges.{place_of}
 use Rattle.radix_node.specs.Node.{PlainNode, nodes_in, below, left_of, rest_past}
 use Rattle.radix_node.proofs.Levels.{first_byte}

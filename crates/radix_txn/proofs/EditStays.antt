@@ -1,5 +1,5 @@
 -- What stays where it is in each kind of edit, as it is made node by node.
-use Rattle.std.proofs.Common.{◌≡◌, ◌≢◌, inl, inr, ◌++◌, ◌∷◌, ◌∙◌, ◌+◌, ◌≤◌, ℕ, true, List, [], length, take, drop, Option, Some, None, refl, sym, ap, subst, arith, append_assoc, Less, Equal, Greater}
+use Rattle.std.proofs.Common.{◌≡◌, ◌≢◌, inl, inr, ◌++◌, ◌∷◌, ◌∙◌, ◌+◌, ◌≤◌, ℕ, true, List, [], length, take, drop, Option, Some, None, refl, sym, ap, subst, append_assoc, Less, Equal, Greater}
 use Rattle.std.proofs.lemmas.Bool.{false≢true}
 use Rattle.std.proofs.lemmas.List.{append-nil}
 use Rattle.std.specs.FinMap.Entries as entries
@@ -11,7 +11,7 @@ use Rattle.radix_node.specs.Cells.{CellLeaf, CellNode, CellNodes, CellTree, Piec
 use Rattle.radix_node.specs.Node.{rest_past}
 use Rattle.radix_node.specs.Nodes.{first_order, part}
 use Rattle.radix_node.specs.Paths.{Has}
-use Rattle.radix_node.specs.inner.Siblings.{cells_list}
+use Rattle.radix_node.specs.Siblings.{cells_list}
 use Rattle.radix_node.proofs.Paths.{Has-left, Has-right}
 use Rattle.radix_txn.specs.declared.target.Target.{Target}
 use Rattle.radix_txn.specs.declared.target.Target.TheVariants.{Key, Prefix}
@@ -25,10 +25,6 @@ use Rattle.radix_txn.proofs.PairCounts.{ended}
 use Rattle.radix_txn.proofs.Split.{past_none, past_some}
 
 -- ---- at the end of a key
-
-pub no_bytes : (xs : Bytes) → length xs ≡ 0 → xs ≡ []
-no_bytes [] e = refl
-no_bytes (x ∷ xs) e = absurd (omega (arith, e))
 
 pub end_stays : (n m : CellNode) → m.under ≡ n.under → AllIn (outside_node Key [] n) (inside m)
 end_stays n m same x h =

@@ -5,8 +5,8 @@ use Rattle.mdb_datum.specs.Row.{Pair}
 use Rattle.radix_node.specs.Edges.{place_of}
 use Rattle.radix_node.specs.Node.{PlainEdge, PlainNode, labelled, nodes_in, below}
 use Rattle.radix_node.specs.Nodes.{Nodes, Plain, part}
-use Rattle.radix_node.specs.inner.Seek.{seek, seek_plain, found}
-use Rattle.radix_node.specs.inner.Siblings.{nodes_list}
+use Rattle.radix_node.specs.Seek.{seek, seek_plain, found}
+use Rattle.radix_node.specs.Siblings.{nodes_list}
 use Rattle.radix_node.proofs.EdgeSearch.{edge_at_place, edge_label}
 use Rattle.radix_node.proofs.LookupSteps.{led}
 use Rattle.radix_node.proofs.Parts.{part_first}

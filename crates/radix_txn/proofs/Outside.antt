@@ -5,7 +5,7 @@ use Rattle.mdb_datum.specs.Bytes.{Bytes}
 use Rattle.radix_node.specs.Cells.{CellLeaf, CellNode, CellNodes, no_cells, celled, Piece, leaf_pieces, node_pieces, cells_in}
 use Rattle.radix_node.specs.Nodes.{part}
 use Rattle.radix_node.specs.Paths.{Has}
-use Rattle.radix_node.specs.inner.Siblings.{cells_list}
+use Rattle.radix_node.specs.Siblings.{cells_list}
 use Rattle.radix_node.proofs.Parts.{part_first}
 use Rattle.radix_node.proofs.Paths.{Has-left, Has-right, Has-split}
 use Rattle.radix_txn.specs.declared.target.Target.{Target}

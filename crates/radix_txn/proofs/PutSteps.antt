@@ -14,8 +14,8 @@ use Rattle.radix_node.specs.Left.{leave_leaf}
 use Rattle.radix_node.specs.Lending.{with_edge, with_edges, with_ref}
 use Rattle.radix_node.specs.Node.{PlainEdge, PlainNode, below, edges_of, nodes_in, plain_node, rest_past}
 use Rattle.radix_node.specs.Nodes.{Nodes, no_nodes, node}
-use Rattle.radix_node.specs.inner.Seek.{seek_plain}
-use Rattle.radix_node.specs.inner.Siblings.{bare, cells_list, nodes_list}
+use Rattle.radix_node.specs.Seek.{seek_plain}
+use Rattle.radix_node.specs.Siblings.{bare, cells_list, nodes_list}
 use Rattle.radix_node.specs.declared.edge.Edge.{Edge}
 use Rattle.radix_node.specs.declared.edges.Edges.{Edges}
 use Rattle.radix_node.specs.declared.node.Node.{Node}
@@ -38,7 +38,7 @@ use Rattle.radix_txn.proofs.EditStays.{edge_stays, end_stays, gap_stays, onward_
 use Rattle.radix_txn.proofs.InsertSteps.{insert_gap, insert_onward, seek_gap, seeks}
 use Rattle.radix_txn.proofs.SettledNode.{list_of}
 use Rattle.radix_txn.proofs.Split.{apart_found, left_found, left_grown}
-use Rattle.radix_txn.proofs.Steps.{at, step_held, step_made, step_then}
+use Rattle.radix_txn.proofs.Steps.{at, step_in_place, step_made, step_then}
 
 -- ---- nodes without their cells
 
@@ -152,7 +152,7 @@ module _ (pair : Pair) (n m : CellNode) (l : CellLeaf) (a : Ledger) (begun : a.f
     old = ap Some (sym row) ∙ ap (λ (o : Option CellLeaf). row_in (plain_leaf o)) (sym there);
     steps = λ front. (
         let new : CellNode = record { cell = n.cell; prefix = n.prefix; leaf = Some l; under = n.under } in
-        let one = step_held (IsNew a.log) a.first (a_leaf k) (a_leaf l) (node_pieces n.under) a.next a.left begun same low in
+        let one = step_in_place (IsNew a.log) a.first (a_leaf k) (a_leaf l) (node_pieces n.under) a.next a.left begun same low in
         let inner : IsStep (IsNew a.log) a.first (at (inside n) a.next a.left) (at (inside new) a.next a.left) =
         subst (λ (o : Option CellLeaf). IsStep (IsNew a.log) a.first (at (inside_of o n.under) a.next a.left) (at (inside new) a.next a.left)) (sym there) one in
         subst (λ (w : CellNode). Steps (whole (led front n)) a (whole (led front w)) a) (sym is)

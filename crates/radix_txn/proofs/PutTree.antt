@@ -8,8 +8,8 @@ use Rattle.radix_node.specs.Node.{PlainNode, below}
 use Rattle.radix_node.specs.Nodes.{Plain, pairs_of}
 use Rattle.radix_node.specs.Pairs.{find, put}
 use Rattle.radix_node.specs.Shape.{HasShape}
-use Rattle.radix_node.specs.inner.Seek.{seek_plain}
-use Rattle.radix_node.specs.inner.Siblings.{bare}
+use Rattle.radix_node.specs.Seek.{seek_plain}
+use Rattle.radix_node.specs.Siblings.{bare}
 use Rattle.radix_txn.specs.declared.target.Target.TheVariants.{Key}
 use Rattle.radix_txn.specs.inner.Below.{IsShapedBelow, row_in}
 use Rattle.radix_txn.specs.inner.Outside.{AllIn, outside_node}

@@ -7,8 +7,8 @@ use Rattle.mdb_datum.specs.Row.{Fields, Pair}
 use Rattle.radix_node.specs.Edges.{place_of}
 use Rattle.radix_node.specs.Node.{PlainNode, nodes_in, below, rest_past}
 use Rattle.radix_node.specs.Nodes.{Nodes, Plain, part, pairs_of_leaf, pairs_of_nodes, pairs_of}
-use Rattle.radix_node.specs.inner.Seek.{seek, seek_plain}
-use Rattle.radix_node.specs.inner.Siblings.{nodes_list}
+use Rattle.radix_node.specs.Seek.{seek, seek_plain}
+use Rattle.radix_node.specs.Siblings.{nodes_list}
 use Rattle.radix_node.proofs.LookupSteps.{led, rest_past_label}
 use Rattle.radix_node.proofs.Parts.{part_first}
 use Rattle.radix_txn.specs.declared.target.Target.{Target}

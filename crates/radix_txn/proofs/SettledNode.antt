@@ -6,7 +6,7 @@ use Rattle.mdb_datum.specs.Row.{Pair}
 use Rattle.radix_node.specs.Nodes.{Nodes, no_nodes, node}
 use Rattle.radix_node.specs.Shape.{IsBranching, width}
 use Rattle.radix_node.specs.Node.{PlainNode, nodes_in, edges_of, edge_node}
-use Rattle.radix_node.specs.inner.Siblings.{nodes_list}
+use Rattle.radix_node.specs.Siblings.{nodes_list}
 use Rattle.radix_node.specs.declared.edges.Edges.{Edges, out-Edges}
 use Rattle.radix_node.proofs.Levels.{nodes_list_in, edges_out}
 use Rattle.radix_txn.specs.inner.Below.{settled_node}

@@ -6,11 +6,12 @@ use Rattle.std.specs.FinMap.Entries as entries
 use Rattle.std.proofs.lemmas.List.{take_at, drop_at, append-nil, length-append}
 use Rattle.mdb_datum.specs.Row.{Pair}
 use Rattle.radix_node.specs.Nodes.{Nodes, no_nodes, node, part, common}
-use Rattle.radix_node.specs.inner.Seek.{seek, seek_plain, found}
+use Rattle.radix_node.specs.Seek.{seek, seek_plain, found}
 use Rattle.radix_node.specs.Edges.{edge_put}
 use Rattle.radix_node.specs.Node.{PlainNode, nodes_in, below, left_of, rest_past}
 use Rattle.radix_node.proofs.Parts.{HeadsDiffer, part_parts}
 use Rattle.radix_node.proofs.ByteCompare.{what_equal}
+use Rattle.radix_node.proofs.LookupSteps.{no_bytes}
 use Rattle.radix_txn.specs.inner.Edits.{insert}
 use Rattle.radix_txn.specs.inner.PutAt.{grown_parts, grown_node}
 use Rattle.radix_txn.specs.inner.Below.{over, insert_below, leaf_node}
@@ -44,11 +45,7 @@ module _ (p k : List ℕ) (n : ℕ) (is : n ≡ length (common p k)) where
   first_some lt e = let parts = part_parts p k in absurd (omega (arith, is, lt, ap length parts.first, length-append (part p k).0 (part p k).1, ap length e))
 
   pub first_none : length p ≤ n → (part p k).1 ≡ []
-  first_none le = ended (part p k).1 (let parts = part_parts p k in omega (arith, is, le, ap length parts.first, length-append (part p k).0 (part p k).1))
-    where
-      ended : (xs : List ℕ) → length xs ≡ 0 → xs ≡ []
-      ended [] e = refl
-      ended (x ∷ xs) e = absurd (omega (arith, e))
+  first_none le = no_bytes (part p k).1 (let parts = part_parts p k in omega (arith, is, le, ap length parts.first, length-append (part p k).0 (part p k).1))
 
   -- the rest doesn't begin with the prefix, or it does
   pub apart_long : None ≡ rest_past p k → n < length p
@@ -73,11 +70,7 @@ module _ (p k : List ℕ) (n : ℕ) (is : n ≡ length (common p k)) where
   second_some ne e = let parts = part_parts p k in ne (omega (arith, is, ap length parts.second, length-append (part p k).0 (part p k).2, ap length e))
 
   second_none : n ≡ length k → (part p k).2 ≡ []
-  second_none all = ended (part p k).2 (let parts = part_parts p k in omega (arith, is, all, ap length parts.second, length-append (part p k).0 (part p k).2))
-    where
-      ended : (xs : List ℕ) → length xs ≡ 0 → xs ≡ []
-      ended [] e = refl
-      ended (x ∷ xs) e = absurd (omega (arith, e))
+  second_none all = no_bytes (part p k).2 (let parts = part_parts p k in omega (arith, is, all, ap length parts.second, length-append (part p k).0 (part p k).2))
 
   second_whole : n ≡ length k → k ≡ (part p k).0
   second_whole all = let parts = part_parts p k in parts.second ∙ ap (λ (z : List ℕ). (part p k).0 ++ z) (second_none all) ∙ append-nil (part p k).0

@@ -8,7 +8,7 @@ use Rattle.radix_node.specs.Left.{leave, leave_all}
 use Rattle.radix_node.specs.Paths.{Has}
 use Rattle.radix_node.proofs.Members.{has_cell, cell_piece}
 use Rattle.radix_node.proofs.Paths.{Has-left, Has-right, Has-split}
-use Rattle.radix_txn.specs.inner.Steps.{count_in, drawn, IsNew, IsNext, Ledger, IsOnward, Tally, IsHeld, IsMade, IsStep}
+use Rattle.radix_txn.specs.inner.Steps.{count_in, drawn, IsNew, IsNext, Ledger, IsOnward, Tally, IsInPlace, IsMade, IsStep}
 
 -- ---- counts
 
@@ -71,8 +71,8 @@ step_same P first a h = record {
 
 module _ (P : Cell → Type 0) (first : ℕ) {a b c : Tally} (s : IsStep P first a b) (t : IsStep P first b c) where
   -- a cell that is held was there, or was made
-  held_before : (x y : Piece) → Has y b.pieces → piece_cell y ≡ piece_cell x → first ≤ (piece_cell x).id → IsMade P a.next c.next x ⊎ IsHeld first a.pieces x
-  held_before x y there same low =
+  in_place_before : (x y : Piece) → Has y b.pieces → piece_cell y ≡ piece_cell x → first ≤ (piece_cell x).id → IsMade P a.next c.next x ⊎ IsInPlace first a.pieces x
+  in_place_before x y there same low =
       elim (s.made y there) [
         | inl old ↦ inr (record { low = low; there = subst (λ (z : Cell). Has z (map piece_cell a.pieces)) same (has_cell y a.pieces old) })
         | inr more ↦ elim more [
@@ -86,7 +86,7 @@ module _ (P : Cell → Type 0) (first : ℕ) {a b c : Tally} (s : IsStep P first
         ]
       ]
 
-  made_in_two : (x : Piece) → Has x c.pieces → Has x a.pieces ⊎ (IsMade P a.next c.next x ⊎ IsHeld first a.pieces x)
+  made_in_two : (x : Piece) → Has x c.pieces → Has x a.pieces ⊎ (IsMade P a.next c.next x ⊎ IsInPlace first a.pieces x)
   made_in_two x h =
       elim (t.made x h) [
         | inl old ↦ elim (s.made x old) [
@@ -98,7 +98,7 @@ module _ (P : Cell → Type 0) (first : ℕ) {a b c : Tally} (s : IsStep P first
         ]
         | inr more ↦ elim more [
           | inl m ↦ let low = m.low in let up = s.later in inr (inl (record { low = omega (arith, low, up); high = m.high; holds = m.holds }))
-          | inr k ↦ let w = cell_piece (piece_cell x) b.pieces k.there in inr (held_before x w.0 w.1 w.2 k.low)
+          | inr k ↦ let w = cell_piece (piece_cell x) b.pieces k.there in inr (in_place_before x w.0 w.1 w.2 k.low)
         ]
       ]
 
@@ -296,8 +296,8 @@ module _ (P : Cell → Type 0) (first : ℕ) (x : Piece) (xs : List Piece) (n : 
 
 -- ---- a piece that keeps its cell
 
-pub step_held : (P : Cell → Type 0) (first : ℕ) (x y : Piece) (xs : List Piece) (n : ℕ) (left : List Cell) → first ≤ n → piece_cell y ≡ piece_cell x → first ≤ (piece_cell x).id → IsStep P first (record { pieces = x ∷ xs; next = n; left = left }) (record { pieces = y ∷ xs; next = n; left = left })
-step_held P first x y xs n left begun same low = record {
+pub step_in_place : (P : Cell → Type 0) (first : ℕ) (x y : Piece) (xs : List Piece) (n : ℕ) (left : List Cell) → first ≤ n → piece_cell y ≡ piece_cell x → first ≤ (piece_cell x).id → IsStep P first (record { pieces = x ∷ xs; next = n; left = left }) (record { pieces = y ∷ xs; next = n; left = left })
+step_in_place P first x y xs n left begun same low = record {
   begun = begun;
   later = omega arith;
   made = λ z h. elim h [

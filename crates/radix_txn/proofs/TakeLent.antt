@@ -5,7 +5,7 @@ use Rattle.mdb_datum.specs.Bytes.{Bytes}
 use Rattle.radix_node.specs.CellNode.{cell_edge, cell_edges, cell_node, cell_ref, led_node}
 use Rattle.radix_node.specs.Cells.{CellNode, cells_in, plain_nodes}
 use Rattle.radix_node.specs.Lending.{with_edge, with_edges, with_ref}
-use Rattle.radix_node.specs.inner.Siblings.{bare, cells_list, nodes_list}
+use Rattle.radix_node.specs.Siblings.{bare, cells_list, nodes_list}
 use Rattle.radix_node.specs.declared.edge.Edge.{Edge}
 use Rattle.radix_node.specs.declared.edges.Edges.{Edges}
 use Rattle.radix_node.specs.declared.node.Node.{Node}

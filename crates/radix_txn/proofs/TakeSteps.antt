@@ -11,7 +11,7 @@ use Rattle.radix_node.specs.declared.node.Node.{Node}
 use Rattle.radix_node.proofs.CellLevels.{bare_node}
 use Rattle.radix_node.specs.Nodes.{Nodes, no_nodes, node, Plain, pairs_of}
 use Rattle.radix_node.specs.Shape.{IsBranching, width}
-use Rattle.radix_node.specs.inner.Siblings.{bare, cells_list, nodes_list}
+use Rattle.radix_node.specs.Siblings.{bare, cells_list, nodes_list}
 use Rattle.radix_node.proofs.LookupSteps.{led as plain_led, left_shorter}
 use Rattle.radix_txn.specs.declared.remove.Removed.{Removed}
 use Rattle.radix_txn.specs.declared.target.Target.{Target}

@@ -8,7 +8,7 @@ use Rattle.radix_node.specs.Cells.{AreApart, AreBelow, CellNode, CellTree, Piece
 use Rattle.radix_node.specs.Node.{below}
 use Rattle.radix_node.specs.Nodes.{Plain, pairs_of}
 use Rattle.radix_node.specs.Shape.{HasShape}
-use Rattle.radix_node.specs.inner.Siblings.{bare}
+use Rattle.radix_node.specs.Siblings.{bare}
 use Rattle.radix_txn.specs.declared.remove.Removed.{Removed}
 use Rattle.radix_txn.specs.declared.target.Target.{Target}
 use Rattle.radix_txn.specs.inner.Gone.{HasNone, IsCut, IsLeft}

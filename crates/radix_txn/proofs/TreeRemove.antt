@@ -6,7 +6,7 @@ use Rattle.mdb_datum.specs.Row.{Fields, Pair}
 use Rattle.radix_node.specs.Nodes.{Plain, pairs_of}
 use Rattle.radix_node.specs.Pairs.{IsRising, find}
 use Rattle.radix_node.specs.Shape.{HasShape}
-use Rattle.radix_node.specs.inner.Seek.{seek_plain}
+use Rattle.radix_node.specs.Seek.{seek_plain}
 use Rattle.radix_node.proofs.WholeTree.{rising_plain, find_plain}
 use Rattle.radix_txn.specs.declared.target.Target.{Target}
 use Rattle.radix_txn.specs.declared.target.Target.TheVariants.{Key, Prefix}

@@ -5,7 +5,7 @@ use Rattle.radix_node.specs.Node.{PlainNode, below}
 use Rattle.radix_node.specs.Nodes.{Plain, pairs_of}
 use Rattle.radix_node.specs.Pairs.{find, put}
 use Rattle.radix_node.specs.Shape.{HasShape}
-use Rattle.radix_node.specs.inner.Seek.{seek_plain}
+use Rattle.radix_node.specs.Seek.{seek_plain}
 use Rattle.radix_node.proofs.PairLaws.{length-put}
 use Rattle.radix_node.proofs.WholeTree.{rising_plain, find_plain}
 use Rattle.radix_txn.specs.inner.Below.{row_in, over, insert_below}

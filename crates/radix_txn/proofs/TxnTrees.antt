@@ -6,9 +6,9 @@ use Rattle.watch_word.specs.Logs.{Cell}
 use Rattle.radix_node.specs.Cells.{CellTree, Piece, piece_cell, pieces_of, cells_of, count, AreApart, AreBelow, plain_of}
 use Rattle.radix_node.specs.Paths.{Has}
 use Rattle.radix_node.specs.Shape.{HasShape}
-use Rattle.radix_node.specs.Watches.{Fires, TellTheSame, WatchesHold}
+use Rattle.radix_node.specs.Watches.{Fires, TellTheSame, HoldsWatched}
 use Rattle.radix_node.proofs.Members.{has_cell, cell_piece}
-use Rattle.radix_node.proofs.WatchesHold.{watches_hold}
+use Rattle.radix_node.proofs.TreeWatches.{holds_watched}
 use Rattle.radix_txn.specs.Notice.{IsNotice, IsOpened}
 use Rattle.radix_txn.specs.inner.Steps.{count_in, IsStep}
 use Rattle.radix_txn.proofs.Steps.{at, drawn_before, drawn_between, drawn_after, lt_or_le}
@@ -166,5 +166,5 @@ module _ (P : Cell → Type 0) (first next : ℕ) (left : List Cell) (old new : 
   notice = record { fires = λ c. (fires_of_left c, left_of_fires c); once = left_once }
 
   -- what is watched in the old tree fires, or is as it was
-  pub held : HasShape (plain_of old) → HasShape (plain_of new) → WatchesHold old new
-  held s t = watches_hold old new s t agree
+  pub held : HasShape (plain_of old) → HasShape (plain_of new) → HoldsWatched old new
+  held s t = holds_watched old new s t agree

@@ -1,3 +1,4 @@
+pub mod Codes
 pub mod Drawn
 pub mod Kept
 pub mod Notice

@@ -1,7 +1,6 @@
 pub mod Below
 pub mod Edits
 pub mod Gone
-pub mod Kept
 pub mod Outside
 pub mod Pieces
 pub mod Put
@@ -9,5 +8,5 @@ pub mod PutAt
 pub mod Remains
 pub mod Removal
 pub mod Steps
-pub mod Stored
 pub mod Told
+pub mod Unspoiled

@@ -16,8 +16,8 @@ ghost use Rattle.radix_node.specs.Node.{node_of, nodes_in, plain_node, rest_past
 ghost use Rattle.radix_node.specs.Nodes.{common, pairs_of, part};
 ghost use Rattle.radix_node.specs.Pairs.{find, put};
 ghost use Rattle.radix_node.specs.Shape.{HasShape};
-ghost use Rattle.radix_node.specs.inner.Seek.{found, seek, seek_plain};
-ghost use Rattle.radix_node.specs.inner.Siblings.{bare, cells_list, nodes_list};
+ghost use Rattle.radix_node.specs.Seek.{found, seek, seek_plain};
+ghost use Rattle.radix_node.specs.Siblings.{bare, cells_list, nodes_list};
 ghost use Rattle.radix_txn.specs.declared.target.Target.TheVariants.{Key};
 ghost use Rattle.radix_txn.specs.inner.Below.{IsShapedBelow, insert_below, leaf_node, over, row_in};
 ghost use Rattle.radix_txn.specs.inner.Outside.{AllIn, outside, outside_node, staying};

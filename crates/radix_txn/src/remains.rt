@@ -9,7 +9,7 @@ ghost use Rattle.radix_node.specs.Cells.{CellNode, cells_in, no_cells, node_piec
 ghost use Rattle.radix_node.specs.Node.{edge_node, edges_of, leaf_pair, nodes_in, node_of};
 ghost use Rattle.radix_node.specs.Node.{plain_node};
 ghost use Rattle.radix_node.specs.Nodes.{no_nodes};
-ghost use Rattle.radix_node.specs.inner.Siblings.{cells_list, nodes_list};
+ghost use Rattle.radix_node.specs.Siblings.{cells_list, nodes_list};
 ghost use Rattle.radix_txn.specs.inner.Below.{settled_node};
 ghost use Rattle.radix_txn.specs.inner.Outside.{AllIn, below_pieces, inner_pieces};
 ghost use Rattle.radix_txn.specs.inner.Pieces.{inside, inside_of, led, ref_list, whole};

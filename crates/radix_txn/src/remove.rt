@@ -13,7 +13,7 @@ ghost use Rattle.radix_node.specs.Node.{below, below_prefix, edge_node, nodes_in
 ghost use Rattle.radix_node.specs.Node.{plain_node};
 ghost use Rattle.radix_node.specs.Nodes.{pairs_of};
 ghost use Rattle.radix_node.specs.Shape.{HasShape};
-ghost use Rattle.radix_node.specs.inner.Siblings.{bare, cells_list, nodes_list};
+ghost use Rattle.radix_node.specs.Siblings.{bare, cells_list, nodes_list};
 ghost use Rattle.radix_txn.specs.inner.Below.{IsShapedBelow, settled_node};
 ghost use Rattle.radix_txn.specs.inner.Gone.{HasNone, IsCut, IsLeft};
 ghost use Rattle.radix_txn.specs.inner.Outside.{AllIn, inner_pieces, outside_node};
@@ -114,7 +114,7 @@ fn take_root(
 {
     match take_at(root, key, target, cells)? {
         Gone::Missing => Ok(None),
-        Gone::Kept(deleted) => Ok(Some(deleted)),
+        Gone::Under(deleted) => Ok(Some(deleted)),
         Gone::Left(removed) => Ok(Some(new_root(root, removed, cells)?)),
     }
 }

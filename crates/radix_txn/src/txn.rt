@@ -4,7 +4,7 @@ mod writes;
 ghost use Rattle.std.specs.Prelude.{◌≡◌, ◌<◌, ℕ, List, false, IfErr, IfOk, length, option_copied};
 ghost use Rattle.radix_node.specs.Cells.{AreBelow};
 ghost use Rattle.radix_node.specs.Pairs.{find};
-ghost use Rattle.radix_node.specs.Watches.{WatchesHold};
+ghost use Rattle.radix_node.specs.Watches.{HoldsWatched};
 ghost use Rattle.radix_txn.specs.Notice.{IsNotice, IsOpened};
 ghost use Rattle.radix_txn.specs.Txn.{txn_pairs};
 ghost use Rattle.watch_word.specs.Logs.{Cell};
@@ -40,17 +40,17 @@ pub(crate) struct State {
 
 impl Model for TreeTxn {
     ghost use Rattle.radix_txn.specs.Txn.{Txn};
-    ghost use Rattle.radix_txn.specs.inner.Stored.{txn_code};
+    ghost use Rattle.radix_txn.specs.Codes.{txn_code};
 
     ghost Value = { Txn };
 
     ghost coded = { txn_code };
 
-    ghost use Rattle.radix_txn.specs.inner.Kept.{IsKept};
+    ghost use Rattle.radix_txn.specs.inner.Unspoiled.{HoldsUnlessSpoiled};
 
     ghost view = { λ t. record { start = t.start; tree = t.state.tree; spoiled = t.spoiled } };
 
-    ghost invariant = { IsKept };
+    ghost invariant = { HoldsUnlessSpoiled };
 }
 
 impl TreeTxn {
@@ -123,7 +123,7 @@ impl TreeTxn {
         requires sound { self.spoiled ≡ false }
         ensures tree { IfOk result (λ r. r.0 ≡ self.tree) }
         ensures notice { IfOk result (λ r. IsNotice r.1 self.start self.tree) }
-        ensures held { IfOk result (λ r. WatchesHold self.start self.tree) }
+        ensures held { IfOk result (λ r. HoldsWatched self.start self.tree) }
         ensures opened { IfOk result (λ r. (first : ℕ) × AreBelow first self.start
             × IsOpened first self.start self.tree) }
         ensures refused { IfErr result (λ _. (cells : List Cell)

@@ -13,12 +13,12 @@ use Rattle.run_io.specs.Observed.{Observed, AreWhole}
 use Rattle.run_io.specs.declared.inputs.Inputs.{Inputs}
 use Rattle.run_io.specs.declared.load_error.LoadError.{LoadError}
 use Rattle.run_io.specs.declared.load_error.LoadError.TheVariants.{Memory, Read, TooLarge, Schema, Script}
-use Rattle.run_io.specs.inner.Answers.{Answers}
+use Rattle.run_io.specs.inner.ReadingResult.{IsReadingResult}
 use Rattle.run_io.specs.inner.Reading.{Reads}
 use Rattle.run_io.proofs.ScriptsInOrder.{answers_stopped, answers_as}
 
 -- a script that breaks a rule is the answer behind a lawful schema
-pub inputs_stopped : (schema : Bytes) (clients : List Bytes) (tables : DbSchema) (e : LoadError) → schema_answer (schema_of (reading schema)) ≡ Ok tables → Answers (scripts_in 1 clients) (Err e) → Answers (inputs_in schema clients) (Err e)
+pub inputs_stopped : (schema : Bytes) (clients : List Bytes) (tables : DbSchema) (e : LoadError) → schema_answer (schema_of (reading schema)) ≡ Ok tables → IsReadingResult (scripts_in 1 clients) (Err e) → IsReadingResult (inputs_in schema clients) (Err e)
 inputs_stopped schema clients tables e lawful h =
     let next : DbSchema → List (List Line) → Result Inputs LoadError = λ t ss. Ok (record { schema = t; scripts = ss }) in
     let behind : inputs_in schema clients ≡ (scripts_in 1 clients >>= next tables) = ap (λ (r : Result DbSchema LoadError). r >>= (λ t. scripts_in 1 clients >>= next t)) lawful in
@@ -26,7 +26,7 @@ inputs_stopped schema clients tables e lawful h =
 
 -- where all files were read, what their bytes read as is the answer
 pub read_loads : (seen : Observed) (names : List Bytes) (schema : Bytes) (clients : List Bytes) (r : Result Inputs LoadError) →
-    seen.now ≡ seen.before → AreWhole seen.told names (schema ∷ clients) → Answers (inputs_in schema clients) r → Loads seen names r
+    seen.now ≡ seen.before → AreWhole seen.told names (schema ∷ clients) → IsReadingResult (inputs_in schema clients) r → Loads seen names r
 read_loads seen names schema clients (Ok inputs) quiet whole h = record { schema = schema; clients = clients; read = record { whole = whole; no_fault = quiet }; comes = h }
 read_loads seen names schema clients (Err Memory) quiet whole h = quiet
 read_loads seen names schema clients (Err (Read file)) quiet whole h = absurd h

@@ -16,7 +16,7 @@ use Rattle.run_io.specs.Named.{Named, in_order}
 use Rattle.run_io.specs.Observed.{Observed, AreWhole}
 use Rattle.run_io.specs.RefusalTexts.{name_line}
 use Rattle.run_io.specs.Refusals.{Answered, IsRefused, broken_schema, broken_script, cannot_read, too_large}
-use Rattle.run_io.specs.Told.{NamesFile, name_at, Tells}
+use Rattle.run_io.specs.Told.{NamesFile, name_at, TellsError}
 use Rattle.run_io.specs.declared.inputs.Inputs.{Inputs}
 use Rattle.run_io.specs.declared.load_error.LoadError.{LoadError}
 use Rattle.run_io.specs.declared.load_error.LoadError.TheVariants.{Memory, Read, TooLarge, Schema, Script}
@@ -34,7 +34,7 @@ named_line what names file name text there says = says ∙ ap (λ (o : Option By
 
 -- and an error is a refusal, by what is told of it
 pub error_refused : (command : Option Named) (seen : Observed) (named : Named) (e : LoadError) (status : ℕ) (text : Bytes) →
-    command ≡ Some named → Loads seen (in_order named) (Err e) → Tells (in_order named) e status text → IsRefused command seen status text
+    command ≡ Some named → Loads seen (in_order named) (Err e) → TellsError (in_order named) e status text → IsRefused command seen status text
 error_refused command seen named Memory status text is loads said = absurd said
 error_refused command seen named (Read file) status text is loads said =
     cannot_read said.0 (record { named = named; is_named = is; file = file; cause = loads; says = named_line (codes "cannot read ") (in_order named) file loads.name text (reached_there seen.told (in_order named) file loads.name loads.reached) said.1 })

@@ -8,10 +8,10 @@ use Rattle.mdb_schema.specs.Tests.{◌>>=◌}
 use Rattle.run_io.specs.Inputs.{script_answer, scripts_in}
 use Rattle.run_io.specs.declared.load_error.LoadError.{LoadError}
 use Rattle.run_io.specs.declared.load_error.LoadError.TheVariants.{Memory, Read, TooLarge, Schema, Script}
-use Rattle.run_io.specs.inner.Answers.{Answers}
+use Rattle.run_io.specs.inner.ReadingResult.{IsReadingResult}
 
 -- an error is the answer to all that begins with what gave it
-pub answers_stopped : {A B : Type 0} (told : Result A LoadError) (next : A → Result B LoadError) (e : LoadError) → Answers told (Err e) → Answers (told >>= next) (Err e)
+pub answers_stopped : {A B : Type 0} (told : Result A LoadError) (next : A → Result B LoadError) (e : LoadError) → IsReadingResult told (Err e) → IsReadingResult (told >>= next) (Err e)
 answers_stopped told next Memory h = h
 answers_stopped told next (Read file) h = absurd h
 answers_stopped told next (TooLarge file) h = absurd h
@@ -19,8 +19,8 @@ answers_stopped told next (Schema e) h = ap (λ r. r >>= next) h
 answers_stopped told next (Script client e) h = ap (λ r. r >>= next) h
 
 -- the same, for what is known to be such an answer
-pub answers_as : {A : Type 0} (a b : Result A LoadError) (r : Result A LoadError) → a ≡ b → Answers b r → Answers a r
-answers_as {A} a b r same h = subst (λ (x : Result A LoadError). Answers x r) (sym same) h
+pub answers_as : {A : Type 0} (a b : Result A LoadError) (r : Result A LoadError) → a ≡ b → IsReadingResult b r → IsReadingResult a r
+answers_as {A} a b r same h = subst (λ (x : Result A LoadError). IsReadingResult x r) (sym same) h
 
 -- ---- one after the other
 

@@ -6,21 +6,21 @@ use Rattle.mdb_datum.specs.Bytes.{Bytes}
 use Rattle.mdb_datum.specs.Doc.{text}
 use Rattle.mdb_datum.specs.Written.{compact}
 use Rattle.mdb_schema.specs.Broken.{Broken}
-use Rattle.mdb_schema.specs.RuleWord.{rule_word}
+use Rattle.mdb_schema.specs.RuleWord.{schema_rule_word}
 
 -- a line of some words and a file's name
 abbrev pub name_line : Bytes → Bytes → Bytes
 name_line what name = what ++ (name ++ 10 ∷ [])
 
 -- a name as a JSON text after a blank, where there is one
-abbrev pub name_part : Option Bytes → Bytes
-name_part None = []
-name_part (Some name) = 32 ∷ compact (text name)
+abbrev pub quoted_part : Option Bytes → Bytes
+quoted_part None = []
+quoted_part (Some name) = 32 ∷ compact (text name)
 
 -- schema RULE, and the names of the table and the index where the rule has them
 abbrev pub broken_text : Broken → Bytes
 broken_text b =
-    codes "schema " ++ (rule_word b.rule ++ (name_part b.table ++ (name_part b.index ++ 10 ∷ [])))
+    codes "schema " ++ (schema_rule_word b.rule ++ (quoted_part b.table ++ (quoted_part b.index ++ 10 ∷ [])))
 
 -- the number of a line, where a rule has one
 abbrev pub line_part : Option ℕ → Bytes

@@ -17,13 +17,13 @@ abbrev pub name_at : List Bytes → ℕ → Bytes
 name_at names file = unwrap_or (slice_get names file) []
 
 -- a status and a text, where the files have these names; want of memory is told by neither
-abbrev pub Tells : List Bytes → LoadError → ℕ → Bytes → Type 0
-Tells names Memory status text = ⊥
-Tells names (Read file) status text =
+abbrev pub TellsError : List Bytes → LoadError → ℕ → Bytes → Type 0
+TellsError names Memory status text = ⊥
+TellsError names (Read file) status text =
     (status ≡ 5) × (text ≡ name_line (codes "cannot read ") (name_at names file))
-Tells names (TooLarge file) status text =
+TellsError names (TooLarge file) status text =
     (status ≡ 7) × (text ≡ name_line (codes "too large ") (name_at names file))
-Tells names (Schema schema_errors.Memory) status text = ⊥
-Tells names (Schema (schema_errors.Broken r t i)) status text =
+TellsError names (Schema schema_errors.Memory) status text = ⊥
+TellsError names (Schema (schema_errors.Broken r t i)) status text =
     (status ≡ 2) × (text ≡ broken_text (record { rule = r; table = t; index = i }))
-Tells names (Script client e) status text = (status ≡ 3) × (text ≡ script_text client e)
+TellsError names (Script client e) status text = (status ≡ 3) × (text ≡ script_text client e)

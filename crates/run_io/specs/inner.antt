@@ -1,3 +1,3 @@
-pub mod Answers
 pub mod ContentsOf
 pub mod Reading
+pub mod ReadingResult

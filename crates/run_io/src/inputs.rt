@@ -4,7 +4,7 @@ ghost use Rattle.client_script.specs.Script.{script_in};
 ghost use Rattle.mdb_datum.specs.Reading.{reading};
 ghost use Rattle.mdb_schema.specs.Reading.{schema_of};
 ghost use Rattle.run_io.specs.Inputs.{schema_answer, script_answer, scripts_in, inputs_in};
-ghost use Rattle.run_io.specs.inner.Answers.{Answers};
+ghost use Rattle.run_io.specs.inner.ReadingResult.{IsReadingResult};
 ghost use Rattle.run_io.specs.inner.ContentsOf.{bytes_in};
 
 use crate::contents::Contents;
@@ -26,7 +26,7 @@ pub struct Inputs {
 /// The first rule that is broken, the schema's before those of the scripts in order; `Memory` may
 /// come at any of them.
 pub fn read_inputs(alloc: Global, contents: &Contents) -> Result<Inputs, LoadError>
-    ensures { Answers
+    ensures { IsReadingResult
         (inputs_in contents.now.schema.items (bytes_in contents.now.clients.items)) result }
 {
     let schema = read_tables(alloc, &contents.schema)?;
@@ -36,7 +36,7 @@ pub fn read_inputs(alloc: Global, contents: &Contents) -> Result<Inputs, LoadErr
 
 /// The schema that bytes read as.
 fn read_tables(alloc: Global, bytes: &[u8]) -> Result<Schema, LoadError>
-    ensures { Answers (schema_answer (schema_of (reading bytes.now))) result }
+    ensures { IsReadingResult (schema_answer (schema_of (reading bytes.now))) result }
 {
     match read_schema(alloc, bytes) {
         Ok(schema) => Ok(schema),
@@ -50,7 +50,7 @@ fn read_tables(alloc: Global, bytes: &[u8]) -> Result<Schema, LoadError>
 /// The scripts that the bytes of clients read as, in order.
 fn read_scripts(alloc: Global, clients: &[Vec<u8>]) -> Result<Scripts, LoadError>
     requires few { length clients.now < 2 ^ 32 }
-    ensures { Answers (scripts_in 1 (bytes_in clients.now)) result }
+    ensures { IsReadingResult (scripts_in 1 (bytes_in clients.now)) result }
 {
     let mut scripts = Scripts::new(alloc);
     for (at, bytes) in clients.iter().enumerate() {
@@ -62,7 +62,7 @@ fn read_scripts(alloc: Global, clients: &[Vec<u8>]) -> Result<Scripts, LoadError
 
 /// The script that the bytes of the client of this number read as.
 fn read_client(alloc: Global, client: u32, bytes: &[u8]) -> Result<Script, LoadError>
-    ensures { Answers (script_answer client (script_in bytes.now)) result }
+    ensures { IsReadingResult (script_answer client (script_in bytes.now)) result }
 {
     match read_script(alloc, bytes) {
         Ok(script) => Ok(script),

@@ -3,8 +3,8 @@ ghost use Rattle.std.specs.Prelude.{◌≡◌, ◌++◌, ◌∷◌, [], IfOk, On
 ghost use Rattle.client_script.specs.Refusal.{error_line, error_word};
 ghost use Rattle.mdb_datum.specs.Doc.{text};
 ghost use Rattle.mdb_datum.specs.Written.{compact};
-ghost use Rattle.mdb_schema.specs.RuleWord.{rule_word};
-ghost use Rattle.run_io.specs.RefusalTexts.{name_line, name_part, line_part};
+ghost use Rattle.mdb_schema.specs.RuleWord.{schema_rule_word};
+ghost use Rattle.run_io.specs.RefusalTexts.{name_line, quoted_part, line_part};
 ghost use Rattle.run_io.specs.RefusalTexts.{broken_text, script_text};
 
 use client_script::ScriptError;
@@ -37,7 +37,7 @@ pub fn broken_schema(
 
 /// `schema `, and the name of a rule of schemas.
 fn schema_rule(alloc: Global, rule: SchemaRule) -> Result<Vec<u8>, AllocError>
-    ensures { IfOk result (λ text. text.items ≡ codes "schema " ++ rule_word rule) }
+    ensures { IfOk result (λ text. text.items ≡ codes "schema " ++ schema_rule_word rule) }
 {
     let mut text = Vec::from_slice(alloc, b"schema ")?;
     text.extend_from_slice(rule.word().as_bytes())?;
@@ -52,7 +52,7 @@ fn write_names(
     out: &mut Vec<u8>,
 ) -> Result<(), AllocError>
     ensures { OnOk result
-        (out.new.items ≡ out.old.items ++ (name_part table ++ (name_part index ++ 10 ∷ []))) }
+        (out.new.items ≡ out.old.items ++ (quoted_part table ++ (quoted_part index ++ 10 ∷ []))) }
 {
     write_name(alloc, table, out)?;
     write_name(alloc, index, out)?;
@@ -62,7 +62,7 @@ fn write_names(
 
 /// Adds a blank and a name as a JSON text, where there is one.
 fn write_name(alloc: Global, name: Option<Text>, out: &mut Vec<u8>) -> Result<(), AllocError>
-    ensures { OnOk result (out.new.items ≡ out.old.items ++ name_part name) }
+    ensures { OnOk result (out.new.items ≡ out.old.items ++ quoted_part name) }
 {
     match name {
         None => Ok(()),

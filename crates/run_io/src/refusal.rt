@@ -2,7 +2,7 @@
 ghost use Rattle.std.specs.Prelude.{IfOk, length};
 ghost use Rattle.run_io.specs.Named.{in_order};
 ghost use Rattle.run_io.specs.NamedOf.{named_of};
-ghost use Rattle.run_io.specs.Told.{NamesFile, Tells};
+ghost use Rattle.run_io.specs.Told.{NamesFile, TellsError};
 
 use crate::load_error::LoadError;
 use crate::named::Named;
@@ -18,7 +18,7 @@ use std::alloc::{AllocError, Global};
 /// Want of memory, here or in the loading.
 pub fn refusal_of(alloc: Global, named: &Named, error: LoadError) -> Result<Output, AllocError>
     requires { NamesFile (length (in_order (named_of named.now))) error }
-    ensures { IfOk result (λ output. Tells (in_order (named_of named.now)) error
+    ensures { IfOk result (λ output. TellsError (in_order (named_of named.now)) error
         output.status output.text.items) }
 {
     match error {

@@ -5,7 +5,7 @@ use Rattle.std.specs.List.{list_all}
 use Rattle.std.proofs.lemmas.List.{append-nil}
 use Rattle.client_script.specs.Stuck.{Stop, stop_or}
 use Rattle.client_script.specs.declared.line.Line.{Line}
-use Rattle.client_session.proofs.ManyClients.{as_many_after, begun_from, items_are, later_from, later_long, left_are}
+use Rattle.client_session.proofs.ManyClients.{as_many_after, sessions_from, items_are, later_from, later_long, left_are}
 use Rattle.client_session.specs.Answered.{IsLater}
 use Rattle.client_session.specs.Clients.{AreLater, AreOpened, ArePassesLater, CanClose, callers_back, headed}
 use Rattle.client_session.specs.Progress.{Progress}
@@ -262,15 +262,15 @@ stopped_after db ss now ts passes r same i h rest e =
 
 -- ---- sessions of a new database, with one pass more
 
-unspent_from : (db : Database) (opening : Forest) (k : ℕ) (scripts : List (List Line)) → AreUnspent db (begun_from db opening k scripts)
+unspent_from : (db : Database) (opening : Forest) (k : ℕ) (scripts : List (List Line)) → AreUnspent db (sessions_from db opening k scripts)
 unspent_from db opening k [] = tt
 unspent_from db opening k (s ∷ ss) = (record { own = (refl, refl, refl); running = record { same = refl; found = refl; counted = refl } }, unspent_from db opening (k + 1) ss)
 
-scripts_from : (db : Database) (opening : Forest) (k : ℕ) (scripts : List (List Line)) → scripts_of (begun_from db opening k scripts) ≡ scripts
+scripts_from : (db : Database) (opening : Forest) (k : ℕ) (scripts : List (List Line)) → scripts_of (sessions_from db opening k scripts) ≡ scripts
 scripts_from db opening k [] = refl
 scripts_from db opening k (s ∷ ss) = ap (λ (ls : List (List Line)). s ∷ ls) (scripts_from db opening (k + 1) ss)
 
-numbered_from : (db : Database) (opening : Forest) (k : ℕ) (scripts : List (List Line)) (ts : List Progress) → AreLater (begun_from db opening k scripts) ts → AreNumbered db.schema k ts
+numbered_from : (db : Database) (opening : Forest) (k : ℕ) (scripts : List (List Line)) (ts : List Progress) → AreLater (sessions_from db opening k scripts) ts → AreNumbered db.schema k ts
 numbered_from db opening k [] [] l = tt
 numbered_from db opening k [] (t ∷ ts) l = absurd l
 numbered_from db opening k (s ∷ ss) [] l = absurd l

@@ -23,6 +23,7 @@ use Rattle.client_session.specs.Clients.{callers_back, headed}
 use Rattle.client_session.specs.Progress.{Progress}
 use Rattle.client_session.specs.Waiting.{AreWatchesOf, IsWatchOf, WaitsFor, awaited_at, client_at}
 use Rattle.mdb_datum.specs.Bytes.{Bytes}
+use Rattle.mdb_datum.proofs.ListPlaces.{drop_at}
 use Rattle.mdb_schema.specs.Guarded.{IsGuarded}
 use Rattle.mdb_schema.specs.History.{Commit, History}
 use Rattle.mdb_schema.specs.Query.{Query}
@@ -116,11 +117,6 @@ replies_at schema log k scripts ts running named rest = replies_told schema k ts
 abbrev pub HaveBegun : Caller → List Progress → Type 0
 HaveBegun p [] = Unit {0}
 HaveBegun p (t ∷ ts) = IsBeginning t.caller p × HaveBegun p ts
-
-drop_at : {A : Type 0} (xs : List A) (n : ℕ) (x : A) → slice_get xs n ≡ Some x → drop n xs ≡ x ∷ drop (suc n) xs
-drop_at [] n x e = cc
-drop_at (y ∷ ys) zero x e = let same : y ≡ x = cc in ap (λ (z : _). z ∷ ys) same
-drop_at (y ∷ ys) (suc n) x e = drop_at ys n x e
 
 module _ (schema : DbSchema) (H : History) (p : Caller) (log : Log) (all : p.seen ≡ H) (same : p.schema ≡ schema) (firings : HasFirings (cells_seen p) (length p.seen) log) (holds : WatchesHold (cells_seen p)) (longer : HeldLonger p) where
   waits_in_vain : (t : Progress) (members : List Member) (until : Option HeldWatch) (w : WaitsFor t members until) → NoneFired log (with_until (watches_of members) until) → IsBeginning t.caller p → WaitsInVain schema H (client_at t w.at) w.at.line

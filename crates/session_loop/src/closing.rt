@@ -4,7 +4,7 @@ ghost use Rattle.std.specs.Prelude.{IsTrue, Some, false};
 ghost use Rattle.std.specs.Prelude.{length};
 ghost use Rattle.std.specs.Prelude.{option_copied, slice_get};
 ghost use Rattle.mem_txn.specs.Database.{Database, IsOf};
-ghost use Rattle.mem_txn.specs.Transactions.{changes_of};
+ghost use Rattle.mem_txn.specs.Transactions.{txn_of};
 ghost use Rattle.session_loop.specs.inner.Awake.{CanGoOn, FindsOneAwake, HasOneFired, IsAwake};
 ghost use Rattle.session_loop.specs.inner.Awake.{OneCanGoOn};
 ghost use Rattle.session_loop.specs.inner.Endings.{IsIdle};
@@ -66,12 +66,12 @@ fn without_turn(cause: BeginError) -> Result<bool, AllocError>
 
 /// Whether the sessions have told all commits, and every one has ended or waits in vain.
 fn are_halted_within(txn: &WriteTxn<()>, sessions: &[Session], tasks: &[Task]) -> bool
-    requires { (db : Database) × IsOf db (changes_of txn.now).caller
+    requires { (db : Database) × IsOf db (txn_of txn.now).caller
         × AreInLoop db sessions.now tasks.now }
-    ensures rest { IsTrue result → FindsRest (changes_of txn.now).caller sessions.now }
+    ensures rest { IsTrue result → FindsRest (txn_of txn.now).caller sessions.now }
     ensures halted { IsTrue result → HaveHalted (states_of tasks.now) }
     ensures goes_on { IsFalse result
-        → FindsOneAwake (changes_of txn.now).caller sessions.now tasks.now }
+        → FindsOneAwake (txn_of txn.now).caller sessions.now tasks.now }
 {
     match commits_told(sessions) {
         Some(count) => count == txn.number() && are_halted(&txn.front(), sessions, tasks),

@@ -35,7 +35,7 @@ ghost use Rattle.run_io.specs.Ended.{HasEnded};
 ghost use Rattle.run_io.specs.Observed.{observed};
 ghost use Rattle.run_io.specs.Statuses.{IsOneOf};
 ghost use Rattle.run_io.specs.Arguments.{words_in};
-ghost use Rattle.session_loop.specs.Causes.{CallsFor, statuses_for};
+ghost use Rattle.session_loop.specs.Causes.{LoopCallsFor, statuses_for};
 ghost use Rattle.session_loop.specs.Outcome.{IsAnswer};
 
 use deep_thread::call_deep;
@@ -75,7 +75,7 @@ fn run_arguments<R: Wait, F: Files, S: Sink>(
         HasEnded (IsAnswer (words_in args) seen) (S.told out.old) (S.told out.new) result }
     ensures comes { let seen = observed (F.told files.old) (F.reliable files.old)
         (F.faults files.old) (F.faults files.new) in
-        (status : ℕ) → CallsFor (words_in args) seen status
+        (status : ℕ) → LoopCallsFor (words_in args) seen status
         → IsOneOf (statuses_for status) result }
     ensures failed { result ≡ 6 → Rose (S.faults out.old) (S.faults out.new) }
 {

@@ -1,7 +1,7 @@
 //! The top call.
 ghost use Rattle.std.specs.Prelude.{◌≡◌, ◌≢◌, ◌≤◌, ◌∷◌, [], ℕ, None};
 ghost use Rattle.mdb_ports.specs.Faults.{Rose};
-ghost use Rattle.session_loop.specs.Causes.{CallsFor, statuses_for};
+ghost use Rattle.session_loop.specs.Causes.{LoopCallsFor, statuses_for};
 ghost use Rattle.session_loop.specs.Outcome.{Done, Halted, IsAnswer, Usage};
 ghost use Rattle.session_loop.specs.Words.{files_named};
 ghost use Rattle.run_io.specs.Ended.{CutShort, Wrote};
@@ -78,7 +78,7 @@ pub fn run_loop<R: Wait, F: Files, S: Sink>(
     // Where its cause is there a status comes, but for want of memory and a failed write.
     ensures comes { let seen = observed (F.told files.old) (F.reliable files.old)
         (F.faults files.old) (F.faults files.new) in
-        (status : ℕ) → CallsFor words.now seen status → IsOneOf (statuses_for status) result }
+        (status : ℕ) → LoopCallsFor words.now seen status → IsOneOf (statuses_for status) result }
 
     // What stays. No call of the sink fails, but where the status is 6. Words that are no command
     // touch no file.

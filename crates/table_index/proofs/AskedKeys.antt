@@ -2,7 +2,7 @@
 use Rattle.std.proofs.Common.{◌≡◌, ◌∙◌, List, [], ◌∷◌, Bool, true, false, cond, Some, Result, Ok, Err, IfOk, length, nat_lt, refl, sym, ap, subst}
 use Rattle.std.specs.Prelude.{if◌then◌else◌}
 use Rattle.mdb_datum.specs.Doc.{Doc}
-use Rattle.mdb_encode.specs.Answers.{AnswersKey, arg_error}
+use Rattle.mdb_encode.specs.KeyAnswers.{AnswersKey, arg_error}
 use Rattle.mdb_encode.specs.ArgRefusal.{ArgRefusal, arg_count, arg_kind, arg_out_of_range, arg_bad_uuid, arg_too_long, no_prefix_form}
 use Rattle.mdb_encode.specs.Arguments.{Argued, arg, pre, limited_arg}
 use Rattle.mdb_encode.specs.Bytes.{Bytes}

@@ -14,7 +14,7 @@ use Rattle.mdb_schema.specs.declared.ask.Ask.{Ask}
 use Rattle.mdb_schema.specs.declared.ask_error.AskError.{AskError}
 use Rattle.mdb_schema.specs.declared.ask_error.AskError.TheVariants.{Memory}
 use Rattle.radix_node.specs.Nodes.{Plain, pairs_of}
-use Rattle.table_index.specs.inner.Held.{AreTrees, rows_held}
+use Rattle.table_index.specs.inner.IndexTrees.{AreTrees, rows_held}
 use Rattle.table_index.specs.inner.Lookups.{AnswersLookup}
 
 -- ---- the tree at a place

@@ -11,7 +11,7 @@ use Rattle.radix_txn.specs.Txn.{Txn}
 use Rattle.table_index.specs.Table.{AreAllBelow, AreAllOf, AreDrawn, AreSeparate, TableChange}
 use Rattle.table_index.specs.Drawn.{HasDrawnCells, MayBeWritten}
 use Rattle.table_index.specs.inner.Drawn.{AreReady, HaveDrawn}
-use Rattle.table_index.specs.inner.Held.{AreSound, starts_of, trees_of}
+use Rattle.table_index.specs.inner.IndexTrees.{AreSound, starts_of, trees_of}
 use Rattle.table_index.proofs.DrawnIds.{same_drawn}
 
 -- ---- ids

@@ -5,7 +5,7 @@ use Rattle.mdb_datum.specs.Bytes.{is_prefix}
 use Rattle.mdb_datum.specs.Pairs.{rows_of, with_prefix}
 use Rattle.mdb_datum.specs.Row.{Pair}
 use Rattle.mdb_encode.specs.Bytes.{Bytes, byte_order}
-use Rattle.mdb_schema.specs.inner.Edits.{without, without_all}
+use Rattle.mdb_schema.specs.Edits.{without, without_all}
 use Rattle.radix_node.specs.Pairs.{without_prefix}
 use Rattle.radix_txn.specs.Txn.{Txn, txn_pairs}
 use Rattle.table_index.specs.inner.TreeEdits.{without_each}

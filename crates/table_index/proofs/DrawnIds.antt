@@ -13,7 +13,7 @@ use Rattle.radix_txn.proofs.CellTxn as one
 use Rattle.table_index.specs.Table.{AreDrawn}
 use Rattle.table_index.proofs.SeparateTrees.{set_separate}
 use Rattle.table_index.specs.inner.Drawn.{AreReady, HaveDrawn}
-use Rattle.table_index.specs.inner.Held.{AreSound, trees_of}
+use Rattle.table_index.specs.inner.IndexTrees.{AreSound, trees_of}
 
 -- ---- after more ids
 

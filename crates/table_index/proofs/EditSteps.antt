@@ -6,7 +6,7 @@ use Rattle.std.proofs.lemmas.Slice.Zip.{length-zip, get_or-zip}
 use Rattle.mdb_datum.specs.Row.{Pair}
 use Rattle.mdb_encode.specs.Bytes.{Bytes}
 use Rattle.mdb_schema.specs.Write.{is_among}
-use Rattle.mdb_schema.specs.inner.Edits.{without, without_all, stale_keys}
+use Rattle.mdb_schema.specs.Edits.{without, without_all, stale_keys}
 use Rattle.radix_txn.specs.Txn.{Txn, txn_pairs}
 use Rattle.table_index.specs.inner.TreeEdits.{edited_each}
 

@@ -12,7 +12,7 @@ use Rattle.mdb_schema.specs.Schema.{IndexSchema, TableSchema}
 use Rattle.mdb_schema.specs.State.{AreLawfulRows, id_key, full_keys, row_at}
 use Rattle.mdb_schema.specs.Tests.{◌>>=◌, passed, each}
 use Rattle.mdb_schema.specs.Write.{Tested, Placed, is_among, indexes_of, key_taken, is_taken_by, leaves_free}
-use Rattle.mdb_schema.specs.inner.Edits.{full_keys_of}
+use Rattle.mdb_schema.specs.Edits.{full_keys_of}
 use Rattle.mdb_schema.proofs.EntriesOfRows.{apart_in}
 use Rattle.mdb_schema.proofs.FreeKeys.{is_taken_by-stored}
 use Rattle.mdb_schema.proofs.Membership.{Contains-first, Contains-later}

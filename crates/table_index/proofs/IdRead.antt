@@ -14,7 +14,7 @@ use Rattle.mdb_schema.specs.Write.{Tested, no_id, missing, keys_at, has_key, id_
 use Rattle.mdb_schema.proofs.IdKeys.{index_named-place}
 use Rattle.mdb_schema.proofs.PassedTests.{needed_on, goes_on}
 use Rattle.mdb_schema.specs.declared.write_error.WriteError.{WriteError}
-use Rattle.table_index.specs.inner.Keys.{Answers, Tells, full_keys_at}
+use Rattle.table_index.specs.inner.Keys.{IsTestedResult, TellsRefusal, full_keys_at}
 
 pub place_within : (name : Bytes) (is : List IndexSchema) (place : ℕ) → index_place name is ≡ Some place → place < length is
 place_within name [] place e = cc
@@ -48,7 +48,7 @@ module _ (t : TableSchema) (row : Fields) (place : ℕ) (placed : index_place (c
       ∙ ap (λ (k : Keyed). keys_at place k >>= last) (ap (keys_by row) (named o there))
 
   module _ (i : IndexSchema) (there : slice_get t.indexes place ≡ Some i) where
-    pub id_refused : (e : WriteError) → Tells (keys_at place (keys i.indexer row)) e → Tells (id_of t row) e
+    pub id_refused : (e : WriteError) → TellsRefusal (keys_at place (keys i.indexer row)) e → TellsRefusal (id_of t row) e
     id_refused e told = elim told [
       | inl memory ↦ inl memory
       | inr why ↦ inr (why.0, read_by (Some i) there ∙ ap (λ (r : Tested (List Bytes)). r >>= last) why.1, why.2)
@@ -58,8 +58,8 @@ module _ (t : TableSchema) (row : Fields) (place : ℕ) (placed : index_place (c
     id_read found e = read_by (Some i) there ∙ ap (λ (r : Tested (List Bytes)). r >>= last) e
 
     -- by the first of its keys
-    pub id_by_first : (found : List Bytes) (result : Result Bytes WriteError) → keys_at place (keys i.indexer row) ≡ Ok found → Answers (needed no_id (first_item found)) result → Answers (id_of t row) result
-    id_by_first found result e told = subst (λ (r : Tested Bytes). Answers r result) (sym (id_read found e)) told
+    pub id_by_first : (found : List Bytes) (result : Result Bytes WriteError) → keys_at place (keys i.indexer row) ≡ Ok found → IsTestedResult (needed no_id (first_item found)) result → IsTestedResult (id_of t row) result
+    id_by_first found result e told = subst (λ (r : Tested Bytes). IsTestedResult r result) (sym (id_read found e)) told
 
 no_key : (found : List Bytes) → length found ≡ 0 → has_key found ≡ false
 no_key [] e = refl

@@ -10,7 +10,7 @@ use Rattle.mdb_schema.specs.Write.{Tested, Placed, WriteRefusal, indexes_of, mis
 use Rattle.mdb_schema.proofs.Chains.{passed_on, each_parts}
 use Rattle.mdb_schema.proofs.PassedTests.{goes_on}
 use Rattle.mdb_schema.specs.declared.write_error.WriteError.{WriteError}
-use Rattle.table_index.specs.inner.Keys.{Tells, full_keys_at}
+use Rattle.table_index.specs.inner.Keys.{TellsRefusal, full_keys_at}
 
 -- the same refusal of another value
 err_as : {A : Type 0} (v w : WriteRefusal) → v ≡ w → ◌≡◌ {A = Tested A} (Err v) (Err w)
@@ -83,7 +83,7 @@ module _ (id : Bytes) (row : Fields) where
   takes_each t kss e = each_passes (full_keys_at id row) (takes row) passed_here (indexes_of t) kss e
 
   -- and why they aren't read is why one doesn't
-  pub takes_told : (t : TableSchema) (e : WriteError) → Tells (each (full_keys_at id row) (indexes_of t)) e → Tells (each (takes row) (indexes_of t)) e
+  pub takes_told : (t : TableSchema) (e : WriteError) → TellsRefusal (each (full_keys_at id row) (indexes_of t)) e → TellsRefusal (each (takes row) (indexes_of t)) e
   takes_told t e told = elim told [
     | inl memory ↦ inl memory
     | inr why ↦ inr (why.0, each_refuses (full_keys_at id row) (takes row) refused_here passed_here (indexes_of t) why.0 why.1, why.2)

@@ -10,7 +10,7 @@ pub mod ExactRows
 pub mod FreeTold
 pub mod FrozenLists
 pub mod FullKeys
-pub mod HeldRows
+pub mod RowsOfTrees
 pub mod IdRead
 pub mod KeyLoops
 pub mod KeysTold

@@ -14,8 +14,8 @@ use Rattle.mdb_schema.proofs.IdKeys.{id_index, id_of-key, id_of-taken}
 use Rattle.mdb_schema.specs.declared.write_error.WriteError.{WriteError}
 use Rattle.radix_node.specs.Pairs.{find}
 use Rattle.radix_txn.specs.Txn.{Txn, txn_pairs}
-use Rattle.table_index.specs.inner.Held.{AreSound}
-use Rattle.table_index.specs.inner.Keys.{Tells, full_keys_at}
+use Rattle.table_index.specs.inner.IndexTrees.{AreSound}
+use Rattle.table_index.specs.inner.Keys.{TellsRefusal, full_keys_at}
 use Rattle.table_index.specs.inner.TreeEdits.{is_memory, without_each}
 use Rattle.table_index.specs.inner.Wipes.{holds, holds_at, is_there, IsMoved, IsOut, IsStored, IsTaking}
 use Rattle.table_index.proofs.FullKeys.{found_keys, keys_of_taken}
@@ -83,19 +83,19 @@ module _ (t : TableSchema) (cut : ℕ) (row : Fields) (before after : List Txn) 
 
 -- ---- a stored row's keys aren't refused
 
-memory_alone : {A : Type 0} (told : Tested A) (x : A) (e : WriteError) → told ≡ Ok x → Tells told e → is_memory e ≡ true
+memory_alone : {A : Type 0} (told : Tested A) (x : A) (e : WriteError) → told ≡ Ok x → TellsRefusal told e → is_memory e ≡ true
 memory_alone told x e kept tells = elim tells [
   | inl memory ↦ ap is_memory memory
   | inr why ↦ absurd (let refused = why.1 in cc)
 ]
 
 module _ (t : TableSchema) (row : Fields) (stored : IsStored t row) (e : WriteError) where
-  pub stored_id : IsLawfulTable t → Tells (id_of t row) e → is_memory e ≡ true
+  pub stored_id : IsLawfulTable t → TellsRefusal (id_of t row) e → is_memory e ≡ true
   stored_id table tells =
       let at = id_index t table in
       memory_alone (id_of t row) (id_key t row) e (id_of-taken t at row (stored at.index at.within)) tells
 
-  pub stored_keys : (id : Bytes) → Tells (each (full_keys_at id row) (indexes_of t)) e → is_memory e ≡ true
+  pub stored_keys : (id : Bytes) → TellsRefusal (each (full_keys_at id row) (indexes_of t)) e → is_memory e ≡ true
   stored_keys id tells =
       let kept = keys_of_taken t id row stored in
       memory_alone (each (full_keys_at id row) (indexes_of t)) kept.0 e kept.1 tells

@@ -8,7 +8,7 @@ use Rattle.mdb_datum.specs.Same.{has_same_members}
 use Rattle.mdb_datum.proofs.ByteOrder.{byte_order_itself}
 use Rattle.mdb_datum.proofs.SameDocs.{Decides-has_same_members}
 use Rattle.mdb_schema.specs.Net.{Net}
-use Rattle.mdb_schema.specs.inner.NetOfPairs.{come, gone, net_of_pairs, replaced}
+use Rattle.mdb_schema.specs.NetOfPairs.{come, gone, net_of_pairs, replaced}
 use Rattle.radix_node.specs.Cells.{CellLeaf, CellNode, CellNodes, CellTree, Piece, a_leaf, a_node, celled, leaf_pieces, no_cells, node_pieces, piece_cell, plain_leaf, plain_nodes, plain_of}
 use Rattle.radix_node.specs.CellNode.{tree_at}
 use Rattle.radix_node.specs.Nodes.{pairs_of, pairs_of_leaf, pairs_of_nodes}

@@ -10,7 +10,7 @@ use Rattle.mdb_schema.specs.Schema.{IndexSchema, TableSchema}
 use Rattle.mdb_schema.specs.State.{id_key, full_keys, row_at, with_row, AreLawfulRows}
 use Rattle.mdb_schema.specs.Tests.{◌>>=◌, each}
 use Rattle.mdb_schema.specs.Write.{Tested, Changed, id_of, indexes_of, key_taken, takes, leaves_free, put_row}
-use Rattle.mdb_schema.specs.inner.Edits.{full_keys_of}
+use Rattle.mdb_schema.specs.Edits.{full_keys_of}
 use Rattle.mdb_schema.proofs.EntriesAfter.{entries-put_row}
 use Rattle.mdb_schema.proofs.IdKeys.{id_of-key}
 use Rattle.mdb_schema.proofs.LawfulRows.{put_keeps}
@@ -19,8 +19,8 @@ use Rattle.mdb_schema.specs.declared.write_error.WriteError.{WriteError}
 use Rattle.mdb_schema.specs.declared.write_error.WriteError.TheVariants.{IdsSpent}
 use Rattle.radix_txn.specs.Txn.{Txn, txn_pairs}
 use Rattle.table_index.specs.Table.{AreSpent}
-use Rattle.table_index.specs.inner.Held.{AreSound, AreTrees, Hold, nodes_of, rows_held}
-use Rattle.table_index.specs.inner.Keys.{Tells, full_keys_at}
+use Rattle.table_index.specs.inner.IndexTrees.{AreSound, AreTrees, Hold, nodes_of, rows_held}
+use Rattle.table_index.specs.inner.Keys.{TellsRefusal, full_keys_at}
 use Rattle.table_index.specs.inner.PutKeys.{IsAccepted, first_taken, keys_of_each}
 use Rattle.table_index.specs.inner.TreeEdits.{NewAndOld, IsPut, IsRefused, edited_each, replaced_each, replaced_in}
 use Rattle.table_index.proofs.FreeTold.{TellsFree, free_told, zip_of_maps}
@@ -43,9 +43,9 @@ module _ (t : TableSchema) (txns : List Txn) (table : IsLawfulTable t) (trees : 
   after_id id = each (takes row) (indexes_of t) >>= (λ taken. after_takes id)
 
   module _ (id : Bytes) (known : id_of t row ≡ Ok id) where
-    pub not_taken : (e : WriteError) → Tells (each (full_keys_at id row) (indexes_of t)) e → Tells (put_row t row rows) e
+    pub not_taken : (e : WriteError) → TellsRefusal (each (full_keys_at id row) (indexes_of t)) e → TellsRefusal (put_row t row rows) e
     not_taken e told =
-        subst (λ (r : Tested Changed). Tells r e) (sym (goes_on (id_of t row) after_id id known))
+        subst (λ (r : Tested Changed). TellsRefusal r e) (sym (goes_on (id_of t row) after_id id known))
         (told_on (each (takes row) (indexes_of t)) (λ taken. after_takes id) e (takes_told id row t e told))
 
     module _ (new old : List (List Bytes)) (read : each (full_keys_at id row) (indexes_of t) ≡ Ok new) (stored : old ≡ keys_of_each t (row_at t id rows)) where

@@ -5,10 +5,10 @@ use Rattle.mdb_schema.specs.Entries.{entries}
 use Rattle.mdb_schema.specs.Schema.{IndexSchema, TableSchema}
 use Rattle.mdb_schema.specs.State.{AreLawfulRows, full_keys}
 use Rattle.mdb_schema.specs.Write.{remove_row}
-use Rattle.mdb_schema.specs.inner.Edits.{without_all}
+use Rattle.mdb_schema.specs.Edits.{without_all}
 use Rattle.mdb_schema.proofs.EntriesAfter.{entries-remove_row}
 use Rattle.radix_txn.specs.Txn.{Txn, txn_pairs}
-use Rattle.table_index.specs.inner.Held.{Hold, nodes_of}
+use Rattle.table_index.specs.inner.IndexTrees.{Hold, nodes_of}
 use Rattle.table_index.specs.inner.PutKeys.{keys_of_each}
 use Rattle.table_index.specs.inner.TreeEdits.{without_each}
 use Rattle.table_index.proofs.StoredRows.{pairs_of-nodes}

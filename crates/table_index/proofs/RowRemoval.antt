@@ -13,7 +13,7 @@ use Rattle.mdb_schema.proofs.LawfulRows.{remove_keeps}
 use Rattle.mdb_schema.proofs.PassedTests.{goes_on}
 use Rattle.radix_txn.specs.Txn.{Txn, txn_pairs}
 use Rattle.table_index.specs.Table.{AreLeft, AreSpent}
-use Rattle.table_index.specs.inner.Held.{AreSound, AreTrees, nodes_of, rows_held}
+use Rattle.table_index.specs.inner.IndexTrees.{AreSound, AreTrees, nodes_of, rows_held}
 use Rattle.table_index.specs.inner.Keys.{full_keys_at}
 use Rattle.table_index.specs.inner.TreeEdits.{without_each, IsRefused, IsWritten}
 use Rattle.table_index.proofs.Removals.{Hold-removed}

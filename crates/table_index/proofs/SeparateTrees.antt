@@ -12,7 +12,7 @@ use Rattle.radix_txn.specs.Txn.{Txn}
 use Rattle.radix_txn.proofs.Steps.{lt_or_le}
 use Rattle.radix_txn.proofs.TxnTrees.{counted}
 use Rattle.table_index.specs.Table.{AreNewInTurn, AreSeparate, IsCellAt}
-use Rattle.table_index.specs.inner.Held.{trees_of}
+use Rattle.table_index.specs.inner.IndexTrees.{trees_of}
 
 -- a cell of a tree has an id below any number that is above all of its ids
 pub id_below : (n : ℕ) (t : CellTree) (c : Cell) → AreBelow n t → Has c (cells_of t) → c.id < n

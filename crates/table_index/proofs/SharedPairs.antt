@@ -10,13 +10,13 @@ use Rattle.radix_node.specs.Pairs.{find}
 use Rattle.radix_node.specs.Paths.{Has}
 use Rattle.radix_node.specs.Shape.{HasShape, IsBranching, IsShaped, width}
 use Rattle.radix_node.specs.Watches.{Fires, get_watch, seek_watch}
-use Rattle.radix_node.specs.inner.Walk.{End, end_leaf, end_pairs, pairs_if, walk_tree}
+use Rattle.radix_node.specs.WalkDown.{End, end_leaf, end_pairs, pairs_if, walk_tree}
 use Rattle.radix_node.proofs.Members.{has_cell, node_no_leaf}
 use Rattle.radix_node.proofs.NodesBelow.{piece_sits, seated}
 use Rattle.radix_node.proofs.Paths.{Has-split}
 use Rattle.radix_node.proofs.WalkedTree.{end_piece, leaf_found, leaf_reached, tree_reaches}
 use Rattle.radix_node.proofs.Walks.{on_at, on_below, part_append}
-use Rattle.radix_node.proofs.WatchesHold.{get_none, get_some, prefix_end, seek_watch_end}
+use Rattle.radix_node.proofs.TreeWatches.{get_none, get_some, prefix_end, seek_watch_end}
 use Rattle.radix_txn.proofs.TxnTrees.{one_piece}
 use Rattle.table_index.specs.Shared.{CellsTell}
 use Rattle.table_index.specs.inner.PiecesIn.{HoldTheSame, pairs_under}

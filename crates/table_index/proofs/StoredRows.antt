@@ -20,8 +20,8 @@ use Rattle.mdb_schema.specs.declared.write_error.WriteError.{WriteError}
 use Rattle.mdb_schema.specs.declared.write_error.WriteError.TheVariants.{Memory}
 use Rattle.radix_node.specs.Nodes.{pairs_of}
 use Rattle.radix_txn.specs.Txn.{Txn, txn_pairs}
-use Rattle.table_index.specs.inner.Held.{AreTrees, nodes_of, rows_held}
-use Rattle.table_index.specs.inner.Keys.{Tells, full_keys_at}
+use Rattle.table_index.specs.inner.IndexTrees.{AreTrees, nodes_of, rows_held}
+use Rattle.table_index.specs.inner.Keys.{TellsRefusal, full_keys_at}
 use Rattle.table_index.specs.inner.PutKeys.{keys_of_each}
 use Rattle.table_index.proofs.FullKeys.{found_keys, keys_of_taken}
 use Rattle.table_index.proofs.IdRead.{place_within}
@@ -83,7 +83,7 @@ module _ (t : TableSchema) (txns : List Txn) (table : IsLawfulTable t) (trees : 
     id_known = let at = id_index t table in id_of-taken t at old (trees.lawful.taken at.index old at.within own.0) ∙ ap Ok own.1
 
     -- they aren't refused
-    pub only_memory : (e : WriteError) → Tells (each (full_keys_at id old) (indexes_of t)) e → e ≡ Memory
+    pub only_memory : (e : WriteError) → TellsRefusal (each (full_keys_at id old) (indexes_of t)) e → e ≡ Memory
     only_memory e told = elim told [
       | inl memory ↦ memory
       | inr why ↦ absurd (let kept = (keys_of_taken t id old (λ i h. trees.lawful.taken i old h own.0)).1 in let refused = why.1 in cc)

@@ -7,7 +7,7 @@ use Rattle.mdb_schema.specs.Entries.{entries}
 use Rattle.mdb_schema.specs.LawfulSchema.{IsLawfulTable}
 use Rattle.mdb_schema.specs.Net.{net}
 use Rattle.mdb_schema.specs.Schema.{IndexSchema, TableSchema, index_place}
-use Rattle.mdb_schema.specs.inner.NetOfPairs.{net_of_pairs}
+use Rattle.mdb_schema.specs.NetOfPairs.{net_of_pairs}
 use Rattle.mdb_schema.proofs.IdEntries.{entries-id, id_pairs}
 use Rattle.mdb_schema.proofs.IdKeys.{id_index}
 use Rattle.mdb_schema.proofs.NetMerged.{net-of_pairs}
@@ -15,7 +15,7 @@ use Rattle.radix_node.specs.Cells.{CellTree, plain_of}
 use Rattle.radix_node.specs.Nodes.{Plain, pairs_of}
 use Rattle.table_index.specs.Shared.{AllCellsTell, CellsTell}
 use Rattle.table_index.specs.Table.{TableRows}
-use Rattle.table_index.specs.inner.Held.{AreTrees, plains, rows_held}
+use Rattle.table_index.specs.inner.IndexTrees.{AreTrees, plains, rows_held}
 use Rattle.table_index.proofs.AskedRows.{pairs_there}
 use Rattle.table_index.proofs.SharedPieces.{tell_at}
 

@@ -5,6 +5,7 @@ use Rattle.std.proofs.lemmas.List.{length-map}
 use Rattle.std.proofs.lemmas.Option.{get_or_from_slice_get, slice_get-map}
 use Rattle.mdb_datum.specs.Pairs.{first_item, last_item, rows_of, with_prefix}
 use Rattle.mdb_datum.specs.Row.{Fields, Pair}
+use Rattle.mdb_datum.proofs.ListPlaces.{there_within}
 use Rattle.mdb_encode.specs.Bytes.{Bytes}
 use Rattle.mdb_schema.specs.Answer.{Asked, Lookup, answer, ask_rows, is_exact, lookup_of}
 use Rattle.mdb_schema.specs.Entries.{entries}
@@ -21,19 +22,18 @@ use Rattle.mdb_schema.proofs.PassedTests.{goes_on}
 use Rattle.radix_node.specs.Cells.{CellTree, plain_of}
 use Rattle.radix_node.specs.Nodes.{pairs_of}
 use Rattle.radix_node.specs.Pairs.{IsRising, find}
-use Rattle.radix_node.specs.Watches.{WatchesHold}
+use Rattle.radix_node.specs.Watches.{HoldsWatched}
 use Rattle.watch_word.specs.Logs.{Cell}
 use Rattle.table_index.specs.Frozen.{AreFrozen}
 use Rattle.table_index.specs.Spot.{SpotOf}
 use Rattle.table_index.specs.Table.{TableRows}
 use Rattle.table_index.specs.Watched.{FiresAt, HoldsEntries, QuestionsHold, cell_of, is_for_one, is_watchable, looks_up, watch_in}
-use Rattle.table_index.specs.inner.Held.{AreTrees, Hold, plains, rows_held}
+use Rattle.table_index.specs.inner.IndexTrees.{AreTrees, Hold, plains, rows_held}
 use Rattle.table_index.proofs.AskedRows.{pairs_there, place_there}
 use Rattle.table_index.proofs.ExactRows.{first_exact, last_exact}
 use Rattle.table_index.proofs.FrozenLists.{frozen_at}
-use Rattle.table_index.proofs.HeldRows.{AreTrees-from, rows_held-rows}
+use Rattle.table_index.proofs.RowsOfTrees.{AreTrees-from, rows_held-rows}
 use Rattle.table_index.proofs.Lookups.{looked_there}
-use Rattle.table_index.proofs.WipeSteps.{there_within}
 
 -- ---- the answer from pairs that are the same where the question looks
 
@@ -116,7 +116,7 @@ module _ (t : TableSchema) (old new : List CellTree) (held_old : AreTrees t (pla
   found : (cells : List CellTree) (tree : CellTree) (exact : Bool) → slice_get cells at.place ≡ Some tree → cell_of cells at.place exact at.key ≡ Some (watch_in exact at.key tree)
   found cells tree exact here = ap (option_map (watch_in exact at.key)) here
 
-  holds_in : (before after : CellTree) → slice_get old at.place ≡ Some before → slice_get new at.place ≡ Some after → WatchesHold before after → (exact : Bool) → exact ≡ looks_up at.index q
+  holds_in : (before after : CellTree) → slice_get old at.place ≡ Some before → slice_get new at.place ≡ Some after → HoldsWatched before after → (exact : Bool) → exact ≡ looks_up at.index q
       → HoldsAt at.place exact at.key (watch_in exact at.key before)
   holds_in before after was now held true is = elim (held.get at.key) [
     | inl fires ↦ inl (record { before = before; after = after; was = was; now = now; fires = fires })

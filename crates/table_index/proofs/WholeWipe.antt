@@ -2,6 +2,7 @@
 use Rattle.std.proofs.Common.{◌≡◌, ◌∙◌, ◌<◌, ◌≤◌, ◌+◌, ◌*◌, ◌^◌, ℕ, Bool, List, [], Some, length, slice_get, map, sym, ap, subst, arith}
 use Rattle.mdb_datum.specs.Pairs.{rows_of, with_prefix}
 use Rattle.mdb_datum.specs.Row.{Fields}
+use Rattle.mdb_datum.proofs.ListPlaces.{there_within}
 use Rattle.mdb_encode.specs.Bytes.{Bytes}
 use Rattle.mdb_schema.specs.LawfulSchema.{IsLawfulTable}
 use Rattle.mdb_schema.specs.Schema.{TableSchema}
@@ -12,13 +13,13 @@ use Rattle.radix_txn.specs.Txn.{Txn, txn_pairs}
 use Rattle.table_index.specs.Table.{AreLeft}
 use Rattle.table_index.specs.declared.wipe_error.WipeError.{WipeError}
 use Rattle.table_index.specs.inner.Drawn.{HaveDrawn, ids_of_row}
-use Rattle.table_index.specs.inner.Held.{AreSound, AreTrees, nodes_of, rows_held}
+use Rattle.table_index.specs.inner.IndexTrees.{AreSound, AreTrees, nodes_of, rows_held}
 use Rattle.table_index.specs.inner.Wipes.{GivesUp, IsCut, IsWiped, MovesNext, is_next_there, listed_at, listed_from}
 use Rattle.table_index.proofs.DrawnIds.{more_drawn, then_drawn}
 use Rattle.table_index.proofs.OneByOne.{taken_of}
 use Rattle.table_index.proofs.StoredRows.{same_count}
 use Rattle.table_index.proofs.WipeIds.{one_if, next_ahead, moved_count, row_left, moved_few, all_few}
-use Rattle.table_index.proofs.WipeSteps.{Stands, there_within, listed_is_at, taken_once, wipe_begins, wipe_ends}
+use Rattle.table_index.proofs.WipeSteps.{Stands, listed_is_at, taken_once, wipe_begins, wipe_ends}
 
 module _ (t : TableSchema) (table : IsLawfulTable t) (place : ℕ) (key : Bytes) (txns : List Txn) (held : AreTrees t (nodes_of txns)) (within : place < length t.indexes) where
   abbrev all : List Fields

@@ -21,7 +21,7 @@ use Rattle.table_index.specs.Table.{TableChange, AnswersCheck, AnswersTake, Answ
 use Rattle.table_index.specs.declared.wipe_error.WipeError.{WipeError}
 use Rattle.table_index.specs.declared.wipe_error.WipeError.TheVariants.{Refused}
 use Rattle.table_index.specs.inner.Lookups.{AnswersLookup}
-use Rattle.table_index.specs.inner.Held.{starts_of, trees_of}
+use Rattle.table_index.specs.inner.IndexTrees.{starts_of, trees_of}
 use Rattle.table_index.specs.inner.Wipes.{listed_at, AnswersTarget, GivesUp, IsWiped, IsRefusedWipe, wipe_error, wants_memory}
 use Rattle.table_index.proofs.WriteAnswers.{change_of}
 

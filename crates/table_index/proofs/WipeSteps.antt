@@ -1,5 +1,5 @@
 -- The steps of a wipe: its beginning, each row that is listed, and its end.
-use Rattle.std.proofs.Common.{◌≡◌, ◌≢◌, ◌∙◌, ◌||◌, ◌++◌, ◌<◌, ℕ, zero, suc, List, [], ◌∷◌, map, filter, drop, set, length, slice_get, codes, Bool, true, false, not, cond, Option, Some, None, Result, Ok, Err, OnOk, option_map, is_some, Contains, eq-eqb, eqb-true, refl, sym, ap, subst, inl, inr, arith}
+use Rattle.std.proofs.Common.{◌≡◌, ◌≢◌, ◌∙◌, ◌||◌, ◌++◌, ◌<◌, ℕ, List, [], ◌∷◌, map, filter, drop, set, length, slice_get, codes, Bool, true, false, not, cond, Option, Some, None, Result, Ok, Err, OnOk, option_map, is_some, Contains, eq-eqb, eqb-true, refl, sym, ap, subst, inl, inr, arith}
 use Rattle.std.specs.Prelude.{nat_eq, unwrap_or}
 use Rattle.std.proofs.lemmas.Bool.{or_right, both_ways, not_from_false, false_from_ne_true}
 use Rattle.std.proofs.lemmas.List.{append-nil, append_assoc, length-map, map-set}
@@ -7,6 +7,7 @@ use Rattle.std.proofs.lemmas.Option.{slice_get-map}
 use Rattle.mdb_datum.specs.Bytes.{is_prefix}
 use Rattle.mdb_datum.specs.Pairs.{first_item, rows_of, with_prefix}
 use Rattle.mdb_datum.specs.Row.{Fields, Pair}
+use Rattle.mdb_datum.proofs.ListPlaces.{there_within}
 use Rattle.mdb_encode.specs.Bytes.{Bytes}
 use Rattle.mdb_schema.specs.Entries.{entries}
 use Rattle.mdb_schema.specs.LawfulSchema.{IsLawfulTable}
@@ -14,7 +15,7 @@ use Rattle.mdb_schema.specs.Schema.{IndexSchema, TableSchema, index_place}
 use Rattle.mdb_schema.specs.State.{id_key, full_keys, row_at, without_row, AreLawfulRows}
 use Rattle.mdb_schema.specs.Wipe.{once, without_rows}
 use Rattle.mdb_schema.specs.Write.{is_among}
-use Rattle.mdb_schema.specs.inner.Edits.{without_all, full_keys_of}
+use Rattle.mdb_schema.specs.Edits.{without_all, full_keys_of}
 use Rattle.mdb_schema.proofs.EntriesAfter.{entries-without_row}
 use Rattle.mdb_schema.proofs.EntriesOfRows.{apart_in, Contains-entries, Contains-from_entries}
 use Rattle.mdb_schema.proofs.IdEntries.{id_pairs, entries-id, row_at-entries}
@@ -26,11 +27,11 @@ use Rattle.mdb_schema.proofs.RowsById.{AreRising}
 use Rattle.mdb_schema.proofs.RowsLeft.{without_rows-cases}
 use Rattle.radix_node.specs.Pairs.{without_prefix}
 use Rattle.radix_txn.specs.Txn.{Txn, txn_pairs}
-use Rattle.table_index.specs.inner.Held.{AreSound, AreTrees, nodes_of, rows_held}
+use Rattle.table_index.specs.inner.IndexTrees.{AreSound, AreTrees, nodes_of, rows_held}
 use Rattle.table_index.specs.inner.TreeEdits.{without_each}
 use Rattle.table_index.specs.inner.Wipes.{listed_at, listed_from, cut_at, holds, holds_at, is_there, IsMoved, IsStored, IsTaking, IsWiped, MovesNext}
 use Rattle.table_index.proofs.CutTrees.{without_each-cut, length-cut_at, slice_get-cut_at, set-cut_at, cut_at-nothing}
-use Rattle.table_index.proofs.HeldRows.{AreTrees-from, rows_held-rows}
+use Rattle.table_index.proofs.RowsOfTrees.{AreTrees-from, rows_held-rows}
 use Rattle.table_index.proofs.OneByOne.{taken_of, left_of, taken_of-there, taken_of-out, left_of-there, left_of-out, taken_of-once, left_of-without, Follow, follow_listed, follow_rising, rising-filter}
 use Rattle.table_index.proofs.StoredRows.{pairs_of-nodes, tree_entries}
 use Rattle.table_index.proofs.WriteResults.{edited_entries}
@@ -253,12 +254,6 @@ module _ (t : TableSchema) (table : IsLawfulTable t) (cut : ℕ) (key : Bytes) w
         }
 
 -- ---- the same, as the code meets it
-
--- a place within a list has an element
-pub there_within : {A : Type 0} (xs : List A) (at : ℕ) → at < length xs → (x : A) × (slice_get xs at ≡ Some x)
-there_within [] at h = absurd (omega arith)
-there_within (x ∷ xs) zero h = (x, refl)
-there_within (x ∷ xs) (suc at) h = there_within xs at (omega arith)
 
 pub listed_there : (key : Bytes) (listed : List Fields) (o : Option Txn) (x : Txn) → listed ≡ listed_from key o → o ≡ Some x → listed ≡ rows_of (with_prefix key (txn_pairs x))
 listed_there key listed o x is there = is ∙ ap (listed_from key) there

@@ -8,7 +8,7 @@ use Rattle.mdb_schema.specs.Write.{Tested, Changed, WriteRefusal, unknown_table,
 use Rattle.mdb_schema.specs.declared.write_error.WriteError.{WriteError}
 use Rattle.radix_txn.specs.Txn.{Txn}
 use Rattle.table_index.specs.Table.{TableChange, AnswersPut, AnswersRefusal, AnswersRemove, AreLeft, IsGivenUp, IsOutOfMemory}
-use Rattle.table_index.specs.inner.Held.{nodes_of, rows_held, starts_of, trees_of}
+use Rattle.table_index.specs.inner.IndexTrees.{nodes_of, rows_held, starts_of, trees_of}
 use Rattle.table_index.specs.inner.TreeEdits.{IsPut, IsRefused, IsWritten, is_memory}
 
 -- the change of these trees

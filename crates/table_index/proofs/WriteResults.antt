@@ -9,10 +9,10 @@ use Rattle.mdb_schema.specs.Write.{Tested, Changed}
 use Rattle.mdb_schema.proofs.Membership.{Contains-first, Contains-later}
 use Rattle.mdb_schema.specs.declared.write_error.WriteError.{WriteError}
 use Rattle.radix_txn.specs.Txn.{Txn}
-use Rattle.table_index.specs.inner.Held.{AreSound, Hold, nodes_of}
-use Rattle.table_index.specs.inner.Keys.{Tells}
+use Rattle.table_index.specs.inner.IndexTrees.{AreSound, Hold, nodes_of}
+use Rattle.table_index.specs.inner.Keys.{TellsRefusal}
 use Rattle.table_index.specs.inner.TreeEdits.{IsWritten, edited_each}
-use Rattle.table_index.proofs.HeldRows.{AreTrees-from, rows_held-rows}
+use Rattle.table_index.proofs.RowsOfTrees.{AreTrees-from, rows_held-rows}
 
 -- an edit of the entries of each index
 pub edited_entries : {K : Type 0} (edit : K → List Pair → List Pair) (f : IndexSchema → K) (before after : IndexSchema → List Pair) (is : List IndexSchema)
@@ -33,7 +33,7 @@ written t told left old after table done lawful held sound = record {
 }
 
 -- what the first test refuses is refused
-pub told_on : {A B : Type 0} (r : Tested A) (f : A → Tested B) (e : WriteError) → Tells r e → Tells (r >>= f) e
+pub told_on : {A B : Type 0} (r : Tested A) (f : A → Tested B) (e : WriteError) → TellsRefusal r e → TellsRefusal (r >>= f) e
 told_on {A} r f e told = elim told [
   | inl memory ↦ inl memory
   | inr why ↦ inr (why.0, ap (λ (x : Tested A). x >>= f) why.1, why.2)

@@ -5,6 +5,7 @@ use Rattle.std.proofs.lemmas.List.Elements.{Contains-append_left, Contains-appen
 use Rattle.mdb_datum.specs.Bytes.{is_prefix}
 use Rattle.mdb_datum.specs.Pairs.{first_item, rows_of, with_prefix}
 use Rattle.mdb_datum.specs.Row.{Fields, Pair}
+use Rattle.mdb_datum.proofs.ListPlaces.{there_within}
 use Rattle.mdb_encode.specs.Bytes.{Bytes}
 use Rattle.mdb_schema.specs.Entries.{entries}
 use Rattle.mdb_schema.specs.LawfulSchema.{IsLawfulTable}
@@ -12,7 +13,7 @@ use Rattle.mdb_schema.specs.Schema.{IndexSchema, TableSchema}
 use Rattle.mdb_schema.specs.State.{full_keys, id_key, row_at}
 use Rattle.mdb_schema.specs.Wipe.{once}
 use Rattle.mdb_schema.specs.Write.{Changed}
-use Rattle.mdb_schema.specs.inner.Edits.{full_keys_of}
+use Rattle.mdb_schema.specs.Edits.{full_keys_of}
 use Rattle.mdb_schema.specs.declared.write_error.WriteError.{WriteError}
 use Rattle.mdb_schema.specs.declared.write_error.WriteError.TheVariants.{Memory}
 use Rattle.mdb_schema.proofs.EntriesOfRows.{Contains-from_entries}
@@ -25,13 +26,13 @@ use Rattle.radix_txn.specs.Txn.{Txn, txn_pairs}
 use Rattle.table_index.specs.Table.{TableChange, TableRows}
 use Rattle.table_index.specs.Watched.{HoldsEntries}
 use Rattle.table_index.specs.Written.{EachWrote, IsKeyOf, KeepsOthers, row_there, rows_put}
-use Rattle.table_index.specs.inner.Held.{AreSound, AreTrees, nodes_of, rows_held, starts_of, trees_of}
+use Rattle.table_index.specs.inner.IndexTrees.{AreSound, AreTrees, nodes_of, rows_held, starts_of, trees_of}
 use Rattle.table_index.specs.inner.PutKeys.{IsAccepted, keys_of_each}
 use Rattle.table_index.specs.inner.TreeEdits.{without_each}
 use Rattle.table_index.specs.inner.Wipes.{listed_at, listed_from}
 use Rattle.table_index.specs.inner.Writes.{TreesWrote, InIndex, IsAt, IsCutAt, WroteRows, keys_begun}
 use Rattle.table_index.proofs.StoredRows.{same_count, tree_entries}
-use Rattle.table_index.proofs.WipeSteps.{listed_is_at, pairs_at, there_within}
+use Rattle.table_index.proofs.WipeSteps.{listed_is_at, pairs_at}
 use Rattle.table_index.proofs.WrittenTrees.{each_kept, each_wrote, trees_more, trees_then, nothing_wrote}
 
 -- ---- the keys of a row, index by index

@@ -13,7 +13,7 @@ use Rattle.radix_txn.specs.Kept.{AreWritten, deleted_key, deleted_keys}
 use Rattle.radix_txn.specs.Txn.{Txn}
 use Rattle.radix_txn.proofs.KeptInTurn.{nothing_written}
 use Rattle.table_index.specs.Written.{EachKept, EachWrote}
-use Rattle.table_index.specs.inner.Held.{starts_of, trees_of}
+use Rattle.table_index.specs.inner.IndexTrees.{starts_of, trees_of}
 use Rattle.table_index.specs.inner.Writes.{TreesWrote, InIndex, IsAt, Wrote}
 
 -- ---- one tree

@@ -2,14 +2,14 @@
 use Rattle.std.specs.Prelude.{ℕ, List, [], ◌∷◌, ⊤}
 use Rattle.watch_word.specs.Logs.{Cell}
 use Rattle.radix_node.specs.Cells.{AreBelow, CellTree}
-use Rattle.radix_node.specs.Watches.{WatchesHold}
+use Rattle.radix_node.specs.Watches.{HoldsWatched}
 use Rattle.radix_txn.specs.Notice.{IsNotice, IsOpened}
 
 -- the cells are those that are gone from the tree of an index, whose other watches find what they
 -- found; and the new tree's other cells were opened by the change
 pub record IsFrozen (gone : List Cell) (old new : CellTree) : Type 0 where
   pub notice : IsNotice gone old new
-  pub held : WatchesHold old new
+  pub held : HoldsWatched old new
   pub first : ℕ
   pub below : AreBelow first old
   pub opened : IsOpened first old new

@@ -34,8 +34,8 @@ HasWritten rows change =
     EachWrote (IsKeyOf change.schema rows) change.schema.indexes change.start change.trees
 
 -- the change that begins with a table
-abbrev pub begun : TableRows → TableChange
-begun t = record {
+abbrev pub new_change : TableRows → TableChange
+new_change t = record {
   schema = t.schema;
   rows = t.rows;
   start = t.trees;

@@ -1,13 +1,12 @@
 pub mod Collected
 pub mod Drawn
-pub mod Held
+pub mod IndexTrees
 pub mod Keys
 pub mod Lookups
 pub mod NetSteps
 pub mod PiecesIn
 pub mod PiecesLeft
 pub mod PutKeys
-pub mod Stored
 pub mod StoredNet
 pub mod TreeEdits
 pub mod Views

@@ -5,7 +5,7 @@ ghost use Rattle.mdb_schema.specs.Refusals.{AnswersAsk};
 ghost use Rattle.mdb_schema.specs.declared.ask_error.AskError.TheVariants.{Memory};
 ghost use Rattle.radix_node.specs.Cells.{plain_of};
 ghost use Rattle.radix_node.specs.Nodes.{pairs_of};
-ghost use Rattle.table_index.specs.inner.Held.{AreTrees, nodes_of, rows_held};
+ghost use Rattle.table_index.specs.inner.IndexTrees.{AreTrees, nodes_of, rows_held};
 
 use crate::answer::answer_of;
 use crate::lookup::{Target, lookup};

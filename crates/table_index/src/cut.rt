@@ -10,7 +10,7 @@ ghost use Rattle.radix_txn.specs.Txn.{txn_pairs};
 ghost use Rattle.table_index.specs.Table.{AreLeft, AreSpent};
 ghost use Rattle.table_index.specs.declared.wipe_error.WipeError.TheVariants.{IdsSpent, Memory};
 ghost use Rattle.table_index.specs.inner.Drawn.{AreReady, HaveDrawn};
-ghost use Rattle.table_index.specs.inner.Held.{AreSound, AreTrees, nodes_of};
+ghost use Rattle.table_index.specs.inner.IndexTrees.{AreSound, AreTrees, nodes_of};
 ghost use Rattle.table_index.specs.inner.Wipes.{GivesUp, IsCut, IsStored, cut_at, listed_from};
 ghost use Rattle.table_index.specs.inner.Wipes.{rows_under};
 ghost use Rattle.table_index.specs.inner.Writes.{TreesWrote, IsCutAt};

@@ -1,10 +1,10 @@
 //! What a write does to the trees of a table.
 ghost use Rattle.std.specs.Prelude.{◌≡◌, ◌+◌, ◌*◌, ◌≤◌, ◌^◌, false, Contains, OnOk, length, map};
-ghost use Rattle.mdb_schema.specs.inner.Edits.{without_all};
+ghost use Rattle.mdb_schema.specs.Edits.{without_all};
 ghost use Rattle.radix_txn.specs.Drawn.{HasDrawn, IsReady};
 ghost use Rattle.radix_txn.specs.Txn.{txn_pairs};
 ghost use Rattle.table_index.specs.inner.Drawn.{AreReady, HaveDrawn};
-ghost use Rattle.table_index.specs.inner.Held.{AreSound};
+ghost use Rattle.table_index.specs.inner.IndexTrees.{AreSound};
 ghost use Rattle.table_index.specs.inner.TreeEdits.{without_each};
 ghost use Rattle.table_index.specs.inner.Writes.{TreesWrote, IsAt, Wrote};
 

@@ -2,7 +2,7 @@
 ghost use Rattle.std.specs.Prelude.{◌≡◌, ◌<◌, false, IfSome, length, map};
 ghost use Rattle.std.specs.List.{zip};
 ghost use Rattle.radix_txn.specs.Txn.{txn_pairs};
-ghost use Rattle.table_index.specs.inner.Held.{AreSound};
+ghost use Rattle.table_index.specs.inner.IndexTrees.{AreSound};
 ghost use Rattle.table_index.specs.inner.PutKeys.{first_taken, has_taken};
 
 use crate::full_key::{FullKey, FullKeys};

@@ -10,7 +10,7 @@ ghost use Rattle.radix_txn.specs.Txn.{txn_pairs};
 ghost use Rattle.table_index.specs.Table.{AreLeft};
 ghost use Rattle.table_index.specs.declared.wipe_error.WipeError.TheVariants.{Memory};
 ghost use Rattle.table_index.specs.inner.Drawn.{AreReady, HaveDrawn, ids_of_row};
-ghost use Rattle.table_index.specs.inner.Held.{AreSound, AreTrees, nodes_of, rows_held};
+ghost use Rattle.table_index.specs.inner.IndexTrees.{AreSound, AreTrees, nodes_of, rows_held};
 ghost use Rattle.table_index.specs.inner.Wipes.{GivesUp, IsMoved, IsOut, IsStored, IsTaking};
 ghost use Rattle.table_index.specs.inner.Wipes.{IsWiped};
 ghost use Rattle.table_index.specs.inner.Wipes.{MovesNext, is_next_there, is_there, listed_at};

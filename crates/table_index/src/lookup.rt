@@ -22,7 +22,7 @@ pub(crate) struct Target<'a> {
 
 impl<'a> Model for Target<'a> {
     ghost use Rattle.mdb_schema.specs.Answer.{Lookup};
-    ghost use Rattle.table_index.specs.inner.Stored.{lookup_code};
+    ghost use Rattle.table_index.specs.Codes.{lookup_code};
 
     ghost Value = { Lookup };
 

@@ -1,7 +1,7 @@
 //! The walk of two trees side by side, over what differs.
 ghost use Rattle.std.specs.Prelude.{◌≡◌, ◌++◌, [], List, IfOk, OnOk, Some};
 ghost use Rattle.mdb_schema.specs.Net.{Net};
-ghost use Rattle.mdb_schema.specs.inner.NetOfPairs.{net_of_pairs, replaced};
+ghost use Rattle.mdb_schema.specs.NetOfPairs.{net_of_pairs, replaced};
 ghost use Rattle.radix_node.specs.Cells.{plain_of};
 ghost use Rattle.radix_node.specs.Nodes.{pairs_of};
 ghost use Rattle.table_index.specs.Shared.{CellsTell};

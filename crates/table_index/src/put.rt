@@ -9,8 +9,8 @@ ghost use Rattle.table_index.specs.Drawn.{HasDrawnCells, MayBeWritten};
 ghost use Rattle.table_index.specs.Table.{AnswersPut, AreLeft};
 ghost use Rattle.table_index.specs.Written.{Writes, rows_put};
 ghost use Rattle.table_index.specs.inner.Drawn.{AreReady, HaveDrawn};
-ghost use Rattle.table_index.specs.inner.Held.{AreSound, AreTrees, nodes_of, rows_held};
-ghost use Rattle.table_index.specs.inner.Keys.{Tells};
+ghost use Rattle.table_index.specs.inner.IndexTrees.{AreSound, AreTrees, nodes_of, rows_held};
+ghost use Rattle.table_index.specs.inner.Keys.{TellsRefusal};
 ghost use Rattle.table_index.specs.inner.PutKeys.{IsAccepted, keys_of_each};
 ghost use Rattle.table_index.specs.inner.TreeEdits.{IsPut, IsRefused, replaced_each};
 ghost use Rattle.table_index.specs.inner.Writes.{IsAt, TreesWrote, WroteRows};
@@ -164,7 +164,7 @@ fn accepted_keys(
     ensures { let rows = rows_held def.now (nodes_of txns.now) in
         MatchResult result
         (λ keys. IsAccepted def.now row.now rows keys.new keys.old.keys keys.old.there)
-        (λ e. Tells (put_row def.now row.now rows) e) }
+        (λ e. TellsRefusal (put_row def.now row.now rows) e) }
 {
     let id = id_key_of(alloc, def, row)?;
     keys_of_id(alloc, def, txns, row, &id)
@@ -184,7 +184,7 @@ fn keys_of_id(
     ensures { let rows = rows_held def.now (nodes_of txns.now) in
         MatchResult result
         (λ keys. IsAccepted def.now row.now rows keys.new keys.old.keys keys.old.there)
-        (λ e. Tells (put_row def.now row.now rows) e) }
+        (λ e. TellsRefusal (put_row def.now row.now rows) e) }
 {
     // The definition is lawful by its type.
     let _ = def.len();

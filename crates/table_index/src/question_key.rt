@@ -1,6 +1,6 @@
 //! The key of a question's arguments.
 ghost use Rattle.std.specs.Prelude.{◌≡◌, IfOk};
-ghost use Rattle.mdb_encode.specs.Answers.{AnswersKey};
+ghost use Rattle.mdb_encode.specs.KeyAnswers.{AnswersKey};
 ghost use Rattle.mdb_schema.specs.Answer.{key_asked};
 ghost use Rattle.table_index.specs.inner.Keys.{IsShort};
 ghost use Rattle.table_index.specs.inner.Lookups.{AnswersAskedKey, key_or_empty};

@@ -12,7 +12,7 @@ ghost use Rattle.table_index.specs.Drawn.{HasDrawnCells, MayBeWritten};
 ghost use Rattle.table_index.specs.Table.{AnswersRemove, AreLeft};
 ghost use Rattle.table_index.specs.Written.{Writes};
 ghost use Rattle.table_index.specs.inner.Drawn.{AreReady, HaveDrawn};
-ghost use Rattle.table_index.specs.inner.Held.{AreSound, AreTrees, nodes_of, rows_held};
+ghost use Rattle.table_index.specs.inner.IndexTrees.{AreSound, AreTrees, nodes_of, rows_held};
 ghost use Rattle.table_index.specs.inner.Keys.{full_keys_at};
 ghost use Rattle.table_index.specs.inner.TreeEdits.{IsRefused, IsWritten, without_each};
 ghost use Rattle.table_index.specs.inner.Writes.{TreesWrote, IsAt, WroteRows};

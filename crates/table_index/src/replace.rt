@@ -1,11 +1,11 @@
 //! A row put into the trees of a table, in the place of another.
 ghost use Rattle.std.specs.Prelude.{◌≡◌, ◌⊎◌, ◌+◌, ◌*◌, ◌≤◌, ◌^◌, false, Contains, OnOk, length};
 ghost use Rattle.std.specs.Prelude.{map};
-ghost use Rattle.mdb_schema.specs.inner.Edits.{put_all, stale_keys, without_all};
+ghost use Rattle.mdb_schema.specs.Edits.{put_all, stale_keys, without_all};
 ghost use Rattle.radix_txn.specs.Drawn.{HasDrawn, IsReady};
 ghost use Rattle.radix_txn.specs.Txn.{txn_pairs};
 ghost use Rattle.table_index.specs.inner.Drawn.{AreReady, HaveDrawn};
-ghost use Rattle.table_index.specs.inner.Held.{AreSound};
+ghost use Rattle.table_index.specs.inner.IndexTrees.{AreSound};
 ghost use Rattle.table_index.specs.inner.TreeEdits.{replaced_each, replaced_in};
 ghost use Rattle.table_index.specs.inner.Writes.{TreesWrote, IsAt, Wrote};
 

@@ -7,7 +7,7 @@ ghost use Rattle.mdb_encode.specs.Keys.{keys};
 ghost use Rattle.mdb_schema.specs.Schema.{index_place};
 ghost use Rattle.mdb_schema.specs.Tests.{each, needed};
 ghost use Rattle.mdb_schema.specs.Write.{Placed, id_of, indexes_of, keys_at, no_id};
-ghost use Rattle.table_index.specs.inner.Keys.{Answers, IsShort, full_keys_at, told_at};
+ghost use Rattle.table_index.specs.inner.Keys.{IsTestedResult, IsShort, full_keys_at, told_at};
 
 use crate::full_key::{FullKeys, RowKeys};
 use crate::id_key::IdKey;
@@ -55,7 +55,7 @@ fn write_error(place: u32, error: KeyError) -> WriteError
 
 /// The keys of a row in the index at a place.
 fn keys_in(alloc: Global, place: u32, index: &IndexDef, row: &Row) -> Result<Keys, WriteError>
-    ensures answers { Answers (keys_at place (keys index.now.indexer row.now)) result }
+    ensures answers { IsTestedResult (keys_at place (keys index.now.indexer row.now)) result }
     ensures short { IfOk result (λ found. All IsShort found) }
     ensures few { IfOk result (λ found. length found ≤ 256) }
 {
@@ -67,7 +67,7 @@ fn keys_in(alloc: Global, place: u32, index: &IndexDef, row: &Row) -> Result<Key
 
 /// The `id` key of a row. It takes memory for the row's keys in the index `id`.
 pub(crate) fn id_key_of(alloc: Global, def: &TableDef, row: &Row) -> Result<IdKey, WriteError>
-    ensures { Answers (id_of def.now row.now) result }
+    ensures { IsTestedResult (id_of def.now row.now) result }
 {
     let place = id_place(def);
     let Some(index) = def.index(place) else {
@@ -82,7 +82,7 @@ pub(crate) fn id_key_of(alloc: Global, def: &TableDef, row: &Row) -> Result<IdKe
 /// The `id` key of a row that has these keys in the index `id`.
 fn first_key(found: Keys) -> Result<IdKey, WriteError>
     requires { All IsShort found }
-    ensures { Answers (needed no_id (first_item found)) result }
+    ensures { IsTestedResult (needed no_id (first_item found)) result }
 {
     match IdKey::of(found) {
         Some(id) => Ok(id),
@@ -100,7 +100,7 @@ fn full_keys_in(
     row: &Row,
 ) -> Result<FullKeys, WriteError>
     requires { index.now.name ≡ codes "id" → keys index.now.indexer row.now ≡ Ok (id.now ∷ []) }
-    ensures { Answers (full_keys_at id.now row.now (place, index.now)) result }
+    ensures { IsTestedResult (full_keys_at id.now row.now (place, index.now)) result }
 {
     if index.name().as_str() == "id" {
         return Ok(FullKeys::of_id(alloc, id)?);
@@ -116,7 +116,7 @@ fn full_keys_made(
     id: &IdKey,
     row: &Row,
 ) -> Result<FullKeys, WriteError>
-    ensures { Answers (full_keys_at id.now row.now (place, index.now)) result }
+    ensures { IsTestedResult (full_keys_at id.now row.now (place, index.now)) result }
 {
     match keys_in(alloc, place, index, row) {
         Ok(found) => full_keys_by(alloc, place, index, id, &found),
@@ -135,7 +135,7 @@ fn full_keys_by(
     requires short { All IsShort found.now }
     requires few { length found.now ≤ 256 }
     ensures { (row : Fields) → keys_at place (keys index.now.indexer row) ≡ Ok found.now
-        → Answers (full_keys_at id.now row (place, index.now)) result }
+        → IsTestedResult (full_keys_at id.now row (place, index.now)) result }
 {
     if !index.allow_missing() && found.len() == 0 {
         return Err(WriteError::Missing { index: place });
@@ -154,7 +154,7 @@ fn full_keys_at(
     requires known { id_of def.now row.now ≡ Ok id.now }
     requires within { at < length def.now.indexes }
     ensures { (index : Placed) × (Some index ≡ slice_get (indexes_of def.now) at)
-        × Answers (full_keys_at id.now row.now index) result }
+        × IsTestedResult (full_keys_at id.now row.now index) result }
 {
     // The definition is lawful by its type.
     let _ = def.len();
@@ -173,7 +173,7 @@ pub(crate) fn full_keys_of(
     row: &Row,
 ) -> Result<RowKeys, WriteError>
     requires { id_of def.now row.now ≡ Ok id.now }
-    ensures { Answers (each (full_keys_at id.now row.now) (indexes_of def.now)) result }
+    ensures { IsTestedResult (each (full_keys_at id.now row.now) (indexes_of def.now)) result }
 {
     let mut found = Vec::with_capacity(alloc, def.len())?;
     for at in 0..def.len() {

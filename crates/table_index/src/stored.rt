@@ -3,7 +3,7 @@ ghost use Rattle.std.specs.Prelude.{◌≡◌, Ok, MatchResult, option_copied};
 ghost use Rattle.mdb_schema.specs.State.{row_at};
 ghost use Rattle.mdb_schema.specs.Write.{id_of};
 ghost use Rattle.table_index.specs.declared.wipe_error.WipeError.TheVariants.{Memory};
-ghost use Rattle.table_index.specs.inner.Held.{AreSound, AreTrees, nodes_of, rows_held};
+ghost use Rattle.table_index.specs.inner.IndexTrees.{AreSound, AreTrees, nodes_of, rows_held};
 ghost use Rattle.table_index.specs.inner.Wipes.{IsStored};
 
 use crate::id_key::IdKey;

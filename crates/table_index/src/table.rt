@@ -19,7 +19,7 @@ pub struct Table {
 
 impl Model for Table {
     ghost use Rattle.table_index.specs.Table.{TableRows};
-    ghost use Rattle.table_index.specs.inner.Stored.{table_rows_code};
+    ghost use Rattle.table_index.specs.Codes.{table_rows_code};
 
     ghost Value = { TableRows };
 

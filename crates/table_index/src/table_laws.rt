@@ -2,7 +2,7 @@
 //! contracts are the laws.
 ghost use Rattle.std.specs.Prelude.{[]};
 ghost use Rattle.table_index.specs.Watched.{HoldsRows};
-ghost use Rattle.table_index.specs.Written.{HasWritten, begun};
+ghost use Rattle.table_index.specs.Written.{HasWritten, new_change};
 
 use crate::table::Table;
 use crate::trees::cells_are_apart;
@@ -16,7 +16,7 @@ pub fn rows_are_held(table: &Table)
 
 /// A change that begins with a table has written nothing.
 pub fn nothing_is_written(table: &Table)
-    ensures { HasWritten [] (begun table.now) }
+    ensures { HasWritten [] (new_change table.now) }
 {
     let _ = table.def.len();
 }

@@ -23,7 +23,7 @@ pub struct TableTxn {
 
 impl Model for TableTxn {
     ghost use Rattle.table_index.specs.Table.{TableChange};
-    ghost use Rattle.table_index.specs.inner.Stored.{table_change_code};
+    ghost use Rattle.table_index.specs.Codes.{table_change_code};
 
     ghost Value = { TableChange };
 

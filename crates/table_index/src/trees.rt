@@ -6,7 +6,7 @@ ghost use Rattle.radix_node.specs.Nodes.{pairs_of};
 ghost use Rattle.watch_word.specs.Logs.{Cell};
 ghost use Rattle.table_index.specs.Frozen.{AreFrozen, IsFrozen};
 ghost use Rattle.table_index.specs.Table.{AreAllBelow, AreAllOf, AreNewInTurn};
-ghost use Rattle.table_index.specs.inner.Held.{AreSound, begun, plains, starts_of, trees_of};
+ghost use Rattle.table_index.specs.inner.IndexTrees.{AreSound, new_tree_txn, plains, starts_of, trees_of};
 
 use crate::notices::Notices;
 use radix_node::{Ids, Tree};
@@ -41,7 +41,7 @@ pub(crate) fn empty_trees(
 
 /// Transactions that begin with these trees. It takes memory for the list.
 pub(crate) fn begin(alloc: Global, trees: &[Tree]) -> Result<Vec<TreeTxn>, AllocError>
-    ensures { IfOk result (λ txns. txns.items ≡ map begun trees.now) }
+    ensures { IfOk result (λ txns. txns.items ≡ map new_tree_txn trees.now) }
 {
     let mut txns = Vec::with_capacity(alloc, trees.len())?;
     for tree in trees {

@@ -8,7 +8,7 @@ ghost use Rattle.table_index.specs.Table.{AnswersTake, AnswersWipe, AreLeft, row
 ghost use Rattle.table_index.specs.Written.{Writes, rows_told};
 ghost use Rattle.table_index.specs.declared.wipe_error.WipeError.TheVariants.{Memory};
 ghost use Rattle.table_index.specs.inner.Drawn.{AreReady, HaveDrawn};
-ghost use Rattle.table_index.specs.inner.Held.{AreTrees, nodes_of, rows_held};
+ghost use Rattle.table_index.specs.inner.IndexTrees.{AreTrees, nodes_of, rows_held};
 ghost use Rattle.table_index.specs.inner.Wipes.{IsRefusedWipe, IsWiped, wants_memory};
 ghost use Rattle.table_index.specs.inner.Writes.{WroteRows};
 

@@ -3,7 +3,7 @@ ghost use Rattle.std.specs.Prelude.{◌≡◌, IfOk};
 ghost use Rattle.mem_txn.specs.Checked.{IsHeldBy};
 ghost use Rattle.mem_txn.specs.Database.{Caller, reading_of};
 ghost use Rattle.mem_txn.specs.CallerOf.{IsCaller};
-ghost use Rattle.mem_txn.specs.Transactions.{changes_of};
+ghost use Rattle.mem_txn.specs.Transactions.{txn_of};
 ghost use Rattle.watch_set.specs.Checks.{KeepsHeld};
 ghost use Rattle.watch_set.specs.Members.{AreHeldBy, watches_of};
 
@@ -41,7 +41,7 @@ const INSERT_NOTE: Line = ("notes", r#"{"name":"n"}"#);
 
 /// Puts the row of a line in.
 fn insert_row(alloc: Global, txn: &mut WriteTxn<u8>, line: &Line) -> Result<(), AllocError>
-    ensures { (changes_of txn.new).caller ≡ (changes_of txn.old).caller }
+    ensures { (txn_of txn.new).caller ≡ (txn_of txn.old).caller }
 {
     let row = row_of(alloc, line.1)?;
     match txn.insert(line.0, &row) {
@@ -52,7 +52,7 @@ fn insert_row(alloc: Global, txn: &mut WriteTxn<u8>, line: &Line) -> Result<(), 
 
 /// Commits a transaction of the second caller.
 fn committed<R: Wait>(rt: &R, db: &Db, txn: WriteTxn<u8>) -> (Pass, Result<(), AllocError>)
-    requires own { IsCaller db.now 2 (changes_of txn).caller }
+    requires own { IsCaller db.now 2 (txn_of txn).caller }
     ensures { IsCaller db.now 2 result.0 }
 {
     match txn.commit(rt, db) {

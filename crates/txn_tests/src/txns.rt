@@ -3,7 +3,7 @@ ghost use Rattle.std.specs.Prelude.{◌≡◌, [], IfOk, IfSome};
 ghost use Rattle.mem_txn.specs.Checked.{IsBeginning};
 ghost use Rattle.mem_txn.specs.Database.{IsOf};
 ghost use Rattle.mem_txn.specs.CallerOf.{IsCaller};
-ghost use Rattle.mem_txn.specs.Transactions.{changes_of};
+ghost use Rattle.mem_txn.specs.Transactions.{txn_of};
 
 mod callers;
 mod drawn;
@@ -47,7 +47,7 @@ trait Work {
     /// Does it, and tells whether the transaction is to be committed. A wrong answer counts as want
     /// of memory, which ends a test.
     fn run(&mut self, alloc: Global, txn: &mut Txn) -> Told
-        ensures { (changes_of txn.new).caller ≡ (changes_of txn.old).caller };
+        ensures { (txn_of txn.new).caller ≡ (txn_of txn.old).caller };
 }
 
 /// The schema that a text is.
@@ -96,9 +96,9 @@ pub fn closed<R: Wait>(rt: &R, db: Db, mut passes: Passes, one: Pass, two: Pass)
 
 /// The receipt of a transaction's commit.
 fn committed<R: Wait>(rt: &R, db: &Db, txn: Txn) -> (Pass, Done)
-    requires own { IsOf db.now (changes_of txn).caller }
-    ensures own { IsCaller db.now (changes_of txn).caller.number result.0 }
-    ensures more { IsBeginning (changes_of txn).caller result.0 }
+    requires own { IsOf db.now (txn_of txn).caller }
+    ensures own { IsCaller db.now (txn_of txn).caller.number result.0 }
+    ensures more { IsBeginning (txn_of txn).caller result.0 }
     ensures book { let pass = result.0 in
         IfOk result.1 (λ done. IfSome done (λ r. let log = r.log in log.book ≡ pass.book)) }
 {
@@ -110,9 +110,9 @@ fn committed<R: Wait>(rt: &R, db: &Db, txn: Txn) -> (Pass, Done)
 
 /// Does some work in a transaction, and ends it by its commit or its abort.
 fn work_in<W: Work, R: Wait>(rt: &R, alloc: Global, db: &Db, txn: Txn, work: &mut W) -> (Pass, Done)
-    requires own { IsOf db.now (changes_of txn).caller }
-    ensures own { IsCaller db.now (changes_of txn).caller.number result.0 }
-    ensures more { IsBeginning (changes_of txn).caller result.0 }
+    requires own { IsOf db.now (txn_of txn).caller }
+    ensures own { IsCaller db.now (txn_of txn).caller.number result.0 }
+    ensures more { IsBeginning (txn_of txn).caller result.0 }
     ensures book { let pass = result.0 in
         IfOk result.1 (λ done. IfSome done (λ r. let log = r.log in log.book ≡ pass.book)) }
 {

@@ -15,9 +15,9 @@ use Rattle.watch_set.specs.declared.woken.Woken.{Woken}
 use Rattle.watch_set.proofs.ChecksInTurn.{all_kept, looks_after, same_database}
 use Rattle.watch_future.specs.Cells.{AreOfBook, cells_awaited, cells_of}
 use Rattle.watch_future.specs.Futures.{GivesBack, HasWaited}
-use Rattle.watch_future.specs.Kept.{cells_kept}
+use Rattle.watch_future.specs.NotedWatches.{cells_noted}
 use Rattle.watch_future.specs.Polls.{AnswersPoll, CanPoll, MayHaveLooked}
-use Rattle.watch_future.specs.declared.kept.Kept.{Kept}
+use Rattle.watch_future.specs.declared.noted_watch.NotedWatch.{NotedWatch}
 
 -- a set that has members has cells to note
 pub some_awaited : (ms : List Member) (until : Option HeldWatch) → 0 < length ms → 0 < length (cells_awaited ms until)
@@ -135,9 +135,9 @@ pending_now old new lent mid ms copied until polled there here same copy is answ
     subst (λ (o : Option (MutBor Caller)). IfSome o (λ p. IsSomeAnd new (λ n. HasWaited p n ms until))) (sym there)
     (subst (λ (o : Option (MutBor Caller)). IsSomeAnd o (λ n. HasWaited lent n ms until)) (sym here) waited)
 
-pub noted_now : (ms : List Member) (copied until : Option HeldWatch) (polled : Poll (Result Woken AllocError)) (ks : List Kept) → copied ≡ until → polled ≡ Pending
-    → OnPending polled (cells_kept ks ≡ cells_awaited ms copied) → cells_kept ks ≡ cells_awaited ms until
+pub noted_now : (ms : List Member) (copied until : Option HeldWatch) (polled : Poll (Result Woken AllocError)) (ks : List NotedWatch) → copied ≡ until → polled ≡ Pending
+    → OnPending polled (cells_noted ks ≡ cells_awaited ms copied) → cells_noted ks ≡ cells_awaited ms until
 noted_now ms copied until polled ks copy is noted =
-    let kept : cells_kept ks ≡ cells_awaited ms copied =
-    subst (λ (p : Poll (Result Woken AllocError)). OnPending p (cells_kept ks ≡ cells_awaited ms copied)) is noted in
+    let kept : cells_noted ks ≡ cells_awaited ms copied =
+    subst (λ (p : Poll (Result Woken AllocError)). OnPending p (cells_noted ks ≡ cells_awaited ms copied)) is noted in
     kept ∙ ap (cells_awaited ms) copy

@@ -10,7 +10,7 @@ use Rattle.watch_set.specs.Checks.{AnswersWait, IsQuietLook, KeepsHeld, with_unt
 use Rattle.watch_set.specs.Members.{Member, watches_of}
 use Rattle.watch_set.specs.declared.woken.Woken.{Woken}
 use Rattle.watch_future.specs.Cells.{cells_awaited}
-use Rattle.watch_future.specs.Kept.{cells_kept}
+use Rattle.watch_future.specs.NotedWatches.{cells_noted}
 use Rattle.watch_future.specs.Polls.{CanPoll, MayHaveLooked}
 use Rattle.watch_future.specs.declared.future.WatchFuture.{WatchFuture}
 
@@ -42,7 +42,7 @@ pub record HasWaited (old new : MutBor Caller) (ms : List Member) (until : Optio
 -- and the future waits as before, and keeps the cells of all of them
 pub record Waits {R : Type 0} (old new : WatchFuture R) : Type 0 where
   pub lent : IfSome old.pass (λ o. IsSomeAnd new.pass (λ n. HasWaited o n old.set.now old.until))
-  pub noted : cells_kept new.lists.kept.items ≡ cells_awaited old.set.now old.until
+  pub noted : cells_noted new.lists.kept.items ≡ cells_awaited old.set.now old.until
   pub db : new.db.now ≡ old.db.now
   pub set : new.set.now ≡ old.set.now
   pub until : new.until ≡ old.until

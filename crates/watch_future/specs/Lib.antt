@@ -1,6 +1,6 @@
 pub mod Cells
 pub mod Facts
 pub mod Futures
-pub mod Kept
+pub mod NotedWatches
 pub mod Polls
 pub mod inner

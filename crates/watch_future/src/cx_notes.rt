@@ -3,11 +3,11 @@ ghost use Rattle.std.specs.Prelude.{◌≡◌, [], option_copied};
 ghost use Rattle.futures.specs.Poll.{OnPending};
 ghost use Rattle.futures.specs.Task.{Covers, Keeps};
 ghost use Rattle.watch_future.specs.Cells.{cells_awaited};
-ghost use Rattle.watch_future.specs.Kept.{HasSource, cells_kept};
+ghost use Rattle.watch_future.specs.NotedWatches.{HasSource, cells_noted};
 ghost use Rattle.watch_future.specs.Polls.{AnswersPoll, CanPoll, MayHaveLooked};
 ghost use Rattle.watch_set.specs.Checks.{KeepsHeld};
 
-use crate::kept::Kept;
+use crate::noted_watch::NotedWatch;
 use crate::noting::Notes;
 use crate::poll::poll_watch;
 use futures::task::{Context, Poll};
@@ -27,18 +27,18 @@ pub(crate) struct CxNotes<'n, 'c, K> {
     spent: K,
 }
 
-impl Notes for CxNotes<'_, '_, Vec<Kept>> {
+impl Notes for CxNotes<'_, '_, Vec<NotedWatch>> {
     ghost use Rattle.std.specs.Prelude.{Some};
     ghost use Rattle.watch_future.specs.inner.AtContext.{lasts_at};
-    ghost use Rattle.watch_future.specs.Kept.{cells_kept};
+    ghost use Rattle.watch_future.specs.NotedWatches.{cells_noted};
 
-    ghost noted = { λ n. Some (cells_kept n.kept.items) };
+    ghost noted = { λ n. Some (cells_noted n.kept.items) };
 
     ghost lasting = { lasts_at };
 
     fn note(&mut self, watch: &Watch) -> Result<(), AllocError> {
         let watch = watch.share()?;
-        let mut kept = Kept::of(watch, self.spent.pop());
+        let mut kept = NotedWatch::of(watch, self.spent.pop());
         let _ = self.cx.register::<()>(&kept.source, &mut kept.slot);
         self.kept.push(kept)?;
         Ok(())
@@ -52,14 +52,14 @@ fn poll_noting<R: Wait>(
     pass: &mut Pass,
     set: &WatchSet,
     until: Option<&Held>,
-    notes: &mut CxNotes<'_, '_, Vec<Kept>>,
+    notes: &mut CxNotes<'_, '_, Vec<NotedWatch>>,
 ) -> Poll<Result<Woken, AllocError>>
     requires none { notes.old.kept.items ≡ [] }
     requires can { CanPoll db.now pass.old set.now (option_copied until) }
     ensures same_reference { notes.new.cx.ghost_name ≡ notes.old.cx.ghost_name }
     ensures told { AnswersPoll pass.old pass.new set.now (option_copied until.entry) result }
     ensures noted { OnPending result
-        (cells_kept notes.new.kept.items ≡ cells_awaited set.now (option_copied until.entry)) }
+        (cells_noted notes.new.kept.items ≡ cells_awaited set.now (option_copied until.entry)) }
     ensures registered { OnPending result
         (Covers notes.new.cx.now (HasSource notes.new.kept.items)) }
     ensures kept { Keeps notes.old.cx.now notes.new.cx.now }
@@ -73,8 +73,8 @@ fn poll_noting<R: Wait>(
 /// What a future keeps from poll to poll: its notes, and room for those of the next poll.
 #[derive(Drop)]
 pub(crate) struct Lists {
-    pub(crate) kept: Vec<Kept>,
-    pub(crate) room: Vec<Kept>,
+    pub(crate) kept: Vec<NotedWatch>,
+    pub(crate) room: Vec<NotedWatch>,
 }
 
 /// Polls a set at a context, with the sources and slots of an earlier poll, and gives those of this
@@ -91,7 +91,7 @@ pub(crate) fn poll_at<R: Wait>(
     requires { CanPoll db.now pass.old set.now (option_copied until) }
     ensures told { AnswersPoll pass.old pass.new set.now (option_copied until.entry) result.0 }
     ensures noted { let lists = result.1 in OnPending result.0
-        (cells_kept lists.kept.items ≡ cells_awaited set.now (option_copied until.entry)) }
+        (cells_noted lists.kept.items ≡ cells_awaited set.now (option_copied until.entry)) }
     ensures registered { let lists = result.1 in
         OnPending result.0 (Covers cx.new (HasSource lists.kept.items)) }
     ensures kept { Keeps cx.old cx.new }

@@ -3,7 +3,7 @@ ghost use Rattle.std.specs.Prelude.{◌≡◌, [], Some};
 ghost use Rattle.futures.specs.Poll.{IfReady, OnPending};
 ghost use Rattle.futures.specs.Task.{Covers, Keeps};
 ghost use Rattle.watch_future.specs.Futures.{CanBePolled, GoesOn, MayGive};
-ghost use Rattle.watch_future.specs.Kept.{HasSource};
+ghost use Rattle.watch_future.specs.NotedWatches.{HasSource};
 ghost use Rattle.watch_future.specs.Polls.{CanPoll};
 
 use crate::cx_notes::{Lists, poll_at};

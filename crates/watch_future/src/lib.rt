@@ -12,8 +12,8 @@
 
 mod cx_notes;
 mod future;
-mod kept;
 mod note_list;
+mod noted_watch;
 mod noting;
 mod poll;
 pub mod poll_laws;

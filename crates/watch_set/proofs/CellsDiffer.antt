@@ -5,7 +5,7 @@ use Rattle.std.specs.Prelude.{if◌then◌else◌, nat_eq}
 use Rattle.std.proofs.lemmas.Bool.Decides.{nat_tests}
 use Rattle.mem_txn.specs.Checked.{IsHeldBy}
 use Rattle.mem_txn.specs.Database.{Caller}
-use Rattle.watch_set.specs.Members.{AreDistinct, AreHeldBy, Member, cell_id, has_cell, watches_of}
+use Rattle.watch_set.specs.Members.{HaveDistinctCells, AreHeldBy, Member, cell_id, has_cell, watches_of}
 
 nat_eq-turned : (a b : ℕ) → nat_eq a b ≡ nat_eq b a
 nat_eq-turned a b = grind (arith, nat_tests)
@@ -26,7 +26,7 @@ has_cell-after c (x ∷ xs) m none other =
     let apart = not_first (nat_eq (cell_id x.held) c) (has_cell c xs) none in
     not_either (nat_eq (cell_id x.held) c) (has_cell c (xs ++ m ∷ [])) apart.0 (has_cell-after c xs m apart.1 other)
 
-pub distinct_after : (ms : List Member) (m : Member) → AreDistinct ms → has_cell (cell_id m.held) ms ≡ false → AreDistinct (ms ++ m ∷ [])
+pub distinct_after : (ms : List Member) (m : Member) → HaveDistinctCells ms → has_cell (cell_id m.held) ms ≡ false → HaveDistinctCells (ms ++ m ∷ [])
 distinct_after [] m all none = (refl, tt)
 distinct_after (x ∷ xs) m all none =
     let apart = not_first (nat_eq (cell_id x.held) (cell_id m.held)) (has_cell (cell_id m.held) xs) none in (

@@ -9,7 +9,7 @@ use Rattle.mem_txn.proofs.HeardAlong.{heard_later}
 use Rattle.mem_txn.proofs.HeldAlong.{seen_twice}
 use Rattle.mem_txn.proofs.OneHistory.{later_itself}
 use Rattle.mem_txn.proofs.OneLook.{looks_once}
-use Rattle.watch_set.specs.Checks.{AnswersLook, AreQuiet, Finds, FindsWoken, HasFired, IsChecked, KeepsHeld, OnlyLooks, with_until}
+use Rattle.watch_set.specs.Checks.{AnswersLook, AreQuiet, Finds, FindsWoken, IsFoundFired, IsChecked, KeepsHeld, OnlyLooks, with_until}
 use Rattle.watch_set.specs.declared.woken.Woken.{Woken}
 use Rattle.watch_set.specs.declared.woken.Woken.TheVariants as woken
 use Rattle.watch_set.specs.Members.{AreHeldBy, Member, watches_of}
@@ -138,7 +138,7 @@ look_then first read mid new ms (Some h) None quiet told = quiet-on first read m
 look_then first read mid new ms until (Some (woken.Fired place at)) quiet (m, there, last, rest, fired) = cc
 look_then first read mid new ms None (Some (woken.Stopped at)) quiet told = absurd told
 look_then first read mid new ms (Some h) (Some (woken.Stopped at)) quiet (last, same, told) =
-    (mid, quiet, subst (λ (p : Caller). HasFired first p new h at) same told)
+    (mid, quiet, subst (λ (p : Caller). IsFoundFired first p new h at) same told)
 
 pub looks_then : {E : Type 0} (first read mid new : Caller) (ms : List Member) (until : Option HeldWatch) (r : Result (Option Woken) E)
     → AreQuiet first read (watches_of ms) mid → IfOk r (λ w. Finds first mid new [] until w) → IfOk r (λ w. Finds first read new ms until w)

@@ -1,7 +1,8 @@
 -- A chain of quiet checks guards the answer of each watch in the history that the pass has seen at
 -- its end.
-use Rattle.std.proofs.Common.{◌≡◌, ◌∙◌, ◌-◌, ◌<◌, ◌≤◌, ◌++◌, ℕ, zero, suc, List, [], ◌∷◌, length, slice_get, append_assoc, append-nil, refl, sym, ap, subst, arith}
+use Rattle.std.proofs.Common.{◌≡◌, ◌∙◌, ◌-◌, ◌≤◌, ◌++◌, ℕ, List, [], ◌∷◌, length, slice_get, append_assoc, append-nil, refl, sym, ap, subst, arith}
 use mathlib.Core.List.{IsPrefix}
+use Rattle.mdb_datum.proofs.ListPlaces.{get_first}
 use Rattle.mdb_schema.specs.Answer.{ask}
 use Rattle.mdb_schema.specs.Guarded.{IsGuarded}
 use Rattle.mdb_schema.specs.History.{History, IsMadeBy, state_at}
@@ -17,11 +18,6 @@ use Rattle.watch_set.specs.Checks.{AreQuiet, IsQuietLook}
 use Rattle.watch_set.specs.GuardedLooks.{AreGuarded, IsGuardedBy, QuietIsGuarded}
 
 -- ---- a longer history
-
-pub item-there : {X : Type 0} (xs more : List X) (n : ℕ) → n < length xs → slice_get (xs ++ more) n ≡ slice_get xs n
-item-there [] more n within = absurd (omega arith)
-item-there (x ∷ xs) more zero within = refl
-item-there (x ∷ xs) more (suc n) within = item-there xs more n (omega arith)
 
 -- what was read up to a look, and then more
 read-longer : (xs ys zs read : List ℕ) (at : ℕ) → ys ≡ xs ++ (read ++ at ∷ []) → (q : IsPrefix ys zs) → zs ≡ xs ++ (read ++ at ∷ q.0)
@@ -80,7 +76,7 @@ own-before mid new at more last own =
     let counted = own.0 in (
       own.0,
       own.1,
-      sym (item-there mid.seen more.seen.0 (at - 1) (omega arith)) ∙ ap (λ (H : History). slice_get H (at - 1)) more.seen.1 ∙ own.2,
+      sym (get_first mid.seen more.seen.0 (at - 1) (omega arith)) ∙ ap (λ (H : History). slice_get H (at - 1)) more.seen.1 ∙ own.2,
       own.3 ∙ more.number,
     )
 

@@ -23,8 +23,8 @@ AreQuiet first old (h ∷ hs) new =
     × AreQuiet first next hs new
 
 -- a watch was checked and had fired
-abbrev pub HasFired : Caller → Caller → Caller → HeldWatch → ℕ → Type 0
-HasFired first old new h at = IsChecked first old new h (look.Fired at)
+abbrev pub IsFoundFired : Caller → Caller → Caller → HeldWatch → ℕ → Type 0
+IsFoundFired first old new h at = IsChecked first old new h (look.Fired at)
 
 -- what cancels a wait, if anything, behind the watches of the set
 abbrev pub with_until : List HeldWatch → Option HeldWatch → List HeldWatch
@@ -37,10 +37,10 @@ abbrev pub FindsWoken : Caller → Caller → Caller → List Member → Option 
 FindsWoken first read new ms until (woken.Fired place at) =
     (m : Member) × (slice_get ms place ≡ Some m)
     × (mid : Caller) × AreQuiet first read (take place (watches_of ms)) mid
-    × HasFired first mid new m.held at
+    × IsFoundFired first mid new m.held at
 FindsWoken first read new ms None (woken.Stopped at) = ⊥
 FindsWoken first read new ms (Some h) (woken.Stopped at) =
-    (mid : Caller) × AreQuiet first read (watches_of ms) mid × HasFired first mid new h at
+    (mid : Caller) × AreQuiet first read (watches_of ms) mid × IsFoundFired first mid new h at
 
 -- what is found from a read on: nothing exactly where each was checked and quiet
 abbrev pub Finds : Caller → Caller → Caller → List Member → Option HeldWatch → Option Woken → Type 0

@@ -21,9 +21,9 @@ has_cell id [] = false
 has_cell id (m ∷ ms) = if nat_eq (cell_id m.held) id then true else has_cell id ms
 
 -- each member watches another cell
-abbrev pub AreDistinct : List Member → Type 0
-AreDistinct [] = Unit {0}
-AreDistinct (m ∷ ms) = (has_cell (cell_id m.held) ms ≡ false) × AreDistinct ms
+abbrev pub HaveDistinctCells : List Member → Type 0
+HaveDistinctCells [] = Unit {0}
+HaveDistinctCells (m ∷ ms) = (has_cell (cell_id m.held) ms ≡ false) × HaveDistinctCells ms
 
 -- the set with one more watch, at the end, unless it has its cell
 abbrev pub with_watch : Bytes → HeldWatch → List Member → List Member

@@ -4,7 +4,7 @@ ghost use Rattle.std.specs.Prelude.{option_copied, option_map, slice_get};
 ghost use Rattle.mem_txn.specs.Checked.{IsHeldBy};
 ghost use Rattle.mem_txn.specs.Database.{Caller, IsOf};
 ghost use Rattle.watch_set.specs.Checks.{AnswersLook, AnswersWait, KeepsHeld, OnlyLooks};
-ghost use Rattle.watch_set.specs.Members.{AreDistinct, AreHeldBy, cell_id, chosen, has_cell};
+ghost use Rattle.watch_set.specs.Members.{HaveDistinctCells, AreHeldBy, cell_id, chosen, has_cell};
 ghost use Rattle.watch_set.specs.Members.{watches_of, with_watch};
 
 use crate::look::{look_at, look_until, read};
@@ -24,7 +24,7 @@ pub struct WatchSet {
 
 impl Model for WatchSet {
     ghost use Rattle.std.specs.Prelude.{List};
-    ghost use Rattle.watch_set.specs.Members.{AreDistinct, Member};
+    ghost use Rattle.watch_set.specs.Members.{HaveDistinctCells, Member};
     ghost use Rattle.watch_set.specs.inner.SetView.{members_code};
 
     ghost Value = { List Member };
@@ -33,7 +33,7 @@ impl Model for WatchSet {
 
     ghost view = { λ s. s.members.items };
 
-    ghost invariant = { λ s. AreDistinct s.members.items };
+    ghost invariant = { λ s. HaveDistinctCells s.members.items };
 }
 
 impl WatchSet {
@@ -49,7 +49,7 @@ impl WatchSet {
     /// The number of members, of which each watches another cell.
     pub fn len(&self) -> usize
         ensures count { result ≡ length self.now }
-        ensures distinct { AreDistinct self.now }
+        ensures distinct { HaveDistinctCells self.now }
     {
         self.members.len()
     }

@@ -8,7 +8,7 @@ use Rattle.logbook.specs.Pages.{Cell, cell, Act, keeps, gives, adds, Nib, nib, m
 use Rattle.watch_word.specs.declared.event.Event.{Event}
 use Rattle.watch_word.specs.declared.event.Event.TheVariants.{Home, Fired}
 use Rattle.watch_word.specs.Logs.{has, AreDistinct}
-use Rattle.watch_word.specs.inner.Rule.{fired_in, id_asked, is_home, number_of, IsKept, Adds, ComesHome, Fires, Sees}
+use Rattle.watch_word.specs.inner.Rule.{fired_in, id_asked, is_home, number_of, KeepsRule, Adds, ComesHome, Fires, Sees}
 use Rattle.watch_word.proofs.Keys.{has_here, has_behind, has_snoc, distinct_snoc}
 use Rattle.watch_word.proofs.Events.{fired_append, home_later, home_last, home_snoc, id_last, fired_home, number_home, numbered_home, home_fired, number_fired, number_other, numbered_fired, told}
 
@@ -19,7 +19,7 @@ abbrev pub moved : List Event → List Event → ℕ → Type 0
 moved xs ys n = Unit {0}
 
 -- a book without cells
-pub opens : IsKept ((0, true) ∷ (0, true) ∷ []) []
+pub opens : KeepsRule ((0, true) ∷ (0, true) ∷ []) []
 opens = record {
   anchor = (omega arith, refl);
   home = λ k e. absurd (cc e);
@@ -32,14 +32,14 @@ opens = record {
 same_cells : (cs : List Cell) (k n : ℕ) → cell cs k ≡ (n, true) → set cs k (n, true) ≡ cs
 same_cells cs k n is = ap (set cs k) (sym is) ∙ set-get_or cs k (0, false)
 
-unchanged : (cs cs' : List Cell) (log : List Event) → cs' ≡ cs → IsKept cs log → IsKept cs' (log ++ [])
-unchanged cs cs' log same kept = subst (λ (x : List Cell × List Event). IsKept x.0 x.1) (λ i. (sym same i, sym (append-nil log) i)) kept
+unchanged : (cs cs' : List Cell) (log : List Event) → cs' ≡ cs → KeepsRule cs log → KeepsRule cs' (log ++ [])
+unchanged cs cs' log same kept = subst (λ (x : List Cell × List Event). KeepsRule x.0 x.1) (λ i. (sym same i, sym (append-nil log) i)) kept
 
 anchored : (cs : List Cell) → cell cs 0 ≡ (0, true) → set cs 0 (either ((cell cs 0).0 == 0) 0 (cell cs 0).0, true) ≡ cs
 anchored cs is = ap (λ (c : Cell). set cs 0 (either (c.0 == 0) 0 c.0, true)) is ∙ same_cells cs 0 0 is
 
 -- a cell that isn't home yet stands behind all others
-grown : (cs : List Cell) (log : List Event) → IsKept cs log → IsKept (cs ++ (0, false) ∷ []) log
+grown : (cs : List Cell) (log : List Event) → KeepsRule cs log → KeepsRule (cs ++ (0, false) ∷ []) log
 grown cs log kept = record {
   anchor = let few = kept.anchor.0 in (omega (arith, few, longer), get_or_append_left cs ((0, false) ∷ []) (0, false) 0 (omega (arith, few)) ∙ kept.anchor.1);
   home = λ k e. let h = kept.home k e in (h.0, omega (arith, h.1, longer), get_or_append_left cs ((0, false) ∷ []) (0, false) k h.1 ∙ h.2);
@@ -52,11 +52,11 @@ grown cs log kept = record {
     longer = length-append cs ((0, false) ∷ [])
 
 -- a key that no cell has yet
-unfired : (cs : List Cell) (log : List Event) → IsKept cs log → (b : Bool) → has (length cs) (fired_in log) ≡ b → has (length cs) (fired_in log) ≡ false
+unfired : (cs : List Cell) (log : List Event) → KeepsRule cs log → (b : Bool) → has (length cs) (fired_in log) ≡ b → has (length cs) (fired_in log) ≡ false
 unfired cs log kept true q = let h = kept.home (length cs) (kept.fired (length cs) q) in absurd (omega (arith, h.1))
 unfired cs log kept false q = q
 
-pub adds_moves : (st : Step Event) (v : View Event ℕ) → Moves IsKept shown moved 0 v (λ n. either (n == 0) 0 n) (Adds st v)
+pub adds_moves : (st : Step Event) (v : View Event ℕ) → Moves KeepsRule shown moved 0 v (λ n. either (n == 0) 0 n) (Adds st v)
 adds_moves st v cs log kept pre away =
     let same = anchored cs kept.anchor.1 in (
       (let few = kept.anchor.0 in omega (arith, few)),
@@ -72,16 +72,16 @@ adds_moves st v cs log kept pre away =
       ),
     )
 
-pub adds_at : (st : Step Event) (key : ℕ) (v : View Event ℕ) → key ≡ 0 → Moves IsKept shown moved key v (λ n. either (n == 0) 0 n) (Adds st v)
-adds_at st key v is = subst (λ (k : ℕ). Moves IsKept shown moved k v (λ n. either (n == 0) 0 n) (Adds st v)) (sym is) (adds_moves st v)
+pub adds_at : (st : Step Event) (key : ℕ) (v : View Event ℕ) → key ≡ 0 → Moves KeepsRule shown moved key v (λ n. either (n == 0) 0 n) (Adds st v)
+adds_at st key v is = subst (λ (k : ℕ). Moves KeepsRule shown moved k v (λ n. either (n == 0) 0 n) (Adds st v)) (sym is) (adds_moves st v)
 
 -- a cell whose word isn't ready isn't home
-not_home : (cs : List Cell) (log : List Event) (k : ℕ) → IsKept cs log → (cell cs k).1 ≡ false → (b : Bool) → is_home k log ≡ b → is_home k log ≡ false
+not_home : (cs : List Cell) (log : List Event) (k : ℕ) → KeepsRule cs log → (cell cs k).1 ≡ false → (b : Bool) → is_home k log ≡ b → is_home k log ≡ false
 not_home cs log k kept out true q = absurd (cc (sym out ∙ ap (λ (c : Cell). c.1) (kept.home k q).2))
 not_home cs log k kept out false q = q
 
 -- the cell comes home with the word 0
-homed : (cs : List Cell) (log : List Event) (k id : ℕ) → IsKept cs log → 1 < k → k < length cs → (cell cs k).1 ≡ false → IsKept (set cs k (0, true)) (log ++ Home k id ∷ [])
+homed : (cs : List Cell) (log : List Event) (k id : ℕ) → KeepsRule cs log → 1 < k → k < length cs → (cell cs k).1 ≡ false → KeepsRule (set cs k (0, true)) (log ++ Home k id ∷ [])
 homed cs log k id kept low here out = record {
   anchor = (let few = kept.anchor.0 in omega (arith, few, long), get_or-set_other cs k 0 (0, true) (0, false) (λ q. omega (arith, q, low)) ∙ kept.anchor.1);
   home = λ j e. dite (ℕ_discrete j k) (mine j) (λ ne. ⊎_elim (theirs j ne) (λ q. absurd (ne (sym q))) (home_snoc j k id log e));
@@ -109,7 +109,7 @@ homed cs log k id kept low here out = record {
         (h.0, (let less = h.1 in omega (arith, less, long)), get_or-set_other cs k j (0, true) (0, false) ne ∙ (h.2 ∙ ap (λ (n : ℕ). (n, true)) (sym (number_home j k id log))))
 
 pub comes_home : (st : Step Event) (l : List Event) (k : ℕ) (t : Option ℕ) → 1 < k
-    → Moves IsKept shown moved 0 (l, (nib may_write k 0, t)) (λ n. either (n == 0) 0 n) (ComesHome st (l, (nib may_write k 0, t)))
+    → Moves KeepsRule shown moved 0 (l, (nib may_write k 0, t)) (λ n. either (n == 0) 0 n) (ComesHome st (l, (nib may_write k 0, t)))
 comes_home st l k t low cs log kept pre away =
     let same = anchored cs kept.anchor.1 in
     let a = away refl in (
@@ -120,20 +120,20 @@ comes_home st l k t low cs log kept pre away =
         Home k (id_asked st.ask) ∷ [],
         t,
         refl,
-        subst (λ (c : List Cell). IsKept (set c k (0, true)) (log ++ Home k (id_asked st.ask) ∷ [])) (sym same) (homed cs log k (id_asked st.ask) kept low a.0 a.1),
+        subst (λ (c : List Cell). KeepsRule (set c k (0, true)) (log ++ Home k (id_asked st.ask) ∷ [])) (sym same) (homed cs log k (id_asked st.ask) kept low a.0 a.1),
         inl (refl, refl),
         (home_last k (id_asked st.ask) log, id_last k (id_asked st.ask) log (not_home cs log k kept a.1 (is_home k log) refl)),
       ),
     )
 
 pub comes_at : (st : Step Event) (l : List Event) (key k : ℕ) (p : Nib) (t : Option ℕ) → key ≡ 0 → p ≡ nib may_write k 0 → 1 < k
-    → Moves IsKept shown moved key (l, (p, t)) (λ n. either (n == 0) 0 n) (ComesHome st (l, (p, t)))
-comes_at st l key k p t is pen low = subst (λ (x : ℕ × Nib). Moves IsKept shown moved x.0 (l, (x.1, t)) (λ n. either (n == 0) 0 n) (ComesHome st (l, (x.1, t))))
+    → Moves KeepsRule shown moved key (l, (p, t)) (λ n. either (n == 0) 0 n) (ComesHome st (l, (p, t)))
+comes_at st l key k p t is pen low = subst (λ (x : ℕ × Nib). Moves KeepsRule shown moved x.0 (l, (x.1, t)) (λ n. either (n == 0) 0 n) (ComesHome st (l, (x.1, t))))
     (λ i. (sym is i, sym pen i)) (comes_home st l k t low)
 
 -- the word of a cell that hasn't fired gets the number of the commit
-lit : (cs : List Cell) (log : List Event) (k by : ℕ) → IsKept cs log → is_home k log ≡ true → number_of k log ≡ 0 → 0 < by
-    → IsKept (set cs k (by, true)) (log ++ Fired k by ∷ [])
+lit : (cs : List Cell) (log : List Event) (k by : ℕ) → KeepsRule cs log → is_home k log ≡ true → number_of k log ≡ 0 → 0 < by
+    → KeepsRule (set cs k (by, true)) (log ++ Fired k by ∷ [])
 lit cs log k by kept at none pos = record {
   anchor = (let few = kept.anchor.0 in omega (arith, few, long), get_or-set_other cs k 0 (by, true) (0, false) (λ q. let low = here.0 in omega (arith, q, low)) ∙ kept.anchor.1);
   home = λ j e. dite (ℕ_discrete j k) (mine j) (λ ne. theirs j ne (sym (home_fired j k by log) ∙ e));
@@ -157,14 +157,15 @@ lit cs log k by kept at none pos = record {
         (h.0, (let less = h.1 in omega (arith, less, long)), get_or-set_other cs k j (by, true) (0, false) ne ∙ (h.2 ∙ ap (λ (n : ℕ). (n, true)) (sym (number_other j k by log (λ q. ne (sym q))))))
 
 -- a step that finds the cell fired leaves all as it is
-stays : (cs : List Cell) (log : List Event) (k n : ℕ) → cell cs k ≡ (n, true) → IsKept cs log → IsKept (set cs k (n, true)) (log ++ [])
+stays : (cs : List Cell) (log : List Event) (k n : ℕ) → cell cs k ≡ (n, true) → KeepsRule cs log → KeepsRule (set cs k (n, true)) (log ++ [])
 stays cs log k n is kept = unchanged cs (set cs k (n, true)) log (same_cells cs k n is) kept
 
-missed : (n by : ℕ) → either (suc n == 0) by (suc n) ≡ suc n
+-- a compare-exchange that finds a number
+pub missed : (n by : ℕ) → either (suc n == 0) by (suc n) ≡ suc n
 missed n by = ap (λ b. either b by (suc n)) (ne_eqb (suc n) 0 (λ h. omega (arith, h)))
 
 pub fires_moves : (st : Step Event) (l : List Event) (p : Nib × Option ℕ) (by : ℕ) → is_home st.key l ≡ true → 0 < by
-    → Moves IsKept shown moved st.key (l, p) (λ n. either (n == 0) by n) (Fires st (l, p))
+    → Moves KeepsRule shown moved st.key (l, p) (λ n. either (n == 0) by n) (Fires st (l, p))
 fires_moves st l p by home pos cs log kept pre away = (here.1, ap (λ (c : Cell). c.1) here.2, subst P (sym here.2) (go (number_of st.key log) refl))
   where
     at : is_home st.key log ≡ true
@@ -175,7 +176,7 @@ fires_moves st l p by home pos cs log kept pre away = (here.1, ap (λ (c : Cell)
 
     P : Cell → Type 0
     P c = (a : Act) × (more : List Event) × (t : Option ℕ) × Valid a p.0
-        × IsKept (cells_after a p.0 (set cs st.key (either (c.0 == 0) by c.0, true))) (log ++ more)
+        × KeepsRule (cells_after a p.0 (set cs st.key (either (c.0 == 0) by c.0, true))) (log ++ more)
         × Runs moved p.1 t (shown log) (shown (log ++ more)) × Fires st (l, p) c.0 (log ++ more, (nib_after a p.0 cs, t))
 
     go : (n : ℕ) → number_of st.key log ≡ n → P (n, true)
@@ -195,13 +196,13 @@ fires_moves st l p by home pos cs log kept pre away = (here.1, ap (λ (c : Cell)
           [],
           p.1,
           tt,
-          subst (λ (m : ℕ). IsKept (set cs st.key (m, true)) (log ++ [])) (sym (missed n by)) next,
+          subst (λ (m : ℕ). KeepsRule (set cs st.key (m, true)) (log ++ [])) (sym (missed n by)) next,
           inl (refl, refl),
           (ap (λ l. has st.key (fired_in l)) (append-nil log) ∙ (told st.key log kept.numbered ∙ (ap (λ m. not (m == 0)) some ∙ ap not (ne_eqb (suc n) 0 (λ h. omega (arith, h))))), next.once),
         )
 
 pub sees_moves : (st : Step Event) (l : List Event) (p : Nib × Option ℕ) → is_home st.key l ≡ true
-    → Moves IsKept shown moved st.key (l, p) (λ n. n) (Sees st (l, p))
+    → Moves KeepsRule shown moved st.key (l, p) (λ n. n) (Sees st (l, p))
 sees_moves st l p home cs log kept pre away = (here.1, ap (λ (c : Cell). c.1) here.2, subst P (sym here.2) found)
   where
     here : (1 < st.key) × (st.key < length cs) × (cell cs st.key ≡ (number_of st.key log, true))
@@ -209,7 +210,7 @@ sees_moves st l p home cs log kept pre away = (here.1, ap (λ (c : Cell). c.1) h
 
     P : Cell → Type 0
     P c = (a : Act) × (more : List Event) × (t : Option ℕ) × Valid a p.0
-        × IsKept (cells_after a p.0 (set cs st.key (c.0, true))) (log ++ more)
+        × KeepsRule (cells_after a p.0 (set cs st.key (c.0, true))) (log ++ more)
         × Runs moved p.1 t (shown log) (shown (log ++ more)) × Sees st (l, p) c.0 (log ++ more, (nib_after a p.0 cs, t))
 
     found : P (number_of st.key log, true)

@@ -11,9 +11,9 @@ pub(crate) struct Law;
 impl Rule<Event, u64> for Law {
     ghost use Rattle.std.specs.Prelude.{[]};
     ghost use base.Fml.{ftrue};
-    ghost use Rattle.watch_word.specs.inner.Rule.{IsKept};
+    ghost use Rattle.watch_word.specs.inner.Rule.{KeepsRule};
 
-    ghost holds = { λ cells log. IsKept cells log };
+    ghost holds = { λ cells log. KeepsRule cells log };
 
     ghost first = { [] };
 

@@ -1,9 +1,7 @@
 -- The lines of a file, as they are found one after the other.
-use Rattle.std.specs.Prelude.{◌==◌, ◌||◌, ◌-◌, ℕ, List, [], ◌∷◌, ◌++◌, length, slice_index, Bool, true, if◌then◌else◌, Option, Some, None, Result, Ok, Err}
+use Rattle.std.specs.Prelude.{◌==◌, ◌||◌, ◌-◌, ℕ, [], ◌∷◌, length, slice_index, Bool, true, if◌then◌else◌, Option, Some, None}
 use Rattle.std.specs.List.{before_first, after_first}
 use Rattle.mdb_datum.specs.Bytes.{Bytes}
-use Rattle.client_script.specs.Refusal.{ScriptRefusal}
-use Rattle.client_script.specs.declared.line.Line.{Line}
 
 -- the first line without its line feed, and what follows it
 abbrev pub first_line : Bytes → Option (Bytes × Bytes)
@@ -19,9 +17,3 @@ is_ended bs = (length bs == 0) || (slice_index bs (length bs - 1) == 10)
 abbrev pub is_silent : Bytes → Bool
 is_silent [] = true
 is_silent (b ∷ bs) = b == 35
-
--- lines that were read, and then what the others read as
-abbrev pub put_before :
-    List Line → Result (List Line) ScriptRefusal → Result (List Line) ScriptRefusal
-put_before done (Ok lines) = Ok (done ++ lines)
-put_before done (Err why) = Err why

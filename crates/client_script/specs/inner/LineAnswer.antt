@@ -16,10 +16,10 @@ rule_of rule.BadName = bad_name
 rule_of rule.BadDoc = bad_doc
 
 -- what the code holds is seen by a view
-abbrev pub Answers : {A B : Type 0} → (A → B) → Ruled B → Result A LineError → Type 0
-Answers view told (Ok x) = told ≡ Ok (view x)
-Answers view told (Err line_error.Memory) = ⊤
-Answers view told (Err (line_error.Broken r)) = told ≡ Err (rule_of r)
+abbrev pub IsLineResult : {A B : Type 0} → (A → B) → Ruled B → Result A LineError → Type 0
+IsLineResult view told (Ok x) = told ≡ Ok (view x)
+IsLineResult view told (Err line_error.Memory) = ⊤
+IsLineResult view told (Err (line_error.Broken r)) = told ≡ Err (rule_of r)
 
 -- the error of the line of a number
 abbrev pub at_number : ℕ → LineError → ScriptError

@@ -5,13 +5,13 @@ use Rattle.client_script.specs.declared.script_error.ScriptError.{ScriptError}
 use Rattle.client_script.specs.declared.script_error.ScriptError.TheVariants as script_errors
 
 -- what the code holds is seen by a view
-abbrev pub Answers :
+abbrev pub IsScriptResult :
     {A B : Type 0} → (A → B) → Result B ScriptRefusal → Result A ScriptError → Type 0
-Answers view told (Ok x) = told ≡ Ok (view x)
-Answers view told (Err script_errors.Memory) = ⊤
-Answers view told (Err script_errors.NotText) = told ≡ Err not_text
-Answers view told (Err script_errors.TooManyLines) = told ≡ Err too_many_lines
-Answers view told (Err (script_errors.UnknownWord n)) = told ≡ Err (broken_line n unknown_word)
-Answers view told (Err (script_errors.BadShape n)) = told ≡ Err (broken_line n bad_shape)
-Answers view told (Err (script_errors.BadName n)) = told ≡ Err (broken_line n bad_name)
-Answers view told (Err (script_errors.BadDoc n)) = told ≡ Err (broken_line n bad_doc)
+IsScriptResult view told (Ok x) = told ≡ Ok (view x)
+IsScriptResult view told (Err script_errors.Memory) = ⊤
+IsScriptResult view told (Err script_errors.NotText) = told ≡ Err not_text
+IsScriptResult view told (Err script_errors.TooManyLines) = told ≡ Err too_many_lines
+IsScriptResult view told (Err (script_errors.UnknownWord n)) = told ≡ Err (broken_line n unknown_word)
+IsScriptResult view told (Err (script_errors.BadShape n)) = told ≡ Err (broken_line n bad_shape)
+IsScriptResult view told (Err (script_errors.BadName n)) = told ≡ Err (broken_line n bad_name)
+IsScriptResult view told (Err (script_errors.BadDoc n)) = told ≡ Err (broken_line n bad_doc)

@@ -9,7 +9,7 @@ use Rattle.mdb_schema.specs.worked.Sample.{sample}
 use Rattle.client_script.specs.Alone.{Request, to_transact, to_write, to_defer, to_ask, to_name, to_size, alone}
 use Rattle.client_script.specs.Client.{at_start}
 use Rattle.client_script.specs.Refusal.{ScriptRefusal}
-use Rattle.client_script.specs.Reply.{Changed, Reply, read_at, write_at, ended, committed, aborted, inserted, replaced, deleted, wiped, deferred, answered, kept_at, kept_within, quiet_at, fired_at, sized, woken_by, stopped_at, refused}
+use Rattle.client_script.specs.Reply.{Changed, Reply, read_at, write_at, ended, committed, aborted, inserted, replaced, deleted, wiped, deferred, answered, snapshot_at, snapshot_within, quiet_at, fired_at, sized, woken_by, stopped_at, refused}
 use Rattle.client_script.specs.Script.{script_in}
 use Rattle.client_script.specs.declared.command.Command.{Command}
 use Rattle.client_script.specs.declared.command.Command.TheVariants as command
@@ -65,8 +65,8 @@ code_of deleted = 7 ∷ []
 code_of (wiped k) = 8 ∷ k ∷ []
 code_of deferred = 9 ∷ []
 code_of (answered a) = 10 ∷ asked_code (Ok a)
-code_of (kept_at n) = 11 ∷ n ∷ []
-code_of (kept_within n) = 12 ∷ n ∷ []
+code_of (snapshot_at n) = 11 ∷ n ∷ []
+code_of (snapshot_within n) = 12 ∷ n ∷ []
 code_of (quiet_at n) = 14 ∷ n ∷ []
 code_of (fired_at n) = 15 ∷ n ∷ []
 code_of (sized k) = 16 ∷ k ∷ []

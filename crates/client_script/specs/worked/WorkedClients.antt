@@ -201,20 +201,20 @@ no_number_twice out l is = of l.history (subst (λ (rss : List (List Reply)). Is
     of (c ∷ d ∷ H) numbers = not_second d.caller (Contains-permutation _ _ (2, d.caller) numbers (Contains-later (1, c.caller) ((2, d.caller) ∷ enumerate_from 3 (callers H)) (2, d.caller) (Contains-first (2, d.caller) (enumerate_from 3 (callers H)))))
 
 -- what a client knows that was told of its first transaction that it stands on no commit
-abbrev begun : Client
-begun = with_transaction 0 (writing (record { number = 0; writes = []; texts = [] })) at_start
+abbrev first_writing : Client
+first_writing = with_transaction 0 (writing (record { number = 0; writes = []; texts = [] })) at_start
 
 abbrev write_told : Reply → ℕ
 write_told (write_at n) = 1
 write_told r = 2
 
-begins_at : (now : ℕ) (few : Bool) (next : Client) → outcome at_start (passed (codes "commits-spent") few >>= (λ u. Ok (write_at now, with_transaction now (writing (record { number = now; writes = []; texts = [] })) at_start))) ≡ (write_at 0, next) → next ≡ begun
+begins_at : (now : ℕ) (few : Bool) (next : Client) → outcome at_start (passed (codes "commits-spent") few >>= (λ u. Ok (write_at now, with_transaction now (writing (record { number = now; writes = []; texts = [] })) at_start))) ≡ (write_at 0, next) → next ≡ first_writing
 begins_at now true next says =
     sym (ap (λ (p : Reply × Client). p.1) says)
     ∙ ap (λ (n : ℕ). with_transaction n (writing (record { number = n; writes = []; texts = [] })) at_start) (ap (λ (p : Reply × Client). number_written p.0) says)
 begins_at now false next says = absurd (other_number 1 2 (lit< tt) (sym (ap (λ (p : Reply × Client). write_told p.0) says)))
 
-begins : (H : History) (next : Client) → Answers sample H 1 at_start (as_command begin) (write_at 0) next → next ≡ begun
+begins : (H : History) (next : Client) → Answers sample H 1 at_start (as_command begin) (write_at 0) next → next ≡ first_writing
 begins H next a = begins_at a.now (nat_lt a.now commit_limit) next a.says
 
 -- a client that reads an older commit than it was told of
@@ -230,7 +230,7 @@ no_older_commit out l is = of l.history (subst (λ (rss : List (List Reply)). Se
     of : (H : History) → Session sample H 1 commit_and_read (write_at 0 ∷ committed 1 [] [] ∷ read_at 0 ∷ []) → ⊥
     of H (end, (v1, a1, (v2, a2, (v3, a3, done)))) =
         let second = subst (λ (v : Client). Answers sample H 1 v (as_command commit) (committed 1 [] []) v2) (begins H v1 a1) a2 in
-        let told : (outcome begun (turn sample H second.now begun commit)).1 ≡ v2 = ap (λ (p : Reply × Client). p.1) second.says in
+        let told : (outcome first_writing (turn sample H second.now first_writing commit)).1 ≡ v2 = ap (λ (p : Reply × Client). p.1) second.says in
         let third = subst (λ (v : Client). Answers sample H 1 v (as_command read) (read_at 0) v3) (sym told) a3 in
         let now : third.now ≡ 0 = ap (λ (p : Reply × Client). number_written p.0) third.says in
         let le : 1 ≤ third.now = third.not_older in

@@ -5,7 +5,7 @@ use Rattle.mdb_datum.proofs.OnLiterals.{reading_on_literals}
 use Rattle.mdb_datum.specs.Bytes.{Bytes}
 use Rattle.mdb_schema.specs.declared.answer.Answer.TheVariants.{One, Many}
 use Rattle.mdb_schema.specs.worked.Apart.{apart}
-use Rattle.client_script.specs.Reply.{read_at, write_at, ended, answered, kept_at, kept_within, refused}
+use Rattle.client_script.specs.Reply.{read_at, write_at, ended, answered, snapshot_at, snapshot_within, refused}
 use Rattle.client_script.specs.worked.Told.{replies_to, reply_code}
 
 abbrev names : Bytes
@@ -33,7 +33,7 @@ pub names_told : replies_to names ≡
     ∷ read_at 0
     ∷ answered (Many [])
     ∷ refused (codes "name-taken")
-    ∷ kept_at 0
+    ∷ snapshot_at 0
     ∷ answered (One None)
     ∷ refused (codes "unknown-name")
     ∷ refused (codes "unwatchable")
@@ -44,7 +44,7 @@ pub names_told : replies_to names ≡
     ∷ write_at 0
     ∷ refused (codes "uncommitted")
     ∷ answered (Many [])
-    ∷ kept_within 0
+    ∷ snapshot_within 0
     ∷ refused (codes "uncommitted")
     ∷ []
 unfolding reading_on_literals

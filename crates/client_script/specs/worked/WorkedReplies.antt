@@ -5,7 +5,7 @@ use Rattle.std.proofs.lemmas.Fmt.{decimal_digit}
 use Rattle.mdb_datum.proofs.OnLiterals.{reading_on_literals}
 use Rattle.mdb_schema.specs.declared.answer.Answer.TheVariants.{One, Many}
 use Rattle.mdb_schema.specs.worked.Sample.{user}
-use Rattle.client_script.specs.Reply.{Changed, line_text, heading, reply_text, read_at, write_at, committed, wiped, answered, kept_at, kept_within, refused}
+use Rattle.client_script.specs.Reply.{Changed, line_text, heading, reply_text, read_at, write_at, committed, wiped, answered, snapshot_at, snapshot_within, refused}
 
 abbrev came : Changed
 came = record { table = codes "t"; before = None; after = Some (user (codes "ann") 3) }
@@ -57,10 +57,10 @@ rows_text = rw (decimal_digit 7 (lit< tt), decimal_digit 2 (lit< tt), decimal_di
 pub no_rows_text : reply_text (answered (Many [])) ≡ codes "rows 0"
 no_rows_text = rw (decimal_digit 0 (lit< tt)) refl
 
-pub snapshot_text : reply_text (kept_at 3) ≡ codes "snapshot @3"
+pub snapshot_text : reply_text (snapshot_at 3) ≡ codes "snapshot @3"
 snapshot_text = rw (decimal_digit 3 (lit< tt)) refl
 
-pub uncommitted_text : reply_text (kept_within 3) ≡ codes "snapshot @3+"
+pub uncommitted_text : reply_text (snapshot_within 3) ≡ codes "snapshot @3+"
 uncommitted_text = rw (decimal_digit 3 (lit< tt)) refl
 
 pub refused_text : reply_text (refused (codes "key-taken mail")) ≡ codes "refused key-taken mail"

@@ -6,7 +6,7 @@ use Rattle.mdb_datum.specs.Bytes.{Bytes}
 use Rattle.mdb_schema.specs.declared.answer.Answer.TheVariants.{One, Many}
 use Rattle.mdb_schema.specs.worked.Apart.{apart}
 use Rattle.mdb_schema.specs.worked.Sample.{user, mailed}
-use Rattle.client_script.specs.Reply.{read_at, write_at, ended, committed, aborted, inserted, replaced, deleted, wiped, deferred, answered, kept_at, kept_within, refused}
+use Rattle.client_script.specs.Reply.{read_at, write_at, ended, committed, aborted, inserted, replaced, deleted, wiped, deferred, answered, snapshot_at, snapshot_within, refused}
 use Rattle.client_script.specs.worked.Told.{replies_to, reply_code}
 
 -- ---- a row is committed, read, replaced, and read again
@@ -81,7 +81,7 @@ own_writes =
 pub own_writes_told : replies_to own_writes ≡
     read_at 0
     ∷ answered (Many [])
-    ∷ kept_at 0
+    ∷ snapshot_at 0
     ∷ answered (Many [])
     ∷ ended
     ∷ write_at 0
@@ -151,7 +151,7 @@ uncommitted_snapshot =
 pub uncommitted_snapshot_told : replies_to uncommitted_snapshot ≡
     write_at 0
     ∷ inserted
-    ∷ kept_within 0
+    ∷ snapshot_within 0
     ∷ deleted
     ∷ answered (Many ((user (codes "a") 1) ∷ []))
     ∷ answered (Many [])

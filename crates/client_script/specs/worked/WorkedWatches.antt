@@ -6,13 +6,13 @@ use Rattle.mdb_datum.specs.Bytes.{Bytes}
 use Rattle.mdb_datum.specs.Doc.{text}
 use Rattle.mdb_schema.proofs.Membership.{Contains-first}
 use Rattle.mdb_schema.specs.Answer.{Lookup, ask}
-use Rattle.mdb_schema.specs.Guarded.{IsGuarded}
+use Rattle.mdb_schema.specs.Guarded.{IsGuarded, IsUnchanged}
 use Rattle.mdb_schema.specs.History.{Commit, History, state_at}
+use Rattle.mdb_schema.specs.Watchable.{IsTouched}
 use Rattle.mdb_schema.specs.declared.ask.Ask.TheVariants.{First}
 use Rattle.mdb_schema.specs.worked.Apart.{apart, asked_code}
 use Rattle.mdb_schema.specs.worked.Sample.{id_of_text, put_user, query, sample, user, users_table}
 use Rattle.client_script.specs.Client.{Watch}
-use Rattle.client_script.specs.Watching.{HasFired, IsQuiet}
 
 abbrev stored : Commit
 stored = record {
@@ -42,7 +42,7 @@ abbrev at_key : Bytes → Lookup
 at_key name = record { place = 1; index = id_of_text (codes "name"); key = key_of name }
 
 -- the user that wasn't there is told to have come
-pub missing_fires : HasFired sample history (watch_of (codes "fool")) 2
+pub missing_fires : IsTouched sample history (watch_of (codes "fool")).query 1 2
 missing_fires = record {
   place = 3;
   named = refl;
@@ -65,7 +65,7 @@ missing_fires = record {
 }
 
 -- and isn't told to be missing still: the commit is the client's own
-pub missing_is_not_quiet : IsQuiet sample history 1 (watch_of (codes "fool")) 2 → ⊥
+pub missing_is_not_quiet : IsUnchanged sample history 1 (watch_of (codes "fool")).query 1 2 → ⊥
 missing_is_not_quiet quiet =
     apart asked_code tt refl (quiet.own (lit< tt, added, refl, refl) 2 (lit≤ tt) (lit≤ tt))
 
@@ -93,7 +93,7 @@ neighbour_guarded n few j low high = too_low j low (within j n few high) SameAns
     within : (j n : ℕ) → n ≤ 2 → j ≤ n → j ≤ 2
     within j n few le = omega (arith, few, le)
 
-pub neighbour_is_quiet : IsQuiet sample history 1 (watch_of (codes "foo")) 2
+pub neighbour_is_quiet : IsUnchanged sample history 1 (watch_of (codes "foo")).query 1 2
 neighbour_is_quiet = record {
   before_last = neighbour_guarded 1 (lit≤ tt);
   own = λ own. neighbour_guarded 2 (lit≤ tt);

@@ -14,21 +14,21 @@ use Rattle.client_script.specs.declared.command.Command.TheVariants as command
 use Rattle.client_script.specs.declared.command.TransactionCommand.TheVariants as transaction_line
 use Rattle.client_script.specs.declared.line.Line.{Line}
 use Rattle.client_session.specs.Answered.{AreMade, AreRising, IsLater, IsUntold, commit_at}
-use Rattle.client_session.specs.declared.desk.Desk.{Desk}
+use Rattle.client_session.specs.declared.session_state.SessionState.{SessionState}
 use Rattle.client_session.specs.Steps.{HasDoneOnce}
-use Rattle.client_session.specs.inner.DeskView.{Follows, IsHeldUp, LooksAndReplies}
+use Rattle.client_session.specs.inner.StateView.{Follows, IsHeldUp, LooksAndReplies}
 use Rattle.client_session.specs.inner.OpenView.{caller_of}
 use Rattle.client_session.specs.inner.Transcript.{Transcript}
 
 -- a line was answered, and its answer was added
-pub record AnswersLine (l : Line) (old new : Desk) (before after : Transcript) : Type 0 where
+pub record AnswersLine (l : Line) (old new : SessionState) (before after : Transcript) : Type 0 where
   pub reply : Reply
   pub replies : LooksAndReplies l.command old new reply
   pub written : after.text ≡ before.text ++ line_text l.number reply
   pub counted : after.commits ≡ before.commits + length (number_printed reply)
 
 -- the same of a step; where the line wasn't answered, nothing was added
-abbrev pub StepsLine : ℕ → Line → Desk → Desk → Transcript → Transcript → Result Bool AllocError → Type 0
+abbrev pub StepsLine : ℕ → Line → SessionState → SessionState → Transcript → Transcript → Result Bool AllocError → Type 0
 StepsLine callers l old new before after (Ok true) = AnswersLine l old new before after
     × HasDoneOnce l.command (caller_of old.«open») (caller_of new.«open»)
 StepsLine callers l old new before after (Ok false) = IsHeldUp callers l.command old new
@@ -48,11 +48,11 @@ pub record Makes (c : Command) (old new : Caller) : Type 0 where
   pub one : IsOfCommit c made
 
 -- no more than that was made at a line that found no memory
-abbrev pub StopsLine : Line → Desk → Caller → Type 0
+abbrev pub StopsLine : Line → SessionState → Caller → Type 0
 StopsLine l old new = (v : Client) → Follows old v → Makes l.command (caller_of old.«open») new
 
--- replies to lines, whose text is there; the desk has what the client knows then
-pub record SoFar (script : List Line) (at : ℕ) (d : Desk) (t : Transcript) : Type 0 where
+-- replies to lines, whose text is there; the state has what the client knows then
+pub record SoFar (script : List Line) (at : ℕ) (d : SessionState) (t : Transcript) : Type 0 where
   pub replies : List Reply
   pub client : Client
   pub runs : let p = caller_of d.«open» in
@@ -63,7 +63,7 @@ pub record SoFar (script : List Line) (at : ℕ) (d : Desk) (t : Transcript) : T
   pub made : AreMade (caller_of d.«open») replies
 
 -- from a pass and the replies before it on, the lines were answered
-pub record Carried (pass : Caller) (before : List Reply) (done : List Line) (d : Desk)
+pub record Carried (pass : Caller) (before : List Reply) (done : List Line) (d : SessionState)
     (t : Transcript) : Type 0 where
   pub replies : List Reply
   pub client : Client
@@ -92,7 +92,7 @@ pub record Before (pass : Caller) (script : List Line) (from : ℕ) (t : Transcr
 
 -- from a place of a script on to another
 pub record CarriedOn (pass : Caller) (script : List Line) (from to : ℕ) (old : Transcript)
-    (d : Desk) (t : Transcript) : Type 0 where
+    (d : SessionState) (t : Transcript) : Type 0 where
   pub before : Before pass script from old
   pub carried : Carried pass before.replies (take to script) d t
 

@@ -7,7 +7,7 @@ use Rattle.mdb_schema.specs.History.{History}
 use Rattle.mem_txn.specs.CellHistory.{Forest}
 use Rattle.mem_txn.specs.Checked.{IsBeginning}
 use Rattle.mem_txn.specs.Database.{Caller, Reading, View, reading_of}
-use Rattle.mem_txn.specs.Transactions.{HasLost, changes_of, items_of}
+use Rattle.mem_txn.specs.Transactions.{HasLost, txn_of, items_of}
 use Rattle.mdb_schema.specs.History.{state_at}
 use Rattle.client_script.specs.Client.{Transaction, closed, reading, writing, Client}
 use Rattle.client_script.specs.Reply.{Reply, committed}
@@ -26,14 +26,14 @@ use Rattle.client_session.specs.declared.open.Open.TheVariants as opens
 abbrev pub caller_of : Open → Caller
 caller_of (opens.Nothing pass) = pass
 caller_of (opens.Reading pass txn) = pass
-caller_of (opens.Writing txn) = (changes_of txn).caller
+caller_of (opens.Writing txn) = (txn_of txn).caller
 
 abbrev pub transaction_of : Open → Transaction
 transaction_of (opens.Nothing pass) = closed
 transaction_of (opens.Reading pass txn) = reading txn.view.number
 transaction_of (opens.Writing txn) = writing (record {
-  number = length (changes_of txn).caller.seen;
-  writes = (changes_of txn).writes;
+  number = length (txn_of txn).caller.seen;
+  writes = (txn_of txn).writes;
   texts = items_of txn;
 })
 
@@ -60,7 +60,7 @@ Stands (opens.Nothing pass) = ⊤
 Stands (opens.Reading pass txn) =
     (txn.view.number ≤ length pass.seen) × (txn.view ≡ view_at_commit pass txn.view.number)
     × WasRead pass txn
-Stands (opens.Writing txn) = (changes_of txn).spoiled ≡ false
+Stands (opens.Writing txn) = (txn_of txn).spoiled ≡ false
 
 -- the commit that a reply tells
 abbrev pub made : ℕ → Transaction → Reply → History

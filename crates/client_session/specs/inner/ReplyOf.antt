@@ -25,8 +25,8 @@ reply_of schema reply.Deferred = said.deferred
 reply_of schema (reply.Answered a) = said.answered a
 reply_of schema (reply.Asked reading q) =
     asked_reply (ask reading.view.schema reading.view.state q)
-reply_of schema (reply.KeptAt n) = said.kept_at n
-reply_of schema (reply.KeptWithin n) = said.kept_within n
+reply_of schema (reply.SnapshotAt n) = said.snapshot_at n
+reply_of schema (reply.SnapshotWithin n) = said.snapshot_within n
 reply_of schema (reply.QuietAt n) = said.quiet_at n
 reply_of schema (reply.FiredAt n) = said.fired_at n
 reply_of schema (reply.Sized k) = said.sized k
@@ -49,8 +49,8 @@ abbrev pub IsNumbered : Reply → Type 0
 IsNumbered (reply.ReadAt n) = ⊤
 IsNumbered (reply.WriteAt n) = ⊤
 IsNumbered (reply.Wiped k) = ⊤
-IsNumbered (reply.KeptAt n) = ⊤
-IsNumbered (reply.KeptWithin n) = ⊤
+IsNumbered (reply.SnapshotAt n) = ⊤
+IsNumbered (reply.SnapshotWithin n) = ⊤
 IsNumbered (reply.QuietAt n) = ⊤
 IsNumbered (reply.FiredAt n) = ⊤
 IsNumbered (reply.Sized k) = ⊤

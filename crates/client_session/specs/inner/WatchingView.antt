@@ -7,7 +7,7 @@ use Rattle.mdb_schema.specs.Query.{Query}
 use Rattle.mem_txn.specs.Checked.{IsHeldBy, LooksOnce}
 use Rattle.mem_txn.specs.Database.{Caller, Reading, cells_seen}
 use Rattle.mem_txn.specs.Held.{HeldWatch}
-use Rattle.watch_set.specs.Members.{AreDistinct, AreHeldBy, Member, cell_id, has_cell, watches_of}
+use Rattle.watch_set.specs.Members.{HaveDistinctCells, AreHeldBy, Member, cell_id, has_cell, watches_of}
 use Rattle.client_script.specs.Client as client
 use Rattle.client_script.specs.Client.{Client, Sight, Watch, WatchSet, no_write_open, set_named, watch_named}
 use Rattle.client_script.specs.Reply.{Reply}
@@ -27,7 +27,7 @@ use Rattle.client_session.specs.inner.OpenView.{WasRead}
 -- the caller holds each watch of a set, and there is one; each is of another cell
 pub record HoldsSet (p : Caller) (ms : List Member) : Type 0 where
   pub some : 0 < length ms
-  pub distinct : AreDistinct ms
+  pub distinct : HaveDistinctCells ms
   pub held : AreHeldBy p (watches_of ms)
 
 -- the caller holds each watch, and each of each set

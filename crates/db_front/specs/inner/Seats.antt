@@ -10,7 +10,7 @@ use Rattle.db_front.specs.declared.board.View.{View}
 use Rattle.db_front.specs.Commits.{IsLastOf}
 use Rattle.db_front.specs.Passes.{Known}
 use Rattle.db_front.specs.Steps.{Outs, IsTurn, turn_of}
-use Rattle.db_front.specs.inner.Kept.{Hand, size_of}
+use Rattle.db_front.specs.inner.FrontRule.{Hand, size_of}
 
 -- the words and slots for so many callers
 abbrev pub IsSized : TableId → ℕ → Type 0

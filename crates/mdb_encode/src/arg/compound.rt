@@ -1,7 +1,7 @@
 //! The arguments of several parts, joined.
 ghost use Rattle.std.specs.Prelude.{◌≡◌, ◌++◌, ◌+◌, ◌<◌, ◌≤◌, ◌==◌, ◌≢◌, ◌&&◌, [], length, drop, ℕ};
 ghost use Rattle.std.specs.Prelude.{Ok, Err, OnOk};
-ghost use Rattle.mdb_encode.specs.Answers.{AnswersKey};
+ghost use Rattle.mdb_encode.specs.KeyAnswers.{AnswersKey};
 ghost use Rattle.mdb_encode.specs.inner.ArgReading.{arg_read, joined_form, exact_parts};
 ghost use Rattle.mdb_encode.specs.inner.ArgReading.{prefix_parts, MeasuresArg, HasKey};
 ghost use Rattle.mdb_encode.specs.Arguments.{limited_arg, then_with};

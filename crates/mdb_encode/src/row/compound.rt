@@ -1,6 +1,6 @@
 //! The key of a row under several parts, joined.
 ghost use Rattle.std.specs.Prelude.{◌≡◌, ◌∷◌, [], IfOk, Ok, OnOk};
-ghost use Rattle.mdb_encode.specs.Answers.{AnswersKeys};
+ghost use Rattle.mdb_encode.specs.KeyAnswers.{AnswersKeys};
 ghost use Rattle.mdb_encode.specs.Keys.{joined_keys, limited};
 ghost use Rattle.mdb_encode.specs.inner.KeyLength.{MeasuresKey, HasOneKey};
 ghost use Rattle.mdb_encode.specs.inner.CompoundParts.{parts_of};

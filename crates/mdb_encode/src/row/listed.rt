@@ -1,6 +1,6 @@
 //! The keys of a list of texts, or of an object of texts.
 ghost use Rattle.std.specs.Prelude.{◌≡◌, ◌++◌, [], IsOk, Ok, OnOk};
-ghost use Rattle.mdb_encode.specs.Answers.{AnswersKeys};
+ghost use Rattle.mdb_encode.specs.KeyAnswers.{AnswersKeys};
 ghost use Rattle.mdb_encode.specs.Keys.{limited};
 ghost use Rattle.mdb_encode.specs.inner.RowReading.{piece_keys};
 ghost use Rattle.mdb_encode.specs.inner.Tally.{CountsKeys};

@@ -5,7 +5,7 @@ ghost use Rattle.mdb_encode.specs.Keys.{raw_keys, value_at};
 ghost use Rattle.mdb_encode.specs.Kind.{name_of, part_indexer};
 ghost use Rattle.mdb_encode.specs.inner.RowReading.{doc_at, keys_read};
 
-use super::read::{is_blank, is_same, read_flag, read_sint, read_str, read_uint, read_uuid};
+use super::read::{is_same, is_zero_value, read_flag, read_sint, read_str, read_uint, read_uuid};
 use crate::piece::Piece;
 use crate::refusal::KeyRefusal;
 use crate::{Field, Part};
@@ -21,7 +21,7 @@ pub(crate) fn read_part<'a>(part: &Part, row: &'a Row) -> Result<Option<Piece<'a
         Part::Sint { field, width } => read_sint(value_of(row, field), *width),
         Part::Flag { field } => read_flag(value_of(row, field)),
         Part::Uuid { field } => read_uuid(value_of(row, field)),
-        Part::IsSet { field } => Ok(Some(Piece::Flag(!is_blank(value_of(row, field))))),
+        Part::IsSet { field } => Ok(Some(Piece::Flag(!is_zero_value(value_of(row, field))))),
         Part::Equals { field, scalar } => Ok(Some(Piece::Flag(is_same(
             value_of(row, field),
             scalar,

@@ -2,7 +2,7 @@
 ghost use Rattle.std.specs.Prelude.{◌≡◌};
 ghost use Rattle.mdb_datum.specs.Doc.{list, object, doc_list, field_list};
 ghost use Rattle.mdb_encode.specs.Keys.{str_keys, uint_keys, sint_keys, truth_keys, uuid_keys};
-ghost use Rattle.mdb_encode.specs.Keys.{is_blank, same_scalar};
+ghost use Rattle.mdb_encode.specs.Keys.{is_zero_value, same_scalar};
 ghost use Rattle.mdb_encode.specs.Kind.{scalar_doc, width_bytes};
 ghost use Rattle.mdb_encode.specs.inner.RowReading.{doc_at, keys_read};
 
@@ -89,9 +89,9 @@ pub(crate) fn read_uuid(value: Option<&Datum>) -> Result<Option<Piece<'_>>, KeyR
     }
 }
 
-/// Whether the member is absent, or has the value of its type that stands for nothing.
-pub(crate) fn is_blank(value: Option<&Datum>) -> bool
-    ensures { result ≡ is_blank (doc_at value.entry) }
+/// Whether the member is absent, or has the zero value of its type.
+pub(crate) fn is_zero_value(value: Option<&Datum>) -> bool
+    ensures { result ≡ is_zero_value (doc_at value.entry) }
 {
     match value {
         None | Some(Datum::Nil) => true,
@@ -104,17 +104,17 @@ pub(crate) fn is_blank(value: Option<&Datum>) -> bool
 }
 
 /// Whether a list is empty.
-#[tactic(auto, using(crate::proofs::Blank::blank_items))]
+#[tactic(auto, using(crate::proofs::ZeroValues::zero_items))]
 fn has_no_items(items: &Items) -> bool
-    ensures { result ≡ is_blank (list (doc_list items.now)) }
+    ensures { result ≡ is_zero_value (list (doc_list items.now)) }
 {
     items.len() == 0
 }
 
 /// Whether an object is empty.
-#[tactic(auto, using(crate::proofs::Blank::blank_members))]
+#[tactic(auto, using(crate::proofs::ZeroValues::zero_members))]
 fn has_no_members(members: &Members) -> bool
-    ensures { result ≡ is_blank (object (field_list members.now)) }
+    ensures { result ≡ is_zero_value (object (field_list members.now)) }
 {
     members.len() == 0
 }

@@ -6,7 +6,7 @@ use Rattle.mdb_schema.specs.declared.error.IndexerError.{IndexerError}
 use Rattle.mdb_schema.specs.declared.error.IndexerError.TheVariants as indexer_error
 
 -- what the code holds is seen by a view
-abbrev pub Answers : {A B : Type 0} → (A → B) → Checked B → Result A IndexerError → Type 0
-Answers view told (Ok x) = told ≡ Ok (view x)
-Answers view told (Err indexer_error.Memory) = ⊤
-Answers view told (Err (indexer_error.Broken r)) = told ≡ Err r
+abbrev pub IsIndexerResult : {A B : Type 0} → (A → B) → Checked B → Result A IndexerError → Type 0
+IsIndexerResult view told (Ok x) = told ≡ Ok (view x)
+IsIndexerResult view told (Err indexer_error.Memory) = ⊤
+IsIndexerResult view told (Err (indexer_error.Broken r)) = told ≡ Err r

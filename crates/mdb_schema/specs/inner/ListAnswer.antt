@@ -19,11 +19,11 @@ AnswersList told (Err (schema_error.Broken r t i)) =
     told ≡ Err (record { rule = r; table = t; index = i })
 
 -- an error that tells what is broken
-abbrev pub Tells : Broken → SchemaError → Type 0
-Tells b schema_error.Memory = ⊤
-Tells b (schema_error.Broken r t i) = b ≡ record { rule = r; table = t; index = i }
+abbrev pub TellsBroken : Broken → SchemaError → Type 0
+TellsBroken b schema_error.Memory = ⊤
+TellsBroken b (schema_error.Broken r t i) = b ≡ record { rule = r; table = t; index = i }
 
 -- the same error with the names of a table and an index
 abbrev pub IsNamed : IndexerError → Option Bytes → Option Bytes → SchemaError → Type 0
 IsNamed indexer_error.Memory t i e = e ≡ schema_error.Memory
-IsNamed (indexer_error.Broken r) t i e = Tells (record { rule = r; table = t; index = i }) e
+IsNamed (indexer_error.Broken r) t i e = TellsBroken (record { rule = r; table = t; index = i }) e

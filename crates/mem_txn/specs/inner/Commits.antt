@@ -2,12 +2,12 @@
 use Rattle.std.specs.Prelude.{◌≡◌, ◌⊎◌, ◌+◌, ◌^◌, ◌<◌, All, true, false, List, [], length, Result, Ok, Err}
 use Rattle.mdb_schema.specs.History.{after_writes, writes_in}
 use Rattle.mdb_schema.specs.Net.{Change, changes}
-use Rattle.mem_txn.specs.Changes.{Changes, after_commit, begun, present}
+use Rattle.mem_txn.specs.DbTxn.{DbTxn, after_commit, new_txn, present}
 use Rattle.table_index.specs.Watched.{HoldsRows}
 use Rattle.watch_word.specs.Logs.{Cell, IsLater, Log}
 use Rattle.mem_txn.specs.CellHistory.{Forest, HasFirings}
 use Rattle.mem_txn.specs.Database.{Caller, cells_seen, state_seen}
-use Rattle.mem_txn.specs.Transactions.{TellsChanges, changes_of, items_of}
+use Rattle.mem_txn.specs.Transactions.{TellsChanges, txn_of, items_of}
 use Rattle.mem_txn.specs.declared.outcome.BeginRefused.{BeginRefused}
 use Rattle.mem_txn.specs.declared.outcome.CommitRefused.{CommitRefused}
 use Rattle.mem_txn.specs.declared.txn_error.BeginError.TheVariants as begin_errors
@@ -28,7 +28,7 @@ RefusesTurn p refused = (refused.pass ≡ p)
 -- it begins without writes and items, or not
 abbrev pub AnswersTurn : {D : Type 0} → Caller → Result (WriteTxn D) BeginRefused → Type 0
 AnswersTurn p (Ok t) =
-    (length p.seen < 2 ^ 63) × (changes_of t ≡ begun p) × (items_of t ≡ [])
+    (length p.seen < 2 ^ 63) × (txn_of t ≡ new_txn p) × (items_of t ≡ [])
 AnswersTurn p (Err refused) = RefusesTurn p refused
 
 -- the value is the next after what the caller has seen, and a step from the last one
@@ -45,7 +45,7 @@ pub record IsNext (p : Turned) (v : Version) : Type 0 where
 
 -- a turn, the value that its transaction's commit shows, the notices of the cells that are gone, and
 -- what has changed in tracked tables
-pub record IsNextOf (t : Changes) (turn : Turned) (v : Version) (gone : List (List (List Cell)))
+pub record IsNextOf (t : DbTxn) (turn : Turned) (v : Version) (gone : List (List (List Cell)))
     (changed : List Change) : Type 0 where
   pub caller : turn.caller ≡ t.caller
   pub writes : v.writes ≡ t.writes
@@ -55,7 +55,7 @@ pub record IsNextOf (t : Changes) (turn : Turned) (v : Version) (gone : List (Li
 
 -- the pass has made the commit, the log, which it then has seen, has all that the commits up to it
 -- fire, and the changes of tracked tables are told
-pub record IsShown (t : Changes) (made : Caller × Log × List Change) : Type 0 where
+pub record IsShown (t : DbTxn) (made : Caller × Log × List Change) : Type 0 where
   pub trees : Forest
   pub pass : made.0 ≡ after_commit t trees made.1
   pub later : IsLater t.caller.log made.1
@@ -65,8 +65,8 @@ pub record IsShown (t : Changes) (made : Caller × Log × List Change) : Type 0 
   pub tracked : made.2 ≡ changes t.caller.schema (state_seen t.caller) (present t)
 
 -- the commit is made; or it is refused, and exactly a spoiled transaction is told so
-abbrev pub AnswersChanges : Changes → Result (Caller × Log × List Change) CommitRefused → Type 0
-AnswersChanges t (Ok made) = (t.spoiled ≡ false) × IsShown t made
-AnswersChanges t (Err refused) = (refused.pass ≡ t.caller)
+abbrev pub AnswersDbTxn : DbTxn → Result (Caller × Log × List Change) CommitRefused → Type 0
+AnswersDbTxn t (Ok made) = (t.spoiled ≡ false) × IsShown t made
+AnswersDbTxn t (Err refused) = (refused.pass ≡ t.caller)
     × (((t.spoiled ≡ true) × (refused.cause ≡ Spoiled))
     ⊎ ((t.spoiled ≡ false) × (refused.cause ≡ Memory)))

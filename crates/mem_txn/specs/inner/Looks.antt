@@ -1,10 +1,6 @@
 -- What a check finds of a watch in the state that was read.
-use Rattle.std.specs.Prelude.{◌≡◌, ℕ, Bool, true, false, Some, None, Option, Ok, slice_get}
-use Rattle.mdb_schema.specs.Answer.{Lookup, lookup_of}
+use Rattle.std.specs.Prelude.{◌≡◌, Bool, true, false, Some, None, Option}
 use Rattle.mdb_schema.specs.Query.{Query}
-use Rattle.mdb_schema.specs.Schema.{DbSchema, TableSchema, table_place}
-use Rattle.table_index.specs.Spot.{SpotOf}
-use Rattle.table_index.specs.Watched.{is_watchable, looks_up}
 use Rattle.watch_word.specs.Logs.{Cell}
 use Rattle.mem_txn.specs.CellHistory.{question_cell}
 use Rattle.mem_txn.specs.Database.{Reading}
@@ -12,20 +8,6 @@ use Rattle.mem_txn.specs.Held.{HeldWatch}
 use Rattle.mem_txn.specs.declared.look.Look.{Look}
 use Rattle.mem_txn.specs.declared.look.Look.TheVariants as look
 use Rattle.mem_txn.specs.inner.Values.{ViewWithTrees}
-
--- A question may be watched, and a spot is where it is looked up in the table of its name, in each
--- state of the schema.
-pub record IsAsked (schema : DbSchema) (q : Query) (s : SpotOf) : Type 0 where
-  pub watched : is_watchable q.ask ≡ true
-  pub place : ℕ
-  pub table : TableSchema
-  pub found : table_place q.table schema ≡ Some place
-  pub there : slice_get schema place ≡ Some table
-  pub at : Lookup
-  pub looked : lookup_of table q ≡ Ok at
-  pub index : s.index ≡ at.place
-  pub key : s.key ≡ at.key
-  pub exact : s.exact ≡ looks_up at.index q
 
 -- the cell of each question in a state that is read is of its book
 abbrev pub CellsAreOfBook : Reading → Type 0

@@ -58,7 +58,7 @@ pub record AreSteps (h : Versions) : Type 0 where
       → IsStep e.1 f.1
 
 -- the last commit of a list fires what left the trees, and the log is of the book of the cells
-pub record HasFired (h : Versions) (log : Log) : Type 0 where
+pub record HasLastFirings (h : Versions) (log : Log) : Type 0 where
   pub of : IsBookOf h log.book
   pub fired : (n : ℕ) (e f : ℕ × Version) → slice_get h n ≡ Some e → slice_get h (suc n) ≡ Some f
       → slice_get h (suc (suc n)) ≡ None → (c : Cell) → FiresIn e.1.trees f.1.trees c

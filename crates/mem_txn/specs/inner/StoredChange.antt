@@ -2,7 +2,7 @@
 use Rattle.std.specs.Prelude.{ℕ, Option, refl}
 use Rattle.std.specs.Coded.{Coded, code_by, coded×, coded_ℕ, coded_option}
 use Rattle.mdb_datum.specs.Row.{Fields}
-use Rattle.mdb_datum.specs.inner.Stored.{fields_code}
+use Rattle.mdb_datum.specs.Codes.{fields_code}
 use Rattle.mdb_schema.specs.Net as model
 use Rattle.mem_txn.specs.declared.change_list.Change.TheInside as change
 

@@ -16,7 +16,7 @@ use Rattle.mem_txn.specs.declared.version.Version.TheInside as version
 use Rattle.mem_txn.specs.declared.view.View.TheInside as view
 use Rattle.mem_txn.specs.inner.Accepted.{write_of}
 use Rattle.mem_txn.specs.inner.VersionTables.{AreAllWithin, AreChangesWithin, Tables, schemas_of, state_of, trees_of}
-use Rattle.mem_txn.specs.inner.Steps.{HasFired}
+use Rattle.mem_txn.specs.inner.Steps.{HasLastFirings}
 use Rattle.mem_txn.specs.inner.Values.{Version, ViewWithTrees}
 use Rattle.mem_txn.specs.inner.Versions.{AreTokens, IsToken, StandsFor, Turned, caller_of}
 
@@ -84,7 +84,7 @@ turn_view t = record { caller = caller_of t.token; base = arc_value t.base }
 pub record IsTurn (t : turn.Inside) : Type 0 where
   pub token : IsToken 1 t.token
   pub stands : StandsFor t.token.seen (arc_value t.base)
-  pub log : front.HasFirings HasFired (arc_value t.base).view.number t.token.seen t.token.log
+  pub log : front.HasFirstFirings HasLastFirings (arc_value t.base).view.number t.token.seen t.token.log
 
 abbrev pub tables_view : txn_tables.Inside → Tables
 tables_view t = record { tables = t.tables.items; ids = t.ids }

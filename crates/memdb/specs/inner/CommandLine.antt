@@ -1,12 +1,10 @@
 -- The command line as `clap` is told it, and what it gives of it.
-use Rattle.std.specs.Prelude.{◌≡◌, ◌≤◌, ℕ, false, true, List, [], ◌∷◌, length, if◌then◌else◌, Option, Some, None, codes, option_map, option_and_then, ⊤}
+use Rattle.std.specs.Prelude.{◌≡◌, ◌≤◌, ℕ, false, true, List, length, if◌then◌else◌, Option, Some, None, codes, option_map, option_and_then, ⊤}
 use Rattle.std.specs.Str.{bytes_eq}
 use Rattle.clap.specs.Words.{App, Row, Rule, Text, all_of, first_of, new_app, new_rule, subcommand_rows_of, with_rule, with_subcommand}
 use Rattle.clap.specs.Simple.{on_top}
 use Rattle.clap.specs.declared.builder.command.Command.{Command}
 use Rattle.clap.specs.declared.builder.command.Command.TheViews.{out-Command}
-use Rattle.clap.specs.declared.builder.value_parser.Reading.TheVariants as reading
-use Rattle.clap.specs.declared.parser.matches.ValueSource.TheVariants.{CommandLine}
 use Rattle.clap.specs.declared.parser.matches.ArgMatches.{ArgMatches}
 use Rattle.memdb.specs.Made.{Numbers}
 use Rattle.memdb.specs.Words.{make_of, number_in, numbers_of, run_of}
@@ -38,19 +36,7 @@ bare = on_top (λ s. record s { no_binary_name = true; disable_help_flag = true;
 abbrev pub program : App
 program = with_subcommand (with_subcommand bare run_app.top) make_app.top
 
--- ---- what it gives
-
-abbrev pub row : Text → List Text → Row
-row id values = record { id = id; values = values; count = None; source = Some CommandLine; reading = reading.AsWritten }
-
-abbrev pub run_rows : Text → List Text → List Row
-run_rows s cs = row (codes "schema") (s ∷ []) ∷ row (codes "clients") cs ∷ []
-
-abbrev pub make_rows : Text → Text → Text → List Row
-make_rows a b c =
-    row (codes "number") (a ∷ []) ∷ row (codes "clients") (b ∷ []) ∷ row (codes "count") (c ∷ []) ∷ []
-
--- ---- what is read of that
+-- ---- what is read of what it gives
 
 -- the files of a command
 abbrev pub files : Text → List Text → Named

@@ -1,19 +1,17 @@
 -- The inputs of `make`, as a schema and scripts, and what its clients commit.
-use Rattle.std.specs.Prelude.{◌≡◌, ◌≤◌, ◌+◌, ℕ, zero, suc, pos, false, true, List, [], ◌∷◌, ◌++◌, Option, Some, map, codes}
+use Rattle.std.specs.Prelude.{◌+◌, ℕ, zero, suc, pos, false, true, List, [], ◌∷◌, ◌++◌, Option, Some, codes}
 use Rattle.mdb_datum.specs.Doc.{Doc, whole, text, member}
 use Rattle.mdb_datum.specs.Row.{Fields}
 use Rattle.mdb_encode.specs.Indexer.{str, uint}
-use Rattle.mdb_schema.specs.History.{Commit, History}
+use Rattle.mdb_schema.specs.History.{Commit}
 use Rattle.mdb_schema.specs.Query.{Query}
 use Rattle.mdb_schema.specs.Schema.{DbSchema}
-use Rattle.mdb_schema.specs.Write.{put}
 use Rattle.mdb_schema.specs.declared.ask.Ask.TheVariants.{First, Get}
 use Rattle.client_script.specs.declared.command.AskCommand.TheVariants as ask_line
 use Rattle.client_script.specs.declared.command.Command.TheVariants as command
 use Rattle.client_script.specs.declared.command.TransactionCommand.TheVariants as transaction_line
 use Rattle.client_script.specs.declared.command.WriteCommand.TheVariants as write_line
 use Rattle.client_script.specs.declared.line.Line.{Line}
-use Rattle.mem_txn.specs.Database.{commits_by}
 use Rattle.memdb.specs.Made.{Item, Numbers, items_by}
 
 -- ---- the schema
@@ -78,17 +76,6 @@ scripts_from n k (suc more) = made_script n k ∷ scripts_from n (k + 1) more
 
 abbrev pub made_scripts : Numbers → List (List Line)
 made_scripts n = scripts_from n 1 n.clients
-
--- ---- what is committed
-
-abbrev pub commit_of : ℕ → Item → Commit
-commit_of client x =
-    record { caller = client; writes = put (codes "items") (row_of x) ∷ [] }
-
--- the commits of each client are those of its rows, in order
-abbrev pub HasMadeItems : Numbers → History → Type 0
-HasMadeItems n H = (client : ℕ) → 1 ≤ client → client ≤ n.clients
-    → commits_by client H ≡ map (commit_of client) (items_by n client)
 
 -- ---- what is left
 

@@ -1,24 +1,10 @@
 -- The inputs of `make` as the texts that they are read from.
-use Rattle.std.specs.Prelude.{ℕ, List, [], ◌∷◌, ◌++◌, codes}
+use Rattle.std.specs.Prelude.{List, [], ◌∷◌, ◌++◌, codes}
 use Rattle.mdb_datum.specs.Bytes.{Bytes}
 use Rattle.mdb_datum.specs.Doc.{list, text, doc_list}
 use Rattle.mdb_datum.specs.Written.{compact, row_text}
-use Rattle.memdb.specs.Made.{Item, Numbers, items_by}
+use Rattle.memdb.specs.Made.{Item}
 use Rattle.memdb.specs.inner.MadeInputs.{row_of}
-
--- ---- the schema
-
--- the index `age`, whose keys have two bytes, and the unique index `id`
-abbrev pub indexes_text : Bytes
-indexes_text =
-    codes "\"age\":{\"unique\":false,\"indexer\":{\"kind\":\"uint\",\"field\":\"age\",\"width\":2}},"
-    ++ codes "\"id\":{\"unique\":true,\"indexer\":{\"kind\":\"text\",\"field\":\"name\"}}"
-
-abbrev pub schema_text : Bytes
-schema_text =
-    codes "{\"memdb\":1,\"tables\":{\"items\":{\"indexes\":{" ++ (indexes_text ++ codes "}}}}")
-
--- ---- the scripts
 
 -- lines, each of which ends with a line feed
 abbrev pub lines_text : List Bytes → Bytes
@@ -47,7 +33,3 @@ round_text x =
 abbrev pub rounds_text : List Item → List Bytes
 rounds_text [] = []
 rounds_text (x ∷ xs) = round_text x ++ rounds_text xs
-
--- the file of a client
-abbrev pub script_text : Numbers → ℕ → Bytes
-script_text n client = lines_text (rounds_text (items_by n client))

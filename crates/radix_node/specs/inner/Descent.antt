@@ -2,7 +2,7 @@
 use Rattle.std.specs.Prelude.{◌≡◌, List, [], Option, None}
 use Rattle.mdb_datum.specs.Row.{Pair}
 use Rattle.radix_node.specs.Cells.{CellLeaf, CellNode}
-use Rattle.radix_node.specs.inner.Walk.{End, end_leaf, end_pairs, pairs_if}
+use Rattle.radix_node.specs.WalkDown.{End, end_leaf, end_pairs, pairs_if}
 use Rattle.radix_node.specs.declared.tree.descent.KeyEnd.{KeyEnd}
 use Rattle.radix_node.specs.declared.tree.descent.KeyEnd.TheVariants.{At, Within, Outside}
 

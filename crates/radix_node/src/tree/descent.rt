@@ -6,7 +6,7 @@ ghost use Rattle.radix_node.specs.Cells.{plain_of};
 ghost use Rattle.radix_node.specs.Node.{plain_node};
 ghost use Rattle.radix_node.specs.Shape.{HasShape, IsShaped};
 ghost use Rattle.radix_node.specs.inner.Descent.{EndsAt};
-ghost use Rattle.radix_node.specs.inner.Walk.{walk_tree, end_leaf};
+ghost use Rattle.radix_node.specs.WalkDown.{walk_tree, end_leaf};
 
 use crate::leaf::Leaf;
 use crate::node::Node;

@@ -6,11 +6,11 @@ use Rattle.mdb_datum.specs.Row.{Fields}
 use Rattle.radix_node.specs.Cells.{CellNode, node_pieces, no_cells, plain_nodes}
 use Rattle.radix_node.specs.Edges.{place_of}
 use Rattle.radix_node.specs.Node.{below, rest_past}
-use Rattle.radix_node.specs.inner.Siblings.{bare, cells_list, nodes_list}
+use Rattle.radix_node.specs.Siblings.{bare, cells_list, nodes_list}
 use Rattle.radix_txn.specs.declared.remains.Remains.{Remains}
 use Rattle.radix_txn.specs.declared.remove.Removed.{Removed}
 use Rattle.radix_txn.specs.declared.remove.owned.Gone.{Gone}
-use Rattle.radix_txn.specs.declared.remove.owned.Gone.TheVariants.{Kept, Left, Missing}
+use Rattle.radix_txn.specs.declared.remove.owned.Gone.TheVariants.{Left, Missing, Under}
 use Rattle.radix_txn.specs.declared.target.Target.{Target}
 use Rattle.radix_txn.specs.inner.Below.{settled_node}
 use Rattle.radix_txn.specs.inner.Outside.{AllIn, outside_node}
@@ -53,7 +53,7 @@ pub record IsLeft (target : Target) (rest : Bytes) (n m : CellNode) (r : Removed
 
 abbrev pub IsGone : Target → Bytes → CellNode → CellNode → Gone → Ledger → Ledger → Type 0
 IsGone target rest n m Missing a b = HasNone target rest n m a b
-IsGone target rest n m (Kept d) a b = IsCutUnder target rest n m d.row d.count a b
+IsGone target rest n m (Under d) a b = IsCutUnder target rest n m d.row d.count a b
 IsGone target rest n m (Left r) a b = IsLeft target rest n m r a b
 
 -- the walk goes on by the edge at a place, with what is left of the rest after the node there

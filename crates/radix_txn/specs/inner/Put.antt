@@ -6,8 +6,8 @@ use Rattle.mdb_datum.specs.Row.{Fields, Pair}
 use Rattle.radix_node.specs.Cells.{CellNode, cells_in}
 use Rattle.radix_node.specs.Node.{below}
 use Rattle.radix_node.specs.Nodes.{part}
-use Rattle.radix_node.specs.inner.Seek.{found, seek, seek_plain}
-use Rattle.radix_node.specs.inner.Siblings.{bare, cells_list}
+use Rattle.radix_node.specs.Seek.{found, seek, seek_plain}
+use Rattle.radix_node.specs.Siblings.{bare, cells_list}
 use Rattle.radix_txn.specs.declared.target.Target.TheVariants.{Key}
 use Rattle.radix_txn.specs.inner.Below.{insert_below, over, row_in}
 use Rattle.radix_txn.specs.inner.Outside.{AllIn, outside, outside_node, staying}

@@ -5,7 +5,7 @@ use Rattle.mdb_datum.specs.Bytes.{Bytes}
 use Rattle.mdb_datum.specs.Row.{Fields, Pair}
 use Rattle.radix_node.specs.Nodes.{Plain, pairs_of}
 use Rattle.radix_node.specs.Pairs.{find, without, without_prefix}
-use Rattle.radix_node.specs.inner.Seek.{seek_plain}
+use Rattle.radix_node.specs.Seek.{seek_plain}
 use Rattle.radix_txn.specs.Kept.{deleted_key, deleted_keys}
 use Rattle.radix_txn.specs.declared.target.Target.{Target}
 use Rattle.radix_txn.specs.declared.target.Target.TheVariants.{Key, Prefix}

@@ -30,7 +30,7 @@ pub record IsMade (P : Cell → Type 0) (from to : ℕ) (x : Piece) : Type 0 whe
   pub holds : P (piece_cell x)
 
 -- a piece that is changed in place: it keeps its cell, which isn't one of the old tree's
-pub record IsHeld (first : ℕ) (before : List Piece) (x : Piece) : Type 0 where
+pub record IsInPlace (first : ℕ) (before : List Piece) (x : Piece) : Type 0 where
   pub low : first ≤ (piece_cell x).id
   pub there : Has (piece_cell x) (map piece_cell before)
 
@@ -39,7 +39,7 @@ pub record IsStep (P : Cell → Type 0) (first : ℕ) (a b : Tally) : Type 0 whe
   pub begun : first ≤ a.next
   pub later : a.next ≤ b.next
   -- each piece was there, was made, or was changed in place
-  pub made : (x : Piece) → Has x b.pieces → Has x a.pieces ⊎ (IsMade P a.next b.next x ⊎ IsHeld first a.pieces x)
+  pub made : (x : Piece) → Has x b.pieces → Has x a.pieces ⊎ (IsMade P a.next b.next x ⊎ IsInPlace first a.pieces x)
   -- no id comes twice that didn't before
   pub few : (i : ℕ) → count_in i b.pieces ≤ count_in i a.pieces + drawn a.next b.next i
   -- what isn't there any more of the old tree has left

@@ -2,7 +2,7 @@
 use Rattle.std.specs.Prelude.{◌≡◌, ◌∷◌, [], Some, None, refl}
 use Rattle.mdb_datum.specs.Row.{Fields}
 use Rattle.radix_node.specs.Nodes.{no_nodes, node, Plain}
-use Rattle.radix_node.specs.inner.Seek.{seek_plain}
+use Rattle.radix_node.specs.Seek.{seek_plain}
 use Rattle.radix_txn.specs.inner.Edits.{insert_plain, remove_plain}
 use Rattle.radix_txn.specs.declared.target.Target.TheVariants.{Key, Prefix}
 

@@ -3,7 +3,7 @@ ghost use Rattle.std.specs.Prelude.{◌≡◌, ◌∷◌, ◌+◌, ◌<◌, ◌�
 ghost use Rattle.radix_node.specs.CellNode.{cell_node, cell_ref};
 ghost use Rattle.radix_node.specs.Edges.{place_of};
 ghost use Rattle.radix_node.specs.Node.{rest_past};
-ghost use Rattle.radix_node.specs.inner.Siblings.{bare, cells_list, nodes_list};
+ghost use Rattle.radix_node.specs.Siblings.{bare, cells_list, nodes_list};
 ghost use Rattle.radix_txn.specs.inner.Below.{IsShapedBelow};
 ghost use Rattle.radix_txn.specs.inner.Put.{IsPut, IsPutAt, IsPutUnder};
 

@@ -4,7 +4,7 @@ ghost use Rattle.mdb_datum.specs.Bytes.{Bytes};
 ghost use Rattle.radix_node.specs.CellNode.{cell_node, cell_ref};
 ghost use Rattle.radix_node.specs.Node.{below};
 ghost use Rattle.radix_node.specs.Nodes.{pairs_of};
-ghost use Rattle.radix_node.specs.inner.Siblings.{bare, cells_list};
+ghost use Rattle.radix_node.specs.Siblings.{bare, cells_list};
 ghost use Rattle.radix_txn.specs.declared.target.Target.{Target};
 ghost use Rattle.radix_txn.specs.inner.Below.{IsShapedBelow};
 ghost use Rattle.radix_txn.specs.inner.Gone.{IsGone, IsLeft, IsSettled, LeadsOn};
@@ -24,7 +24,7 @@ pub enum Gone {
     /// There is no such key, and all is as it was.
     Missing,
     /// The node is changed under one of its edges, and this went.
-    Kept(Deleted),
+    Under(Deleted),
     /// The node is as it was, and this is what is to stand in its place.
     Left(Removed),
 }
@@ -79,7 +79,7 @@ fn take_in(
     let edge = node.edges_mut().edge_mut(at);
     match take_at(edge.node_mut(), left, target, cells)? {
         Gone::Missing => Ok(Gone::Missing),
-        Gone::Kept(deleted) => Ok(Gone::Kept(deleted)),
+        Gone::Under(deleted) => Ok(Gone::Under(deleted)),
         Gone::Left(below) => settle_edge(node, at, below, cells),
     }
 }
@@ -152,7 +152,7 @@ fn settle_edge(
     } = below;
     let edge = node.edges_mut().edge_mut(at);
     if settle_node(edge.node_mut(), remains, cells)? {
-        return Ok(Gone::Kept(Deleted { row, count }));
+        return Ok(Gone::Under(Deleted { row, count }));
     }
     cells.leave(node.cell())?;
     Ok(Gone::Left(Removed {

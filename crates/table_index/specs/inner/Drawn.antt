@@ -5,7 +5,7 @@ use Rattle.radix_node.specs.Ids.{Counter}
 use Rattle.radix_txn.specs.Drawn.{IsWithin}
 use Rattle.radix_txn.specs.Txn.{Txn}
 use Rattle.table_index.specs.Table.{AreDrawn, AreSeparate}
-use Rattle.table_index.specs.inner.Held.{AreSound, starts_of, trees_of}
+use Rattle.table_index.specs.inner.IndexTrees.{AreSound, starts_of, trees_of}
 
 -- the trees of a table may be written, with ids of cells of the front's book
 pub record AreReady (front : Log) (ids : Counter) (txns : List Txn) : Type 0 where

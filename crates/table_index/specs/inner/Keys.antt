@@ -17,14 +17,14 @@ abbrev pub IsShort : Bytes → Type 0
 IsShort k = length k ≤ 1024
 
 -- the error tells the refusal, or want of memory
-abbrev pub Tells : {A : Type 0} → Tested A → WriteError → Type 0
-Tells told e =
+abbrev pub TellsRefusal : {A : Type 0} → Tested A → WriteError → Type 0
+TellsRefusal told e =
     (e ≡ write_errors.Memory) ⊎ ((why : WriteRefusal) × (told ≡ Err why) × (e ≡ write_error why))
 
 -- the answer is what the definition gives, or an error that tells why it isn't
-abbrev pub Answers : {A : Type 0} → Tested A → Result A WriteError → Type 0
-Answers told (Ok x) = told ≡ Ok x
-Answers told (Err e) = Tells told e
+abbrev pub IsTestedResult : {A : Type 0} → Tested A → Result A WriteError → Type 0
+IsTestedResult told (Ok x) = told ≡ Ok x
+IsTestedResult told (Err e) = TellsRefusal told e
 
 -- the error of a row that has no keys in the index at a place
 abbrev pub told_at : ℕ → KeyError → WriteError

@@ -1,7 +1,7 @@
 -- Steps of a walk over the pieces of two trees.
 use Rattle.std.specs.Prelude.{◌≡◌, ◌+◌, ◌<◌, ◌++◌, Bool, true, false, List, [], length}
 use Rattle.mdb_schema.specs.Net.{Net}
-use Rattle.mdb_schema.specs.inner.NetOfPairs.{net_of_pairs}
+use Rattle.mdb_schema.specs.NetOfPairs.{net_of_pairs}
 use Rattle.radix_node.specs.Cells.{Piece}
 use Rattle.radix_node.specs.Paths.{Has}
 use Rattle.table_index.specs.inner.PiecesIn.{pairs_in}

@@ -5,7 +5,7 @@ use Rattle.mdb_datum.specs.Row.{Fields, Pair}
 use Rattle.mdb_encode.specs.Bytes.{Bytes}
 use Rattle.mdb_schema.specs.Schema.{IndexSchema, TableSchema}
 use Rattle.mdb_schema.specs.Write.{Changed, is_among, put_row}
-use Rattle.mdb_schema.specs.inner.Edits.{full_keys_of}
+use Rattle.mdb_schema.specs.Edits.{full_keys_of}
 use Rattle.radix_node.specs.Pairs.{find}
 use Rattle.table_index.specs.inner.TreeEdits.{NewAndOld}
 

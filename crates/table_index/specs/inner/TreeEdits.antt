@@ -6,12 +6,12 @@ use Rattle.mdb_encode.specs.Bytes.{Bytes}
 use Rattle.mdb_schema.specs.Refusals.{write_error}
 use Rattle.mdb_schema.specs.Schema.{TableSchema}
 use Rattle.mdb_schema.specs.Write.{Tested, Changed, WriteRefusal}
-use Rattle.mdb_schema.specs.inner.Edits.{put_all, stale_keys, without_all}
+use Rattle.mdb_schema.specs.Edits.{put_all, stale_keys, without_all}
 use Rattle.mdb_schema.specs.declared.write_error.WriteError.{WriteError}
 use Rattle.mdb_schema.specs.declared.write_error.WriteError.TheVariants.{Memory, IdsSpent}
 use Rattle.radix_txn.specs.Txn.{Txn}
 use Rattle.table_index.specs.Table.{AreSpent}
-use Rattle.table_index.specs.inner.Held.{AreSound, AreTrees, nodes_of, rows_held}
+use Rattle.table_index.specs.inner.IndexTrees.{AreSound, AreTrees, nodes_of, rows_held}
 
 -- each tree edited by what stands at its place
 abbrev pub edited_each : {K : Type 0} → (K → List Pair → List Pair) → List K → List (List Pair)

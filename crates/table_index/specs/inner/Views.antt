@@ -5,7 +5,7 @@ use Rattle.mdb_encode.specs.Bytes.{Bytes}
 use Rattle.mdb_schema.specs.Answer.{Lookup}
 use Rattle.table_index.specs.Spot.{SpotOf}
 use Rattle.table_index.specs.Table.{TableRows, TableChange}
-use Rattle.table_index.specs.inner.Held.{AreSound, AreTrees, nodes_of, plains, rows_held, starts_of, trees_of}
+use Rattle.table_index.specs.inner.IndexTrees.{AreSound, AreTrees, nodes_of, plains, rows_held, starts_of, trees_of}
 use Rattle.table_index.specs.inner.Keys.{IsShort}
 use Rattle.table_index.specs.inner.Lookups.{key_or_empty}
 use Rattle.table_index.specs.declared.id_key.IdKey.TheInside as id_key

@@ -20,7 +20,7 @@ use Rattle.radix_txn.specs.Txn.{Txn, txn_pairs}
 use Rattle.table_index.specs.Table.{AreLeft, AreSpent}
 use Rattle.table_index.specs.declared.wipe_error.WipeError.{WipeError}
 use Rattle.table_index.specs.declared.wipe_error.WipeError.TheVariants.{IdsSpent, Memory, Refused}
-use Rattle.table_index.specs.inner.Held.{AreSound, AreTrees, nodes_of, rows_held}
+use Rattle.table_index.specs.inner.IndexTrees.{AreSound, AreTrees, nodes_of, rows_held}
 use Rattle.table_index.specs.inner.TreeEdits.{without_each}
 
 -- the rows that an index, if there is one, lists under a key

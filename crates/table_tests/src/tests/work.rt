@@ -23,7 +23,7 @@ pub struct Base {
 impl Model for Base {
     ghost use Rattle.std.specs.Prelude.{◌≡◌};
     ghost use Rattle.table_index.specs.Table.{AreAllBelow, AreAllOf, TableRows};
-    ghost use Rattle.table_index.specs.inner.Stored.{table_rows_code};
+    ghost use Rattle.table_index.specs.Codes.{table_rows_code};
 
     ghost Value = { TableRows };
 
@@ -99,7 +99,7 @@ pub struct Work {
 impl Model for Work {
     ghost use Rattle.std.specs.Prelude.{◌≡◌};
     ghost use Rattle.table_index.specs.Table.{AreAllBelow, AreAllOf, TableChange};
-    ghost use Rattle.table_index.specs.inner.Stored.{table_change_code};
+    ghost use Rattle.table_index.specs.Codes.{table_change_code};
 
     ghost Value = { TableChange };
 

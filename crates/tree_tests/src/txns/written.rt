@@ -55,7 +55,7 @@ impl Model for Work {
     ghost use Rattle.std.specs.Prelude.{◌≡◌};
     ghost use Rattle.radix_node.specs.Cells.{AreBelow, AreOf};
     ghost use Rattle.radix_txn.specs.Txn.{Txn};
-    ghost use Rattle.radix_txn.specs.inner.Stored.{txn_code};
+    ghost use Rattle.radix_txn.specs.Codes.{txn_code};
 
     ghost Value = { Txn };
 

@@ -3,7 +3,7 @@
 ghost use Rattle.std.specs.Prelude.{◌≡◌, [], Some};
 ghost use Rattle.mem_txn.specs.Database.{Caller, IsOf};
 ghost use Rattle.mem_txn.specs.CallerOf.{IsCaller};
-ghost use Rattle.mem_txn.specs.Transactions.{changes_of};
+ghost use Rattle.mem_txn.specs.Transactions.{txn_of};
 
 use super::long_run::kept_of;
 use super::worked::is_row;
@@ -293,9 +293,9 @@ fn is_first_alone(first: Told, second: Told) -> Told {
 
 /// While one caller's transaction is open, a try of the other finds it taken; then it begins one.
 fn try_beside<R: Wait>(rt: &R, db: &Db, txn: Txn, two: Pass) -> (Pass, Pass, Told)
-    requires one { IsOf db.now (changes_of txn).caller }
+    requires one { IsOf db.now (txn_of txn).caller }
     requires two { IsOf db.now two }
-    ensures one { IsCaller db.now (changes_of txn).caller.number result.0 }
+    ensures one { IsCaller db.now (txn_of txn).caller.number result.0 }
     ensures two { IsCaller db.now two.number result.1 }
 {
     let (two, first) = is_taken(rt, db, two);

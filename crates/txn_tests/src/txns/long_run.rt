@@ -3,7 +3,7 @@
 //! another cell, and else the answer is as it was.
 ghost use Rattle.std.specs.Prelude.{◌≡◌};
 ghost use Rattle.mem_txn.specs.CallerOf.{IsCaller};
-ghost use Rattle.mem_txn.specs.Transactions.{changes_of};
+ghost use Rattle.mem_txn.specs.Transactions.{txn_of};
 
 use super::drawn::{Drawn, Plain, QUESTIONS, listed, wipe_plain};
 use super::watches::watched_of;
@@ -19,14 +19,14 @@ use watch_word::Front;
 
 /// Whether a transaction answers a question as the plain lists.
 fn ask_both(alloc: Global, plain: &Plain, txn: &mut Txn, asked: &Asked) -> Told
-    ensures { (changes_of txn.new).caller ≡ (changes_of txn.old).caller }
+    ensures { (txn_of txn.new).caller ≡ (txn_of txn.old).caller }
 {
     is_own(alloc, txn, &asked.0, &listed(alloc, plain, asked)?)
 }
 
 /// Whether the snapshot of a transaction does.
 fn snapshot_both(alloc: Global, plain: &Plain, txn: &mut Txn, asked: &Asked) -> Told
-    ensures { (changes_of txn.new).caller ≡ (changes_of txn.old).caller }
+    ensures { (txn_of txn.new).caller ≡ (txn_of txn.old).caller }
 {
     match txn.snapshot() {
         Ok(kept) => is_kept(alloc, &kept, &asked.0, &listed(alloc, plain, asked)?),
@@ -46,7 +46,7 @@ pub fn are_read(alloc: Global, read: &ReadTxn, plain: &Plain) -> Told {
 
 /// Whether a drawn operation is answered alike.
 fn operate(alloc: Global, drawn: &mut Drawn, txn: &mut Txn) -> Told
-    ensures { (changes_of txn.new).caller ≡ (changes_of txn.old).caller }
+    ensures { (txn_of txn.new).caller ≡ (txn_of txn.old).caller }
 {
     let asked = drawn.random.question();
     match drawn.random.below(12) {
@@ -60,7 +60,7 @@ fn operate(alloc: Global, drawn: &mut Drawn, txn: &mut Txn) -> Told
 
 /// Whether some operations are answered alike.
 fn operate_often(alloc: Global, drawn: &mut Drawn, txn: &mut Txn) -> Told
-    ensures { (changes_of txn.new).caller ≡ (changes_of txn.old).caller }
+    ensures { (txn_of txn.new).caller ≡ (txn_of txn.old).caller }
 {
     for _ in 0..drawn.random.below(6) {
         if !operate(alloc, drawn, txn)? {
@@ -109,15 +109,15 @@ static ASKED: [Question; 20] = [
 
 /// A held watch with a log of its book, and the answer that it was given; seen as the watch.
 #[derive(Drop)]
-pub struct Kept {
+pub struct HeldAnswer {
     held: Held,
     log: Front,
     told: Vec<u8>,
 }
 
-impl Model for Kept {
+impl Model for HeldAnswer {
     ghost use Rattle.mem_txn.specs.Held.{HeldWatch};
-    ghost use Rattle.mem_txn.specs.inner.StoredHeld.{held_code};
+    ghost use Rattle.mem_txn.specs.HeldCode.{held_code};
     ghost use Rattle.std.specs.Prelude.{◌≡◌};
 
     ghost Value = { HeldWatch };
@@ -131,12 +131,16 @@ impl Model for Kept {
 }
 
 /// A held watch with a log of its book, and the answer that it was given.
-fn kept_with(held: Held, log: &Front, told: Result<Vec<u8>, AllocError>) -> Result<Kept, AllocError>
+fn kept_with(
+    held: Held,
+    log: &Front,
+    told: Result<Vec<u8>, AllocError>,
+) -> Result<HeldAnswer, AllocError>
     requires { let h = held in let spot = h.spot in let cell = spot.watch in
         cell.book ≡ log.now.book }
 {
     let told = told?;
-    Ok(Kept {
+    Ok(HeldAnswer {
         held,
         log: log.share(),
         told,
@@ -144,7 +148,12 @@ fn kept_with(held: Held, log: &Front, told: Result<Vec<u8>, AllocError>) -> Resu
 }
 
 /// The watch of a question in a state, whose log is of the same book.
-fn watch_of(alloc: Global, read: &ReadTxn, log: &Front, query: &Query) -> Result<Kept, AllocError>
+fn watch_of(
+    alloc: Global,
+    read: &ReadTxn,
+    log: &Front,
+    query: &Query,
+) -> Result<HeldAnswer, AllocError>
     requires { log.now.book ≡ read.now.book }
 {
     let (answer, held) = watched_of(read, query)?;
@@ -157,7 +166,7 @@ fn watch_asked(
     read: &ReadTxn,
     log: &Front,
     question: &Question,
-) -> Result<Kept, AllocError>
+) -> Result<HeldAnswer, AllocError>
     requires { log.now.book ≡ read.now.book }
 {
     let query = query_of(alloc, question)?;
@@ -166,21 +175,27 @@ fn watch_asked(
 
 /// Whether a watch has fired exactly where its question has another cell now, and else its answer
 /// is as it was.
-fn is_right(kept: &Kept, next: &Kept) -> bool {
+fn is_right(kept: &HeldAnswer, next: &HeldAnswer) -> bool {
     let fired = kept.held.watch().moved(&kept.log).fired;
     fired == (next.held.id() != kept.held.id())
         && (fired || next.told.as_slice() == kept.told.as_slice())
 }
 
 /// Holds the next watch of a question, where it has another cell or where that is said.
-fn hold_next(kept: &mut Kept, next: Kept, anew: bool) {
+fn hold_next(kept: &mut HeldAnswer, next: HeldAnswer, anew: bool) {
     if anew || next.held.id() != kept.held.id() {
         *kept = next;
     }
 }
 
 /// Whether a watch is right. One that has fired is held anew, and so is another where that is said.
-fn is_right_now(alloc: Global, kept: &mut Kept, read: &ReadTxn, log: &Front, anew: bool) -> Told
+fn is_right_now(
+    alloc: Global,
+    kept: &mut HeldAnswer,
+    read: &ReadTxn,
+    log: &Front,
+    anew: bool,
+) -> Told
     requires { log.now.book ≡ read.now.book }
 {
     let next = watch_of(alloc, read, log, kept.held.query())?;
@@ -192,7 +207,7 @@ fn is_right_now(alloc: Global, kept: &mut Kept, read: &ReadTxn, log: &Front, ane
 /// Whether all watches are right. Those that have fired are held anew, and so is one more.
 fn are_right(
     alloc: Global,
-    watches: &mut Vec<Kept>,
+    watches: &mut Vec<HeldAnswer>,
     read: &ReadTxn,
     log: &Front,
     turn: usize,
@@ -208,7 +223,7 @@ fn are_right(
 }
 
 /// The watches of a state, each question twice.
-fn all_kept(alloc: Global, read: &ReadTxn, log: &Front) -> Result<Vec<Kept>, AllocError>
+fn all_kept(alloc: Global, read: &ReadTxn, log: &Front) -> Result<Vec<HeldAnswer>, AllocError>
     requires { log.now.book ≡ read.now.book }
 {
     let mut watches = Vec::with_capacity(alloc, 40)?;
@@ -223,7 +238,7 @@ fn is_right_read(
     alloc: Global,
     read: &ReadTxn,
     plain: &Plain,
-    watches: &mut Vec<Kept>,
+    watches: &mut Vec<HeldAnswer>,
     log: &Front,
     turn: usize,
 ) -> Told
@@ -239,7 +254,7 @@ fn run_read<R: Wait>(
     db: &Db,
     pass: Pass,
     drawn: &mut Drawn,
-    watches: &mut Vec<Kept>,
+    watches: &mut Vec<HeldAnswer>,
     log: &Front,
     turn: usize,
 ) -> (Pass, Told)
@@ -266,7 +281,7 @@ fn run_often<R: Wait>(
     db: &Db,
     pass: Pass,
     drawn: &mut Drawn,
-    watches: &mut Vec<Kept>,
+    watches: &mut Vec<HeldAnswer>,
     log: &Front,
     count: usize,
 ) -> (Pass, Told)
@@ -309,7 +324,7 @@ fn outlives<R: Wait>(
     db: &Db,
     pass: Pass,
     drawn: &mut Drawn,
-    watches: &mut Vec<Kept>,
+    watches: &mut Vec<HeldAnswer>,
     log: &Front,
     kept: &ReadTxn,
 ) -> (Pass, Told)
@@ -331,7 +346,7 @@ fn is_kept_long<R: Wait>(
     alloc: Global,
     db: &Db,
     pass: Pass,
-    watches: &mut Vec<Kept>,
+    watches: &mut Vec<HeldAnswer>,
     log: &Front,
 ) -> (Pass, Told)
     requires own { IsCaller db.now 1 pass }
@@ -372,7 +387,7 @@ fn first_watches<R: Wait>(
     db: &Db,
     pass: Pass,
     log: &Front,
-) -> (Pass, Result<Vec<Kept>, AllocError>)
+) -> (Pass, Result<Vec<HeldAnswer>, AllocError>)
     requires own { IsCaller db.now 1 pass }
     requires log { log.now.book ≡ pass.book }
     ensures own { IsCaller db.now 1 result.0 }

@@ -1,7 +1,7 @@
 //! What a commit tells of tracked tables.
 ghost use Rattle.std.specs.Prelude.{◌≡◌};
 ghost use Rattle.mem_txn.specs.CallerOf.{IsCaller};
-ghost use Rattle.mem_txn.specs.Transactions.{changes_of};
+ghost use Rattle.mem_txn.specs.Transactions.{txn_of};
 
 use super::drawn::{Drawn, Plain, text_of};
 use super::worked::{Step, Steps, is_row};
@@ -289,7 +289,7 @@ fn numbered(alloc: Global, number: u64) -> Result<String, AllocError> {
 
 /// Puts a new row with a number.
 fn put_numbered(alloc: Global, txn: &mut Txn, number: u64) -> Result<(), AllocError>
-    ensures { (changes_of txn.new).caller ≡ (changes_of txn.old).caller }
+    ensures { (txn_of txn.new).caller ≡ (txn_of txn.old).caller }
 {
     let row = row_of(alloc, &numbered(alloc, number)?)?;
     match txn.insert("t", &row) {

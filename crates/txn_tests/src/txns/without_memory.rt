@@ -2,7 +2,7 @@
 //! caller as before.
 ghost use Rattle.std.specs.Prelude.{◌≡◌};
 ghost use Rattle.mem_txn.specs.CallerOf.{IsCaller};
-ghost use Rattle.mem_txn.specs.Transactions.{changes_of};
+ghost use Rattle.mem_txn.specs.Transactions.{txn_of};
 
 use super::drawn::{Drawn, Plain, table_of, text_of};
 use super::long_run::are_read;
@@ -17,7 +17,7 @@ use std::test::Fail;
 
 /// Whether the insert of a row finds memory.
 fn is_put(alloc: Global, txn: &mut Txn, table: &str, text: &str) -> Told
-    ensures { (changes_of txn.new).caller ≡ (changes_of txn.old).caller }
+    ensures { (txn_of txn.new).caller ≡ (txn_of txn.old).caller }
 {
     let row = row_of(alloc, text)?;
     Ok(txn.insert(table, &row).is_ok())
@@ -25,7 +25,7 @@ fn is_put(alloc: Global, txn: &mut Txn, table: &str, text: &str) -> Told
 
 /// Inserts some rows, and tells whether one found no memory. Then the transaction is spoiled.
 fn insert_some(alloc: Global, drawn: &mut Drawn, txn: &mut Txn) -> Told
-    ensures { (changes_of txn.new).caller ≡ (changes_of txn.old).caller }
+    ensures { (txn_of txn.new).caller ≡ (txn_of txn.old).caller }
 {
     for place in 4..8 {
         let row = drawn.random.row(place);
@@ -49,7 +49,7 @@ fn end<R: Wait>(
     before: Plain,
     plain: &mut Plain,
 ) -> (Pass, Told)
-    requires own { IsCaller db.now 1 (changes_of txn).caller }
+    requires own { IsCaller db.now 1 (txn_of txn).caller }
     ensures { IsCaller db.now 1 result.0 }
 {
     match txn.commit(rt, db) {
@@ -66,7 +66,7 @@ fn end<R: Wait>(
 
 /// Whether the snapshot of a transaction tells that it is spoiled.
 fn is_spoiled(txn: &mut Txn) -> bool
-    ensures { (changes_of txn.new).caller ≡ (changes_of txn.old).caller }
+    ensures { (txn_of txn.new).caller ≡ (txn_of txn.old).caller }
 {
     matches!(txn.snapshot(), Err(SnapError::Spoiled))
 }
@@ -81,7 +81,7 @@ fn end_shown<R: Wait>(
     before: Plain,
     plain: &mut Plain,
 ) -> (Pass, Told)
-    requires own { IsCaller db.now 1 (changes_of txn).caller }
+    requires own { IsCaller db.now 1 (txn_of txn).caller }
     ensures { IsCaller db.now 1 result.0 }
 {
     let mut txn = txn;
@@ -92,7 +92,7 @@ fn end_shown<R: Wait>(
 
 /// Tries a transaction, and tells whether it is answered right. Then these are the rows.
 fn try_begun<R: Wait>(rt: &R, alloc: Global, db: &Db, txn: Txn, drawn: &mut Drawn) -> (Pass, Told)
-    requires own { IsCaller db.now 1 (changes_of txn).caller }
+    requires own { IsCaller db.now 1 (txn_of txn).caller }
     ensures { IsCaller db.now 1 result.0 }
 {
     let mut txn = txn;

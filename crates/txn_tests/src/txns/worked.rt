@@ -1,7 +1,7 @@
 //! Worked examples: transactions on a database, each write and question with its answer.
 ghost use Rattle.std.specs.Prelude.{◌≡◌};
 ghost use Rattle.mem_txn.specs.CallerOf.{IsCaller};
-ghost use Rattle.mem_txn.specs.Transactions.{changes_of};
+ghost use Rattle.mem_txn.specs.Transactions.{txn_of};
 
 use super::{Question, Told, Txn, Work, closed, is_told, pair, query_of, row_of, transact};
 use mdb_datum::Row;
@@ -75,7 +75,7 @@ fn put_word(replaced: bool) -> &'static str {
 
 /// Whether a row is put so.
 pub fn is_put(alloc: Global, txn: &mut Txn, line: &Line) -> Told
-    ensures { (changes_of txn.new).caller ≡ (changes_of txn.old).caller }
+    ensures { (txn_of txn.new).caller ≡ (txn_of txn.old).caller }
 {
     match txn.insert(line.0, &row_of(alloc, line.1)?) {
         Ok(replaced) => is_word(line.2, put_word(replaced)),
@@ -90,7 +90,7 @@ pub fn is_row(row: &Row, expected: &str) -> Told {
 
 /// Whether a row is taken out so.
 pub fn is_deleted(alloc: Global, txn: &mut Txn, line: &Line) -> Told
-    ensures { (changes_of txn.new).caller ≡ (changes_of txn.old).caller }
+    ensures { (txn_of txn.new).caller ≡ (txn_of txn.old).caller }
 {
     match txn.delete(line.0, &row_of(alloc, line.1)?) {
         Ok(old) => is_row(&old, line.2),
@@ -100,7 +100,7 @@ pub fn is_deleted(alloc: Global, txn: &mut Txn, line: &Line) -> Told
 
 /// Takes out the rows that a question lists.
 fn wiped(txn: &mut Txn, query: &Query, by_prefix: bool) -> Result<u64, TxnWipeError>
-    ensures { (changes_of txn.new).caller ≡ (changes_of txn.old).caller }
+    ensures { (txn_of txn.new).caller ≡ (txn_of txn.old).caller }
 {
     if by_prefix {
         txn.delete_prefix(query)
@@ -111,7 +111,7 @@ fn wiped(txn: &mut Txn, query: &Query, by_prefix: bool) -> Result<u64, TxnWipeEr
 
 /// Whether so many rows are taken out that a question lists.
 pub fn is_wiped(alloc: Global, txn: &mut Txn, question: &Question, count: u64) -> Told
-    ensures { (changes_of txn.new).caller ≡ (changes_of txn.old).caller }
+    ensures { (txn_of txn.new).caller ≡ (txn_of txn.old).caller }
 {
     let query = query_of(alloc, question)?;
     match wiped(txn, &query, question.2.ends_with("_prefix")) {
@@ -139,7 +139,7 @@ fn own_answer(answer: Result<Answer, TxnAskError>) -> Result<Answer, AskError> {
 
 /// Whether a transaction answers a question so.
 pub fn is_own(alloc: Global, txn: &mut Txn, question: &Question, expected: &str) -> Told
-    ensures { (changes_of txn.new).caller ≡ (changes_of txn.old).caller }
+    ensures { (txn_of txn.new).caller ≡ (txn_of txn.old).caller }
 {
     let answer = txn.ask(&query_of(alloc, question)?);
     is_answered(alloc, own_answer(answer), expected)
@@ -191,7 +191,7 @@ fn is_told_twice(alloc: Global, read: &ReadTxn, asked: &Asked) -> Told {
 
 /// Whether an item is deferred.
 fn is_deferred(alloc: Global, txn: &mut Txn, item: &str) -> Told
-    ensures { (changes_of txn.new).caller ≡ (changes_of txn.old).caller }
+    ensures { (txn_of txn.new).caller ≡ (txn_of txn.old).caller }
 {
     match txn.defer(String::from_str(alloc, item)?) {
         Ok(()) => Ok(true),
@@ -201,7 +201,7 @@ fn is_deferred(alloc: Global, txn: &mut Txn, item: &str) -> Told
 
 /// Whether a step is answered so.
 fn is_done(alloc: Global, txn: &mut Txn, step: &Step) -> Told
-    ensures { (changes_of txn.new).caller ≡ (changes_of txn.old).caller }
+    ensures { (txn_of txn.new).caller ≡ (txn_of txn.old).caller }
 {
     match step {
         Step::Insert(line) => is_put(alloc, txn, line),
@@ -214,7 +214,7 @@ fn is_done(alloc: Global, txn: &mut Txn, step: &Step) -> Told
 
 /// Whether each step is answered so.
 fn are_done(alloc: Global, txn: &mut Txn, steps: &[Step]) -> Told
-    ensures { (changes_of txn.new).caller ≡ (changes_of txn.old).caller }
+    ensures { (txn_of txn.new).caller ≡ (txn_of txn.old).caller }
 {
     for step in steps {
         if !is_done(alloc, txn, step)? {
@@ -257,7 +257,7 @@ struct Play {
 
 /// The snapshot after some steps of a transaction.
 fn snapshot_after(alloc: Global, txn: &mut Txn, steps: &[Step]) -> Result<Snapshot, AllocError>
-    ensures { (changes_of txn.new).caller ≡ (changes_of txn.old).caller }
+    ensures { (txn_of txn.new).caller ≡ (txn_of txn.old).caller }
 {
     if !are_done(alloc, txn, steps)? {
         return Err(AllocError);
@@ -270,7 +270,7 @@ fn snapshot_after(alloc: Global, txn: &mut Txn, steps: &[Step]) -> Result<Snapsh
 
 /// The snapshot between the steps of a transaction.
 fn between(alloc: Global, txn: &mut Txn, turn: &Turn) -> Result<Snapshot, AllocError>
-    ensures { (changes_of txn.new).caller ≡ (changes_of txn.old).caller }
+    ensures { (txn_of txn.new).caller ≡ (txn_of txn.old).caller }
 {
     let snapshot = snapshot_after(alloc, txn, turn.first)?;
     if are_done(alloc, txn, turn.next)? {

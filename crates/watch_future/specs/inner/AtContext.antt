@@ -7,13 +7,13 @@ use Rattle.futures.specs.declared.task.context.Context.{Context}
 use Rattle.watch_future.specs.Facts.{Fact}
 use Rattle.watch_future.specs.Facts.Fact.{lent, in_context, in_order}
 use Rattle.watch_future.specs.declared.cx_notes.CxNotes.{CxNotes}
-use Rattle.watch_future.specs.declared.kept.Kept.{Kept}
+use Rattle.watch_future.specs.declared.noted_watch.NotedWatch.{NotedWatch}
 
 abbrev pub Noting : Type 0
-Noting = CxNotes (Vec Kept Global)
+Noting = CxNotes (Vec NotedWatch Global)
 
 -- the poll has registered at the source of each
-abbrev pub AreHeard : Context → List Kept → Type 0
+abbrev pub AreHeard : Context → List NotedWatch → Type 0
 AreHeard cx [] = Unit {0}
 AreHeard cx (k ∷ ks) = Hears cx k.source.id × AreHeard cx ks
 

@@ -2,9 +2,9 @@
 use Rattle.std.specs.Prelude.{List, refl}
 use Rattle.std.specs.Coded.{Coded, code_by, coded×, coded_list}
 use Rattle.mdb_datum.specs.Bytes.{Bytes}
-use Rattle.mdb_schema.specs.inner.Stored.{name_code}
+use Rattle.mdb_schema.specs.Codes.{name_code}
 use Rattle.mem_txn.specs.Held.{HeldWatch}
-use Rattle.mem_txn.specs.inner.StoredHeld.{held_code}
+use Rattle.mem_txn.specs.HeldCode.{held_code}
 use Rattle.watch_set.specs.Members.{Member}
 
 abbrev pub member_code : Coded Member

@@ -38,7 +38,7 @@ AreNumbered (Home j id ∷ es) = AreNumbered es
 AreNumbered (Fired j n ∷ es) = (0 < n) × AreNumbered es
 
 -- Key 0 is the anchor, and key 1 a word that is never used.
-pub record IsKept (cells : List Cell) (log : List Event) : Type 0 where
+pub record KeepsRule (cells : List Cell) (log : List Event) : Type 0 where
   pub anchor : (1 < length cells) × (cell cells 0 ≡ (0, true))
   pub home : (k : ℕ) → is_home k log ≡ true
       → (1 < k) × (k < length cells) × (cell cells k ≡ (number_of k log, true))

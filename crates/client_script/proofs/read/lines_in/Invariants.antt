@@ -3,7 +3,7 @@ use denote.Text.{Utf8}
 use denote.Shadow.{shadow}
 use Rattle.client_script.specs.Lines.{lines_of}
 use Rattle.client_script.specs.Script.{lines_in}
-use Rattle.client_script.specs.inner.FirstLine.{put_before}
+use Rattle.client_script.proofs.LineSplits.{put_before}
 use Rattle.client_script.proofs.read.lines_in.Given as goal
 
 -- the lines so far, and then what the rest reads as, are what all reads as

@@ -12,7 +12,7 @@ use Rattle.client_session.proofs.OpenTurns.{later_self, on_err}
 use Rattle.client_session.proofs.run.answer_lines.Goals as goal
 
 pub loop-at-init : goal.loop-at-init
-loop-at-init g c = from_here c.args.script.now c.args.from c.args.desk c.args.transcript.now c.requires.so_far
+loop-at-init g c = from_here c.args.script.now c.args.from c.args.state c.args.transcript.now c.requires.so_far
 
 pub unreachable-requires : goal.unreachable-requires
 unreachable-requires g c =
@@ -24,35 +24,35 @@ unreachable-requires g c =
     cc
 
 pub answer_line-next-requires-clause-own : goal.answer_line-next-requires-clause-own
-answer_line-next-requires-clause-own g c = own_later c.args.db.now (caller_of c.args.desk.«open») (caller_of c.loop-at.desk.«open») c.requires.own c.loop-at.invariant.carried.later
+answer_line-next-requires-clause-own g c = own_later c.args.db.now (caller_of c.args.state.«open») (caller_of c.loop-at.state.«open») c.requires.own c.loop-at.invariant.carried.later
 
 pub answer_line-next-requires-clause-holds : goal.answer_line-next-requires-clause-holds
-answer_line-next-requires-clause-holds g c = holds_now (caller_of c.args.desk.«open») c.args.script.now c.args.from c.loop-at.at c.loop-at.desk c.args.transcript.now c.loop-at.transcript c.loop-at.invariant
+answer_line-next-requires-clause-holds g c = holds_now (caller_of c.args.state.«open») c.args.script.now c.args.from c.loop-at.at c.loop-at.state c.args.transcript.now c.loop-at.transcript c.loop-at.invariant
 
 pub answer_line-next-requires-clause-room : goal.answer_line-next-requires-clause-room
 answer_line-next-requires-clause-room g c =
     let lt = c.loop-at-test.true in
     let len = c.len-at-end.ensures in
-    room_carried (caller_of c.args.desk.«open») c.args.script.now c.args.from c.loop-at.at c.args.transcript.now c.loop-at.desk c.loop-at.transcript c.loop-at.invariant (omega (arith, lt, len)) (omega (arith, lt, len))
+    room_carried (caller_of c.args.state.«open») c.args.script.now c.args.from c.loop-at.at c.args.transcript.now c.loop-at.state c.loop-at.transcript c.loop-at.invariant (omega (arith, lt, len)) (omega (arith, lt, len))
 
 pub loop-at-preserved : goal.loop-at-preserved
-loop-at-preserved g c = next (caller_of c.args.desk.«open») c.args.script.now c.args.from c.loop-at.at c.loop-at.desk c.answer_line-next.result.0 c.args.transcript.now c.loop-at.transcript c.answer_line-next.new.transcript c.in-Some.line.now (sym c.get.ensures ∙ ap option_copied c.in-Some.is) c.loop-at.invariant (was_ok c.answer_line-next.result.1 (search (rules)) c.answer_line-next.ensures.answered)
+loop-at-preserved g c = next (caller_of c.args.state.«open») c.args.script.now c.args.from c.loop-at.at c.loop-at.state c.answer_line-next.result.0 c.args.transcript.now c.loop-at.transcript c.answer_line-next.new.transcript c.in-Some.line.now (sym c.get.ensures ∙ ap option_copied c.in-Some.is) c.loop-at.invariant (was_ok c.answer_line-next.result.1 (search (rules)) c.answer_line-next.ensures.answered)
 
 pub returns-then-is_err-clause-told : goal.returns-then-is_err-clause-told
-returns-then-is_err-clause-told g c = kept_some (caller_of c.args.desk.«open») (caller_of c.answer_line-next.result.0.«open») c.args.script.now c.args.from c.loop-at.at c.loop-at.desk c.args.transcript.now c.loop-at.transcript c.answer_line-next.new.transcript c.answer_line-next.ensures.caller (was_err c.answer_line-next.result.1 (search (rules)) c.answer_line-next.ensures.kept) c.loop-at.invariant
+returns-then-is_err-clause-told g c = kept_some (caller_of c.args.state.«open») (caller_of c.answer_line-next.result.0.«open») c.args.script.now c.args.from c.loop-at.at c.loop-at.state c.args.transcript.now c.loop-at.transcript c.answer_line-next.new.transcript c.answer_line-next.ensures.caller (was_err c.answer_line-next.result.1 (search (rules)) c.answer_line-next.ensures.kept) c.loop-at.invariant
 
 pub returns-clause-told : goal.returns-clause-told
 returns-clause-told g c =
     let end : c.loop-at.at ≡ c.len.result = search (arith, rules) in
-    let pass = caller_of c.args.desk.«open» in
-    let back = caller_of c.loop-at.desk.«open» in
-    let told = kept_some pass back c.args.script.now c.args.from c.loop-at.at c.loop-at.desk c.args.transcript.now c.loop-at.transcript c.loop-at.transcript (later_self back) refl c.loop-at.invariant in
+    let pass = caller_of c.args.state.«open» in
+    let back = caller_of c.loop-at.state.«open» in
+    let told = kept_some pass back c.args.script.now c.args.from c.loop-at.at c.loop-at.state c.args.transcript.now c.loop-at.transcript c.loop-at.transcript (later_self back) refl c.loop-at.invariant in
     subst (λ (n : ℕ). AddsSome pass back c.args.script.now c.args.from n c.args.transcript.now c.loop-at.transcript) end told
 
 pub returns-clause-answered : goal.returns-clause-answered
 returns-clause-answered g c =
     let end : c.loop-at.at ≡ c.len.result = search (arith, rules) in
-    subst (λ (n : ℕ). CarriedOn (caller_of c.args.desk.«open») c.args.script.now c.args.from n c.args.transcript.now c.loop-at.desk c.loop-at.transcript) end c.loop-at.invariant
+    subst (λ (n : ℕ). CarriedOn (caller_of c.args.state.«open») c.args.script.now c.args.from n c.args.transcript.now c.loop-at.state c.loop-at.transcript) end c.loop-at.invariant
 
 pub returns-then-is_err-clause-stopped : goal.returns-then-is_err-clause-stopped
-returns-then-is_err-clause-stopped g c = on_err _ (stops_here (caller_of c.args.desk.«open») (caller_of c.answer_line-next.result.0.«open») c.args.script.now c.args.from c.loop-at.at c.loop-at.desk c.args.transcript.now c.loop-at.transcript c.answer_line-next.new.transcript c.in-Some.line.now (sym c.get.ensures ∙ ap option_copied c.in-Some.is) c.answer_line-next.ensures.caller (was_err c.answer_line-next.result.1 (search (rules)) c.answer_line-next.ensures.kept) (was_err c.answer_line-next.result.1 (search (rules)) c.answer_line-next.ensures.stopped) c.loop-at.invariant)
+returns-then-is_err-clause-stopped g c = on_err _ (stops_here (caller_of c.args.state.«open») (caller_of c.answer_line-next.result.0.«open») c.args.script.now c.args.from c.loop-at.at c.loop-at.state c.args.transcript.now c.loop-at.transcript c.answer_line-next.new.transcript c.in-Some.line.now (sym c.get.ensures ∙ ap option_copied c.in-Some.is) c.answer_line-next.ensures.caller (was_err c.answer_line-next.result.1 (search (rules)) c.answer_line-next.ensures.kept) (was_err c.answer_line-next.result.1 (search (rules)) c.answer_line-next.ensures.stopped) c.loop-at.invariant)

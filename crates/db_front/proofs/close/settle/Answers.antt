@@ -2,7 +2,7 @@ use Rattle.std.proofs.Common.{rules, ◌≡◌, ◌+◌, ◌^◌, ◌<◌, ◌�
 use Rattle.std.proofs.lemmas.Grind.{common_steps}
 use mathlib.Core.Option.{none}
 use Rattle.atomic_table.specs.Table.{step}
-use Rattle.db_front.specs.Commits.{HasFirings}
+use Rattle.db_front.specs.Commits.{HasFirstFirings}
 use Rattle.db_front.proofs.LoadSteps.{counts, notes}
 use Rattle.db_front.proofs.SeatSteps.{ended}
 use Rattle.db_front.proofs.WholeSeats.{own_few, own_turn}
@@ -36,6 +36,6 @@ returns g c =
       told.1 ∙ k.2 ∙ sym told.0,
       subst (λ n. n ≤ 2 ^ 63) (sym told.0) k.4,
       subst (λ v. g.V.Version.stands e.0 v) (sym c.shown.ensures.value) e.3,
-      subst (λ n. HasFirings g.V.Version.fired n e.0 c.shown.result.log) (sym told.1)
-          (subst (λ l. HasFirings g.V.Version.fired c.load-finished.result e.0 l) (sym c.shown.ensures.log) k.5),
+      subst (λ n. HasFirstFirings g.V.Version.fired n e.0 c.shown.result.log) (sym told.1)
+          (subst (λ l. HasFirstFirings g.V.Version.fired c.load-finished.result e.0 l) (sym c.shown.ensures.log) k.5),
     )

@@ -2,7 +2,7 @@ use Rattle.std.proofs.Common.{rules, ◌∙◌, ℕ, List, ◌<◌, [], ◌∷�
 use Rattle.std.proofs.lemmas.Grind.{common_steps}
 use mathlib.Core.Option.{none}
 use Rattle.atomic_table.specs.Table.{step}
-use Rattle.db_front.specs.inner.Kept.{HasAll}
+use Rattle.db_front.proofs.ShownTurns.{HasAll}
 use Rattle.db_front.specs.inner.Seats.{outs_of}
 use Rattle.db_front.proofs.AllPasses.{if_some_so}
 use Rattle.db_front.proofs.Stacks.{at_top, top_all, holds_self}

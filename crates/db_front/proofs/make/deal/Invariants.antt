@@ -1,6 +1,6 @@
 use Rattle.std.proofs.Common.{◌≡◌, ◌-◌, []}
 use Rattle.db_front.specs.Passes.{all_fresh}
-use Rattle.db_front.specs.inner.Kept.{dealing}
+use Rattle.db_front.specs.inner.FrontRule.{dealing}
 use Rattle.db_front.proofs.make.deal.Given as goal
 
 abbrev pub invariant-loop-number : goal.invariant-loop-number

@@ -1,6 +1,6 @@
 use Rattle.std.proofs.Common.{ℕ, sym, subst}
 use Rattle.watch_word.specs.Logs.{Log}
-use Rattle.db_front.specs.inner.Kept.{start}
+use Rattle.db_front.specs.inner.FrontRule.{start}
 use Rattle.db_front.specs.inner.Seats.{LiesTo}
 use Rattle.db_front.proofs.make.lay.Goals as goal
 

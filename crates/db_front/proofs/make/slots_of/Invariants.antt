@@ -1,5 +1,5 @@
 use Rattle.std.proofs.Common.{◌≡◌, ◌-◌, length}
-use Rattle.db_front.specs.inner.Kept.{size_of}
+use Rattle.db_front.specs.inner.FrontRule.{size_of}
 use Rattle.db_front.specs.inner.Seats.{LiesTo}
 use Rattle.db_front.proofs.make.slots_of.Given as goal
 

@@ -2,7 +2,7 @@ use Rattle.std.proofs.Common.{rules, ◌∙◌, ap, sym, subst, arith}
 use Rattle.std.proofs.lemmas.Grind.{common_steps}
 use mathlib.Core.Option.{none}
 use Rattle.atomic_table.specs.Table.{step, rest}
-use Rattle.db_front.specs.Commits.{HasFirings}
+use Rattle.db_front.specs.Commits.{HasFirstFirings}
 use Rattle.db_front.proofs.AllPasses.{if_so}
 use Rattle.db_front.proofs.LoadSteps.{counts, notes, sees, at_loads}
 use Rattle.db_front.proofs.WholeSeats.{headed, topmost, own_few, own_turn}
@@ -54,5 +54,5 @@ returns g c =
       sees = k.0;
       stood = (c.enter-card.result.0, stands);
       value = if_so c.share-shared.result _ _ (λ a is. subst (λ d. g.V.Version.stands c.give.new.place.me.0.seen d.0) (sym is) stands) c.share-shared.ensures;
-      log = if_so c.share-shared.result _ _ (λ a is. subst (λ d. HasFirings g.V.Version.fired c.load-finished.result c.give.new.place.me.0.seen d.1) (sym is) k.1) c.share-shared.ensures;
+      log = if_so c.share-shared.result _ _ (λ a is. subst (λ d. HasFirstFirings g.V.Version.fired c.load-finished.result c.give.new.place.me.0.seen d.1) (sym is) k.1) c.share-shared.ensures;
     }

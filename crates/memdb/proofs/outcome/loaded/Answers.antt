@@ -10,7 +10,7 @@ use Rattle.run_io.specs.Loads.{Loads}
 use Rattle.run_io.specs.Named.{in_order}
 use Rattle.run_io.specs.NamedOf.{named_of}
 use Rattle.run_io.specs.Observed.{observed}
-use Rattle.run_io.specs.Told.{Tells}
+use Rattle.run_io.specs.Told.{TellsError}
 use Rattle.run_io.specs.declared.output.Output.{Output}
 use Rattle.run_io.proofs.LoadRefusals.{inputs_answered, error_refused, names_file, scripts_loaded}
 use Rattle.memdb.proofs.outcome.loaded.Goals as goal
@@ -54,6 +54,6 @@ returns-in-Err-clause-answer g c =
     let e = c.in-Err.error in
     let seen = observed (g.F.Files.told c.args.files.now) (g.F.Files.reliable c.args.files.now) (g.F.Files.faults c.args.files.now) (g.F.Files.faults c.load.new.files) in
     let loads : Loads seen (in_order named) (Err e) = c.in-Err.ensures.loads in
-    let says : Output → Type 0 = λ o. Tells (in_order named) e o.status o.text.items in
+    let says : Output → Type 0 = λ o. TellsError (in_order named) e o.status o.text.items in
     let answer : Output → Type 0 = λ o. (words : List Bytes) → files_named words ≡ Some named → IsAnswer words seen o.status o.text.items in
     IfOk-weaker c.refusal_of.result says answer (λ o said words is. refused (error_refused (files_named words) seen named e o.status o.text.items is loads said)) c.refusal_of.ensures

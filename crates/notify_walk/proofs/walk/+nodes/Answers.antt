@@ -7,7 +7,7 @@ use Rattle.radix_node.specs.Cells.{CellNode, CellNodes, node_pieces, piece_cell}
 use Rattle.radix_node.specs.Left.{all_cells}
 use Rattle.radix_node.specs.Paths.{Has}
 use Rattle.radix_node.specs.Watches.{seek_watch}
-use Rattle.radix_node.proofs.WatchesHold.{seek_watch_has}
+use Rattle.radix_node.proofs.TreeWatches.{seek_watch_has}
 use Rattle.notify_walk.specs.inner.Parts.{IsNodeOf, cells_at}
 use Rattle.notify_walk.proofs.Firings.{later_again}
 use Rattle.notify_walk.proofs.Parts.{edge_cells, edge_of_tree, size, size_less, under_cells}

@@ -2,7 +2,7 @@
 use Rattle.std.proofs.Common.{◌≡◌, rules, sym}
 use Rattle.radix_node.specs.CellNode.{cell_node}
 use Rattle.radix_node.specs.Watches.{get_watch}
-use Rattle.radix_node.proofs.WatchesHold.{get_watch_has}
+use Rattle.radix_node.proofs.TreeWatches.{get_watch_has}
 use Rattle.notify_walk.proofs.Walked.{leaf_stays}
 use Rattle.notify_walk.proofs.walk.fire_leaf.Goals as goal
 

@@ -7,14 +7,14 @@ use Rattle.radix_node.specs.CellNode.{cell_node, cell_ref}
 use Rattle.radix_node.specs.Cells.{CellNode}
 use Rattle.radix_node.specs.Node.{leaf_pair, edges_of, node_of, plain_edge, plain_node, rest_past}
 use Rattle.radix_node.proofs.CellLevels.{same_prefix}
-use Rattle.radix_node.proofs.LookupSteps.{left_shorter}
+use Rattle.radix_node.proofs.LookupSteps.{left_shorter, no_bytes}
 use Rattle.radix_txn.specs.inner.Below.{row_in, leaf_node}
 use Rattle.radix_txn.specs.declared.target.Target.TheVariants.{Key}
 use Rattle.radix_txn.specs.inner.Outside.{AllIn, outside_node}
 use Rattle.radix_txn.specs.inner.Pieces.{inside}
 use Rattle.radix_txn.proofs.CellInserts.{place_step, led_at}
 use Rattle.radix_txn.proofs.ChildShape.{child_at, rises}
-use Rattle.radix_txn.proofs.EditStays.{edge_stays, gap_stays, no_bytes, onward_stays, split_stays}
+use Rattle.radix_txn.proofs.EditStays.{edge_stays, gap_stays, onward_stays, split_stays}
 use Rattle.radix_txn.proofs.Results.{if_both}
 use Rattle.radix_txn.proofs.InsertSteps.{gap_within, in_range, insert_gap, insert_onward, led_there, seek_gap, seeks}
 use Rattle.radix_txn.proofs.Split.{apart_found, left_found, left_grown}

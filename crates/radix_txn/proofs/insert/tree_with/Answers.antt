@@ -4,7 +4,7 @@ use Rattle.radix_node.specs.CellNode.{cell_ref, tree_at}
 use Rattle.radix_node.specs.Node.{PlainNode, below, node_of}
 use Rattle.radix_node.specs.Nodes.{Plain, pairs_of}
 use Rattle.radix_node.specs.Shape.{HasShape}
-use Rattle.radix_node.specs.inner.Siblings.{bare}
+use Rattle.radix_node.specs.Siblings.{bare}
 use Rattle.radix_node.proofs.CellLevels.{bare_ref}
 use Rattle.radix_txn.proofs.FewKeys.{few_keys}
 use Rattle.radix_txn.proofs.PutTree.{put_apart, put_count, put_found, put_pairs, put_shape, put_stays, put_steps}

@@ -5,9 +5,9 @@ use Rattle.mdb_datum.specs.Row.{Fields}
 use Rattle.radix_node.specs.Nodes.{pairs_of}
 use Rattle.radix_node.specs.CellNode.{cell_node, led_node}
 use Rattle.radix_node.specs.Node.{PlainNode, below, below_prefix, edges_of, plain_edge, plain_node, rest_past}
-use Rattle.radix_node.specs.inner.Siblings.{nodes_list}
+use Rattle.radix_node.specs.Siblings.{nodes_list}
 use Rattle.radix_node.proofs.CellLevels.{same_prefix}
-use Rattle.radix_node.proofs.LookupSteps.{left_shorter}
+use Rattle.radix_node.proofs.LookupSteps.{left_shorter, no_bytes}
 use Rattle.radix_txn.specs.inner.Below.{settled_node}
 use Rattle.radix_txn.specs.inner.Removal.{IsRemoval, covers}
 use Rattle.radix_txn.specs.inner.Remains.{own_leaf, own_nodes, remains_of, stays_left}
@@ -16,7 +16,7 @@ use Rattle.radix_txn.specs.inner.Outside.{AllIn, outside_node}
 use Rattle.radix_txn.specs.inner.Pieces.{led}
 use Rattle.radix_txn.proofs.CellInserts.{led_at, there_in}
 use Rattle.radix_txn.proofs.ChildShape.{child_at, rises}
-use Rattle.radix_txn.proofs.EditStays.{above_stays, covered_stays, no_bytes}
+use Rattle.radix_txn.proofs.EditStays.{above_stays, covered_stays}
 use Rattle.radix_txn.proofs.Outside.{all_in_then}
 use Rattle.radix_txn.proofs.InsertSteps.{in_range, led_prefix, led_there, tree_of, with_at}
 use Rattle.radix_txn.proofs.RemoveSteps.{covered_loses, covered_removal, err_always, fewer, gap_missing, onward_loses, onward_missing, onward_removal, parted_missing, removal_loses}

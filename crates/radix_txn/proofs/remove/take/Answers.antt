@@ -5,7 +5,7 @@ use Rattle.radix_node.specs.Cells.{plain_of}
 use Rattle.radix_node.specs.Node.{PlainNode, below, node_of}
 use Rattle.radix_node.specs.Nodes.{Plain, pairs_of}
 use Rattle.radix_node.specs.Shape.{HasShape}
-use Rattle.radix_node.specs.inner.Siblings.{bare}
+use Rattle.radix_node.specs.Siblings.{bare}
 use Rattle.radix_node.proofs.CellLevels.{bare_ref}
 use Rattle.radix_txn.specs.declared.remove.Deleted.{Deleted}
 use Rattle.radix_txn.specs.inner.Gone.{HasNone, IsCut}

@@ -6,7 +6,7 @@ use Rattle.std.proofs.lemmas.Result.{err_from_is_err_and}
 use Rattle.mdb_datum.specs.Reading.{reading}
 use Rattle.mdb_schema.specs.Reading.{schema_of}
 use Rattle.run_io.specs.Inputs.{schema_answer, scripts_in}
-use Rattle.run_io.specs.inner.Answers.{Answers}
+use Rattle.run_io.specs.inner.ReadingResult.{IsReadingResult}
 use Rattle.run_io.specs.inner.ContentsOf.{bytes_in}
 use Rattle.run_io.proofs.LoadAnswers.{inputs_stopped}
 use Rattle.run_io.proofs.inputs.read_inputs.Goals as goal
@@ -17,5 +17,5 @@ returns-in_err-scripts c =
     let e = c.in_err-scripts.field-0.0 in
     let p = err_from_is_err_and c.from_residual-in_err-scripts.result c.from_residual-in_err-scripts.ensures.1 in
     let lawful : schema_answer (schema_of (reading contents.schema.items)) ≡ Ok c.in_ok-schema.schema = rw c.deref.ensures.value at c.in_ok-schema.ensures in
-    let stops : Answers (scripts_in 1 (bytes_in contents.clients.items)) (Err e) = subst (λ (bytes : List (Vec ℕ Global)). Answers (scripts_in 1 (bytes_in bytes)) (Err e)) c.deref-2.ensures.value c.in_err-scripts.ensures in
+    let stops : IsReadingResult (scripts_in 1 (bytes_in contents.clients.items)) (Err e) = subst (λ (bytes : List (Vec ℕ Global)). IsReadingResult (scripts_in 1 (bytes_in bytes)) (Err e)) c.deref-2.ensures.value c.in_err-scripts.ensures in
     rw (p.1, p.2) (inputs_stopped contents.schema.items (bytes_in contents.clients.items) c.in_ok-schema.schema e lawful stops)

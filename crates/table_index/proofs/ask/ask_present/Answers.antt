@@ -6,7 +6,7 @@ use Rattle.mdb_schema.specs.Answer.{answer, is_exact}
 use Rattle.mdb_schema.specs.declared.ask_error.AskError.TheVariants.{Memory}
 use Rattle.radix_node.specs.Cells.{plain_of}
 use Rattle.radix_txn.specs.Txn.{Txn}
-use Rattle.table_index.specs.inner.Held.{nodes_of}
+use Rattle.table_index.specs.inner.IndexTrees.{nodes_of}
 use Rattle.table_index.proofs.AskedRows.{answered, pairs_there, place_there, refused}
 use Rattle.table_index.proofs.ask.ask_present.Goals as goal
 

@@ -1,5 +1,6 @@
 use Rattle.std.proofs.Common.{◌≡◌, ◌∙◌, ◌≤◌, ◌<◌, ◌*◌, List, length, slice_get, sym, ap, subst, refl, arith}
 use Rattle.mdb_datum.specs.Row.{Fields}
+use Rattle.mdb_datum.proofs.ListPlaces.{there_within}
 use Rattle.mdb_schema.specs.Wipe.{once}
 use Rattle.table_index.specs.Table.{AreLeft}
 use Rattle.table_index.specs.inner.Wipes.{listed_from, rows_under}
@@ -7,7 +8,7 @@ use Rattle.table_index.proofs.CutTrees.{cut_at-unlisted}
 use Rattle.table_index.proofs.DrawnIds.{more_drawn, none_drawn}
 use Rattle.table_index.proofs.RowCounts.{once_more}
 use Rattle.table_index.proofs.StoredRows.{same_count}
-use Rattle.table_index.proofs.WipeSteps.{there_within, listed_there, listed_stored}
+use Rattle.table_index.proofs.WipeSteps.{listed_there, listed_stored}
 use Rattle.table_index.specs.inner.Writes.{IsCutAt}
 use Rattle.table_index.proofs.WrittenTrees.{trees_none}
 use Rattle.table_index.proofs.cut.cut_listed.Goals as goal

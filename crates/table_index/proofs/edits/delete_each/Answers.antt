@@ -2,7 +2,7 @@ use Rattle.std.proofs.Common.{refl, rules, ◌≡◌, ◌∙◌, ◌<◌, ◌+�
 use Rattle.std.proofs.lemmas.List.{length-set}
 use Rattle.std.proofs.lemmas.List.Elements.{All-set}
 use Rattle.mdb_encode.specs.Bytes.{Bytes}
-use Rattle.mdb_schema.specs.inner.Edits.{without_all}
+use Rattle.mdb_schema.specs.Edits.{without_all}
 use Rattle.radix_txn.specs.Txn.{Txn, txn_pairs}
 use Rattle.table_index.specs.inner.Writes.{IsAt}
 use Rattle.table_index.proofs.DrawnIds.{none_drawn, ready_again, ready_at, step_drawn}

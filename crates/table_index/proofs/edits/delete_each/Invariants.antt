@@ -1,7 +1,7 @@
 use Rattle.std.proofs.Common.{◌≡◌, ◌*◌, ◌^◌, ◌++◌, drop, take, map, length}
 use Rattle.radix_txn.specs.Txn.{txn_pairs}
 use Rattle.table_index.specs.inner.Drawn.{HaveDrawn}
-use Rattle.table_index.specs.inner.Held.{AreSound}
+use Rattle.table_index.specs.inner.IndexTrees.{AreSound}
 use Rattle.table_index.specs.inner.TreeEdits.{without_each}
 use Rattle.table_index.specs.inner.Writes.{TreesWrote, IsAt}
 use Rattle.table_index.proofs.edits.delete_each.Given as goal

@@ -2,7 +2,7 @@ use Rattle.std.proofs.Common.{◌*◌, ◌^◌, List, OnOk, length, slice_get, s
 use Rattle.mdb_schema.specs.Wipe.{once}
 use Rattle.radix_txn.specs.Txn.{Txn}
 use Rattle.table_index.specs.inner.Drawn.{HaveDrawn}
-use Rattle.table_index.specs.inner.Held.{nodes_of, rows_held}
+use Rattle.table_index.specs.inner.IndexTrees.{nodes_of, rows_held}
 use Rattle.table_index.specs.inner.Wipes.{listed_at}
 use Rattle.table_index.specs.inner.Writes.{WroteRows}
 use Rattle.table_index.proofs.DrawnIds.{idle_drawn}

@@ -1,5 +1,5 @@
 use Rattle.table_index.proofs.DrawnIds.{ready_again}
-use Rattle.table_index.specs.inner.Held.{nodes_of, rows_held}
+use Rattle.table_index.specs.inner.IndexTrees.{nodes_of, rows_held}
 use Rattle.table_index.proofs.WholeWipe.{cut_few, drawn_all, drawn_first, drawn_more, gives_up, left_for, stands_first, wiped_last}
 use Rattle.table_index.proofs.WipeSteps.{fewer_later, later_in, moved_sound, next_moved, none_later, tree_count}
 use Rattle.table_index.proofs.WrittenRows.{cut_wrote, next_wrote, once_wrote}

@@ -2,7 +2,7 @@ use Rattle.std.proofs.Common.{◌+◌, ◌*◌, ◌^◌, length, Contains}
 use Rattle.mdb_datum.specs.Row.{Fields}
 use Rattle.mdb_schema.specs.Wipe.{once}
 use Rattle.table_index.specs.inner.Drawn.{HaveDrawn}
-use Rattle.table_index.specs.inner.Held.{AreSound, nodes_of, rows_held}
+use Rattle.table_index.specs.inner.IndexTrees.{AreSound, nodes_of, rows_held}
 use Rattle.table_index.specs.inner.Writes.{WroteRows}
 use Rattle.table_index.proofs.WipeSteps.{Stands}
 use Rattle.table_index.proofs.listed.wipe_standing.Given as goal

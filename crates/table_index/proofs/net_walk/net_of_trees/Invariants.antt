@@ -1,5 +1,5 @@
 use Rattle.std.proofs.Common.{◌≡◌, ◌++◌, ◌+◌, length}
-use Rattle.mdb_schema.specs.inner.NetOfPairs.{net_of_pairs}
+use Rattle.mdb_schema.specs.NetOfPairs.{net_of_pairs}
 use Rattle.radix_node.specs.Cells.{plain_of}
 use Rattle.radix_node.specs.Nodes.{pairs_of}
 use Rattle.table_index.specs.inner.PiecesIn.{HoldTheSame, pairs_in}

@@ -1,9 +1,9 @@
 use Rattle.std.proofs.Common.{◌^◌, ◌*◌, ◌∙◌, Bool, Some, length, refl, sym, ap, subst, arith}
 use Rattle.std.proofs.lemmas.List.{length-map}
 use Rattle.mdb_schema.specs.Schema.{IndexSchema}
-use Rattle.mdb_schema.specs.inner.Edits.{full_keys_of}
+use Rattle.mdb_schema.specs.Edits.{full_keys_of}
 use Rattle.mdb_schema.specs.Write.{put_row}
-use Rattle.table_index.specs.inner.Held.{nodes_of, rows_held}
+use Rattle.table_index.specs.inner.IndexTrees.{nodes_of, rows_held}
 use Rattle.table_index.specs.inner.TreeEdits.{IsPut}
 use Rattle.table_index.proofs.PutSteps.{put_in}
 use Rattle.table_index.proofs.DrawnIds.{more_drawn, none_drawn}

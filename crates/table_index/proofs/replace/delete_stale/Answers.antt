@@ -1,7 +1,7 @@
 use Rattle.std.proofs.Common.{◌*◌, ◌≡◌, ◌∙◌, ◌<◌, ◌+◌, List, false, drop, length, sym, ap, arith, rules}
 use Rattle.mdb_datum.specs.Row.{Pair}
 use Rattle.mdb_schema.specs.Write.{is_among}
-use Rattle.mdb_schema.specs.inner.Edits.{stale_keys, without_all}
+use Rattle.mdb_schema.specs.Edits.{stale_keys, without_all}
 use Rattle.radix_txn.specs.Txn.{txn_pairs}
 use Rattle.table_index.proofs.DrawnIds.{ready_more}
 use Rattle.table_index.proofs.EditSteps.{stale_out}

@@ -1,5 +1,5 @@
 use Rattle.std.proofs.Common.{◌≡◌, ◌*◌, drop, false, Contains}
-use Rattle.mdb_schema.specs.inner.Edits.{put_all}
+use Rattle.mdb_schema.specs.Edits.{put_all}
 use Rattle.radix_txn.specs.Drawn.{HasDrawn}
 use Rattle.radix_txn.specs.Txn.{txn_pairs}
 use Rattle.table_index.specs.inner.Writes.{Wrote}

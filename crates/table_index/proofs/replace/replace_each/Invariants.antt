@@ -2,7 +2,7 @@ use Rattle.std.proofs.Common.{◌≡◌, ◌⊎◌, ◌*◌, ◌^◌, ◌++◌, 
 use Rattle.std.specs.List.{zip}
 use Rattle.radix_txn.specs.Txn.{txn_pairs}
 use Rattle.table_index.specs.inner.Drawn.{HaveDrawn}
-use Rattle.table_index.specs.inner.Held.{AreSound}
+use Rattle.table_index.specs.inner.IndexTrees.{AreSound}
 use Rattle.table_index.specs.inner.TreeEdits.{edited_each, replaced_each, replaced_in}
 use Rattle.table_index.specs.inner.Writes.{TreesWrote, IsAt}
 use Rattle.table_index.proofs.replace.replace_each.Given as goal

@@ -1,6 +1,6 @@
 use Rattle.std.proofs.Common.{ℕ, sym, subst}
 use Rattle.mdb_schema.proofs.Membership.{Contains-slice_get}
-use Rattle.table_index.specs.inner.Keys.{Answers, full_keys_at}
+use Rattle.table_index.specs.inner.Keys.{IsTestedResult, full_keys_at}
 use Rattle.table_index.proofs.IdRead.{placed_at}
 use Rattle.table_index.proofs.OnlyIdKey.{only_id_key}
 use Rattle.table_index.proofs.row_keys.full_keys_at.Goals as goal
@@ -14,5 +14,5 @@ pub returns : goal.returns
 returns c = (
   (c.args.at, c.in-Some.index.now),
   sym (placed_at c.args.def.now.indexes c.args.at c.in-Some.index.now (sym c.in-Some.ensures.found)),
-  subst (λ (p : ℕ). Answers (full_keys_at c.args.id.now c.args.row.now (p, c.in-Some.index.now)) c.full_keys_in.result) c.told_place.ensures c.full_keys_in.ensures,
+  subst (λ (p : ℕ). IsTestedResult (full_keys_at c.args.id.now c.args.row.now (p, c.in-Some.index.now)) c.full_keys_in.result) c.told_place.ensures c.full_keys_in.ensures,
 )

@@ -2,7 +2,7 @@ use Rattle.std.proofs.Common.{◌≡◌, ◌+◌, ◌≤◌, map, []}
 use Rattle.std.specs.Prelude.{replicate}
 use Rattle.radix_node.specs.Nodes.{pairs_of}
 use Rattle.table_index.specs.Table.{AreAllBelow, AreAllOf, AreNewInTurn}
-use Rattle.table_index.specs.inner.Held.{plains}
+use Rattle.table_index.specs.inner.IndexTrees.{plains}
 use Rattle.table_index.proofs.trees.empty_trees.Given as goal
 
 abbrev pub invariant-loop-at : goal.invariant-loop-at

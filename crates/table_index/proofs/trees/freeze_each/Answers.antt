@@ -4,7 +4,7 @@ use Rattle.watch_word.specs.Logs.{Cell}
 use Rattle.radix_node.specs.Cells.{CellTree}
 use Rattle.radix_txn.specs.Txn.{Txn}
 use Rattle.table_index.specs.Frozen.{AreFrozen}
-use Rattle.table_index.specs.inner.Held.{starts_of, trees_of}
+use Rattle.table_index.specs.inner.IndexTrees.{starts_of, trees_of}
 use Rattle.table_index.proofs.FrozenLists.{frozen_more}
 use Rattle.table_index.proofs.trees.freeze_each.Goals as goal
 

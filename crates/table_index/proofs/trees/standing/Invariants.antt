@@ -1,5 +1,5 @@
 use Rattle.std.proofs.Common.{◌≡◌, take}
-use Rattle.table_index.specs.inner.Held.{trees_of}
+use Rattle.table_index.specs.inner.IndexTrees.{trees_of}
 use Rattle.table_index.proofs.trees.standing.Given as goal
 
 abbrev pub invariant-loop-at : goal.invariant-loop-at

@@ -4,7 +4,7 @@ use Rattle.mdb_schema.specs.Answer.{Asked}
 use Rattle.mdb_schema.specs.Wipe.{once, wiped_rows}
 use Rattle.table_index.specs.Table.{rows_asked}
 use Rattle.table_index.specs.inner.Drawn.{HaveDrawn}
-use Rattle.table_index.specs.inner.Held.{nodes_of, rows_held}
+use Rattle.table_index.specs.inner.IndexTrees.{nodes_of, rows_held}
 use Rattle.table_index.specs.inner.Wipes.{listed_at}
 use Rattle.table_index.proofs.DrawnIds.{none_drawn}
 use Rattle.table_index.proofs.WipeAnswers.{wiped-listed, wiped_trees, question_refused}

@@ -1,6 +1,6 @@
 use Rattle.std.proofs.Common.{rules, ◌∙◌, ap, sym, subst, IfOk}
 use Rattle.mdb_schema.specs.Write.{remove}
-use Rattle.mem_txn.specs.Changes.{gives_row}
+use Rattle.mem_txn.specs.DbTxn.{gives_row}
 use Rattle.client_script.specs.Reply as said
 use Rattle.client_script.specs.declared.command.Command.TheVariants as command
 use Rattle.client_script.specs.declared.command.WriteCommand.TheVariants as write_line

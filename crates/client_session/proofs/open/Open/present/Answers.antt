@@ -1,4 +1,4 @@
-use Rattle.client_session.proofs.DeskTurns.{present_reading, present_writing}
+use Rattle.client_session.proofs.StateTurns.{present_reading, present_writing}
 use Rattle.client_session.proofs.open.Open.present.Goals as goal
 
 pub returns-in_ok-snapshot-in-Reading-clause-present : goal.returns-in_ok-snapshot-in-Reading-clause-present

@@ -5,19 +5,19 @@ use Rattle.client_session.proofs.session.Session.carry_out.Goals as goal
 pub invariant_of-self : goal.invariant_of-self
 invariant_of-self g c =
     let f = c.self.inside in
-    kept_by c.args.self.now f.client f.script f.desk c.put_desk.new.kept f.answered f.transcript f.failed c.self.view_is c.take_desk-desk.result c.carry_out-desk.result.0 c.carry_out-desk.result.1 c.carry_out-desk.new.transcript c.is_err-self-inside.result c.carry_out-desk.result.2 (search (rules)) (search (rules)) c.carry_out-desk.ensures.told c.carry_out-desk.ensures.answered c.carry_out-desk.ensures.place c.carry_out-desk.ensures.all c.carry_out-desk.ensures.closed
+    kept_by c.args.self.now f.client f.script f.state c.put_state.new.kept f.answered f.transcript f.failed c.self.view_is c.take_state-state.result c.carry_out-state.result.0 c.carry_out-state.result.1 c.carry_out-state.new.transcript c.is_err-self-inside.result c.carry_out-state.result.2 (search (rules)) (search (rules)) c.carry_out-state.ensures.told c.carry_out-state.ensures.answered c.carry_out-state.ensures.place c.carry_out-state.ensures.all c.carry_out-state.ensures.closed
 
 pub returns-clause-told : goal.returns-clause-told
 returns-clause-told g c =
     let f = c.self.inside in
-    told_by c.args.self.now f.client f.script f.desk c.put_desk.new.kept f.answered f.transcript f.failed c.self.view_is c.take_desk-desk.result c.carry_out-desk.result.0 c.carry_out-desk.result.1 c.carry_out-desk.new.transcript c.is_err-self-inside.result c.carry_out-desk.result.2 (search (rules)) (search (rules)) (search (rules)) c.carry_out-desk.ensures.told c.carry_out-desk.ensures.answered
+    told_by c.args.self.now f.client f.script f.state c.put_state.new.kept f.answered f.transcript f.failed c.self.view_is c.take_state-state.result c.carry_out-state.result.0 c.carry_out-state.result.1 c.carry_out-state.new.transcript c.is_err-self-inside.result c.carry_out-state.result.2 (search (rules)) (search (rules)) (search (rules)) c.carry_out-state.ensures.told c.carry_out-state.ensures.answered
 
 pub returns-clause-answered : goal.returns-clause-answered
 returns-clause-answered g c =
     let f = c.self.inside in
-    answered_ok c.args.self.now f.client f.script f.desk c.put_desk.new.kept f.answered f.transcript f.failed c.self.view_is c.take_desk-desk.result c.carry_out-desk.result.0 c.carry_out-desk.result.1 c.carry_out-desk.new.transcript c.is_err-self-inside.result c.carry_out-desk.result.2 (search (rules)) (search (rules)) c.carry_out-desk.ensures.answered
+    answered_ok c.args.self.now f.client f.script f.state c.put_state.new.kept f.answered f.transcript f.failed c.self.view_is c.take_state-state.result c.carry_out-state.result.0 c.carry_out-state.result.1 c.carry_out-state.new.transcript c.is_err-self-inside.result c.carry_out-state.result.2 (search (rules)) (search (rules)) c.carry_out-state.ensures.answered
 
 pub returns-clause-stopped : goal.returns-clause-stopped
 returns-clause-stopped g c =
     let f = c.self.inside in
-    stopped_on_err c.args.self.now f.client f.script f.desk c.put_desk.new.kept f.answered f.transcript f.failed c.self.view_is c.take_desk-desk.result c.carry_out-desk.result.0 c.carry_out-desk.result.1 c.carry_out-desk.new.transcript c.is_err-self-inside.result c.carry_out-desk.result.2 (search (rules)) (search (rules)) (search (rules)) c.carry_out-desk.ensures.closed c.carry_out-desk.ensures.stopped
+    stopped_on_err c.args.self.now f.client f.script f.state c.put_state.new.kept f.answered f.transcript f.failed c.self.view_is c.take_state-state.result c.carry_out-state.result.0 c.carry_out-state.result.1 c.carry_out-state.new.transcript c.is_err-self-inside.result c.carry_out-state.result.2 (search (rules)) (search (rules)) (search (rules)) c.carry_out-state.ensures.closed c.carry_out-state.ensures.stopped

@@ -1,6 +1,6 @@
 use Rattle.std.proofs.Common.{subst}
 use Rattle.std.specs.Arc.{arc_value}
-use Rattle.mem_txn.specs.inner.ChangesView.{IsBase}
+use Rattle.mem_txn.specs.inner.DbTxnView.{IsBase}
 use Rattle.mem_txn.specs.inner.Versions.{Turned, caller_of}
 use Rattle.mem_txn.proofs.turn.Turn.base_is_known.Goals as goal
 

@@ -1,6 +1,6 @@
 use Rattle.std.proofs.Common.{◌≡◌, ◌∙◌, ◌++◌, ◌∷◌, ◌-◌, [], length, sym, ap, subst}
 use Rattle.std.specs.Arc.{arc_value}
-use Rattle.db_front.specs.Commits.{HasFirings}
+use Rattle.db_front.specs.Commits.{HasFirstFirings}
 use Rattle.db_front.specs.Passes.{Known}
 use Rattle.radix_node.specs.Cells.{AreCellsOf}
 use Rattle.radix_node.specs.Ids.{Book}
@@ -8,7 +8,7 @@ use Rattle.watch_word.specs.Logs.{IsLater, Log}
 use Rattle.mem_txn.specs.Database.{cells_seen}
 use Rattle.mem_txn.specs.inner.Commits.{IsNext}
 use Rattle.mem_txn.specs.inner.Firing.{AreGone, cells_told}
-use Rattle.mem_txn.specs.inner.Steps.{AreSteps, HasFired}
+use Rattle.mem_txn.specs.inner.Steps.{AreSteps, HasLastFirings}
 use Rattle.mem_txn.specs.inner.Versions.{IsBegun, IsBookOf, Turned, Version, Versions, caller_of}
 use Rattle.mem_txn.proofs.AlongHistory.{tells_changes, watches_hold}
 use Rattle.mem_txn.proofs.OneHistory.{committed, committed_token, number_shown}
@@ -46,7 +46,7 @@ finish-requires-clause-log g c =
     let gone : AreGone v.trees c.args.ready.trees (cells_told c.args.gone.now) = subst (λ (p : Turned). AreGone p.base.trees c.args.ready.trees (cells_told c.args.gone.now)) (sym c.self.view_is) c.requires.gone in
     let f = c.fire_tables-log.ensures in
     let later : IsLater t.token.log c.fire_tables-log.result = subst (λ (l : Log). IsLater l c.fire_tables-log.result) (c.log.ensures ∙ ap (λ (k : Known Version). k.log) c.publish.ensures.pass) f.later in
-    subst (λ (log : Log). HasFirings HasFired (length c.publish.new.pass.seen - 1) c.publish.new.pass.seen log) (sym c.share.ensures)
+    subst (λ (log : Log). HasFirstFirings HasLastFirings (length c.publish.new.pass.seen - 1) c.publish.new.pass.seen log) (sym c.share.ensures)
     (turn_fires t.token v c.args.ready c.self.invariant.stands c.publish.new.pass made t.token.log c.fire_tables-log.result (cells_told c.args.gone.now) c.self.invariant.log later gone f.fired)
 
 pub invariant_of-result : goal.invariant_of-result

@@ -1,9 +1,9 @@
 use Rattle.std.proofs.Common.{◌≡◌, length, sym, ap, arith, subst}
 use Rattle.std.specs.Arc.{arc_value}
-use Rattle.db_front.specs.Commits.{HasFirings}
+use Rattle.db_front.specs.Commits.{HasFirstFirings}
 use Rattle.db_front.specs.Passes.{Known}
 use Rattle.mem_txn.specs.Database.{View}
-use Rattle.mem_txn.specs.inner.Steps.{HasFired}
+use Rattle.mem_txn.specs.inner.Steps.{HasLastFirings}
 use Rattle.mem_txn.specs.inner.Versions.{StandsFor, Version, Versions, history_in}
 use Rattle.mem_txn.proofs.OneHistory.{hears_of, history_length, token_kept}
 use Rattle.mem_txn.proofs.StepsAlong.{firings_later, log_of, same_book}
@@ -29,7 +29,7 @@ invariant_of-result c =
     record {
       token = token_kept 1 old new c.requires.begun heard.others heard.later;
       stands = subst (λ (h : Versions). StandsFor h v) seen c.requires.stands;
-      log = subst (λ (h : Versions). HasFirings HasFired v.view.number h new.log) seen (subst (λ n. HasFirings HasFired n old.seen new.log) number log);
+      log = subst (λ (h : Versions). HasFirstFirings HasLastFirings v.view.number h new.log) seen (subst (λ n. HasFirstFirings HasLastFirings n old.seen new.log) number log);
     }
 
 pub returns : goal.returns

@@ -1,6 +1,6 @@
 use Rattle.std.proofs.Common.{◌∷◌, [], refl, slice_set, subst}
 use Rattle.mdb_schema.specs.Write.{put_row}
-use Rattle.mem_txn.specs.Changes.{gives_replaced}
+use Rattle.mem_txn.specs.DbTxn.{gives_replaced}
 use Rattle.mem_txn.specs.inner.VersionTables.{AnswersAt, Tables}
 use Rattle.table_index.specs.Table.{TableChange}
 use Rattle.mem_txn.proofs.IdsCounted.{within-set}

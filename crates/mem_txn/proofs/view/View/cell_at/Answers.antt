@@ -4,7 +4,7 @@ use Rattle.std.proofs.lemmas.List.{length-map}
 use Rattle.std.proofs.lemmas.Option.{slice_get-map, slice_get_read}
 use Rattle.mdb_schema.specs.Schema.{table_place}
 use Rattle.mem_txn.specs.CellHistory.{question_cell}
-use Rattle.mem_txn.specs.inner.Looks.{IsAsked}
+use Rattle.mem_txn.specs.AskedSpots.{IsAsked}
 use Rattle.mem_txn.specs.inner.Values.{ViewWithTrees}
 use Rattle.mem_txn.specs.inner.VersionTables.{state_of}
 use Rattle.mem_txn.proofs.SpotsAgain.{cell_again, index_within}

@@ -1,7 +1,7 @@
 use Rattle.std.proofs.Common.{◌≡◌, ◌∙◌, ◌+◌, ◌∷◌, ℕ, [], length, ap, sym, subst, arith}
 use Rattle.std.proofs.lemmas.List.{length-append}
 use Rattle.mem_txn.specs.CellHistory.{HasFirings}
-use Rattle.mem_txn.specs.Changes.{commit_of}
+use Rattle.mem_txn.specs.DbTxn.{commit_of}
 use Rattle.mem_txn.specs.Database.{Caller, cells_seen}
 use Rattle.watch_word.specs.Logs.{Log}
 use Rattle.mem_txn.proofs.HeardAlong.{heard_all}
@@ -9,7 +9,7 @@ use Rattle.mem_txn.proofs.write_txn.WriteTxn.commit.Goals as goal
 
 pub returns-in-Ok : goal.returns-in-Ok
 returns-in-Ok g c =
-    let t = c.args.self.changes in
+    let t = c.args.self.db_txn in
     let shown = c.in-Ok.ensures.1 in
     let number : c.number-number.result + 1 ≡ length t.caller.seen + 1 = ap (λ (n : ℕ). n + 1) c.number-number.ensures.number in
     let count : length c.in-Ok.pass.seen ≡ length t.caller.seen + 1 = ap (λ (p : Caller). length p.seen) shown.pass ∙ length-append t.caller.seen (commit_of t ∷ []) in

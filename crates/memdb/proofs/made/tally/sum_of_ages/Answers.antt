@@ -1,5 +1,5 @@
 use Rattle.std.proofs.Common.{arith, ◌≡◌, ◌+◌, ap, drop, sym}
-use Rattle.mdb_encode.proofs.Walk.{drop_at}
+use Rattle.mdb_datum.proofs.ListPlaces.{drop_at}
 use Rattle.memdb.specs.inner.MadeInputs.{age_in, ages_in}
 use Rattle.memdb.proofs.made.tally.sum_of_ages.Goals as goal
 

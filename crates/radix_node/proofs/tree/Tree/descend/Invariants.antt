@@ -3,7 +3,7 @@ use Rattle.mdb_datum.specs.Bytes.{Bytes}
 use Rattle.radix_node.specs.CellNode.{cell_node}
 use Rattle.radix_node.specs.Node.{plain_node}
 use Rattle.radix_node.specs.Shape.{IsShaped}
-use Rattle.radix_node.specs.inner.Walk.{walk_tree}
+use Rattle.radix_node.specs.WalkDown.{walk_tree}
 use Rattle.radix_node.proofs.WalkSteps.{IsWalkAt}
 use Rattle.radix_node.proofs.tree.Tree.descend.Given as goal
 

@@ -3,7 +3,7 @@ use Rattle.std.proofs.Common.{◌∙◌, Some, ap, sym}
 use Rattle.std.specs.ControlFlow.{continue_value}
 use Rattle.std.specs.Option.{option_copied}
 use Rattle.radix_node.specs.Cells.{plain_of}
-use Rattle.radix_node.proofs.WatchesHold.{get_some, get_none}
+use Rattle.radix_node.proofs.TreeWatches.{get_some, get_none}
 use Rattle.radix_node.proofs.WholeTree.{rising_plain}
 use Rattle.radix_node.proofs.tree.Tree.get.Goals as goal
 

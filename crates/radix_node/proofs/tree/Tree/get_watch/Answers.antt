@@ -1,7 +1,7 @@
 -- The leaf of the key, or the last node on its way.
 use Rattle.std.proofs.Common.{◌∙◌, Some, sym, ap}
 use Rattle.std.specs.Option.{option_copied}
-use Rattle.radix_node.proofs.WatchesHold.{get_some, get_none}
+use Rattle.radix_node.proofs.TreeWatches.{get_some, get_none}
 use Rattle.radix_node.proofs.tree.Tree.get_watch.Goals as goal
 
 pub returns-in-Some-clause-cell : goal.returns-in-Some-clause-cell

@@ -4,11 +4,11 @@ use Rattle.radix_node.specs.Cells.{CellNode}
 use Rattle.radix_node.specs.CellNode.{cell_node}
 use Rattle.radix_node.specs.Nodes.{pairs_of}
 use Rattle.radix_node.specs.inner.Descent.{pairs_by}
-use Rattle.radix_node.specs.inner.Walk.{pairs_if}
+use Rattle.radix_node.specs.WalkDown.{pairs_if}
 use Rattle.radix_node.specs.declared.tree.descent.KeyEnd.{KeyEnd}
 use Rattle.radix_node.specs.declared.tree.descent.KeyEnd.TheVariants.{At, Within}
 use Rattle.radix_node.proofs.CellLevels.{plain_under}
-use Rattle.radix_node.proofs.WatchesHold.{prefix_end}
+use Rattle.radix_node.proofs.TreeWatches.{prefix_end}
 use Rattle.radix_node.proofs.tree.Tree.seek.Goals as goal
 
 all_pairs : (way : KeyEnd) (n : CellNode) → (way ≡ At) ⊎ (way ≡ Within) → pairs_by way n ≡ pairs_if [] n

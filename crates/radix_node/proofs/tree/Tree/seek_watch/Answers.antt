@@ -1,6 +1,6 @@
 -- The cell of the node where the walk ends.
 use Rattle.std.proofs.Common.{◌∙◌, sym}
-use Rattle.radix_node.proofs.WatchesHold.{seek_watch_end}
+use Rattle.radix_node.proofs.TreeWatches.{seek_watch_end}
 use Rattle.radix_node.proofs.tree.Tree.seek_watch.Goals as goal
 
 pub returns : goal.returns

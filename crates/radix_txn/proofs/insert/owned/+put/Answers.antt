@@ -5,7 +5,7 @@ use Rattle.radix_node.specs.CellNode.{cell_node, cell_ref}
 use Rattle.radix_node.specs.Cells.{CellNode, plain_nodes}
 use Rattle.radix_node.specs.Edges.{place_of}
 use Rattle.radix_node.specs.Node.{PlainNode, edges_of, plain_node, rest_past}
-use Rattle.radix_node.specs.inner.Siblings.{bare, nodes_list}
+use Rattle.radix_node.specs.Siblings.{bare, nodes_list}
 use Rattle.radix_node.proofs.CellLevels.{bare_node, bare_ref}
 use Rattle.radix_node.proofs.LookupSteps.{left_shorter}
 use Rattle.radix_txn.specs.inner.Below.{IsShapedBelow}

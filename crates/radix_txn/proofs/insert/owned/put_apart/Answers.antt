@@ -3,7 +3,7 @@ use Rattle.std.specs.Arc.{arc_value}
 use Rattle.radix_node.specs.CellNode.{cell_node, cell_ref}
 use Rattle.radix_node.specs.Cells.{CellLeaf}
 use Rattle.radix_node.specs.Node.{plain_node}
-use Rattle.radix_node.specs.inner.Siblings.{bare}
+use Rattle.radix_node.specs.Siblings.{bare}
 use Rattle.radix_node.proofs.CellLevels.{bare_ref}
 use Rattle.radix_txn.specs.inner.PutAt.{grown_node}
 use Rattle.radix_txn.specs.inner.Steps.{IsNextOf}

@@ -3,8 +3,8 @@ use Rattle.std.specs.Arc.{arc_value}
 use Rattle.radix_node.specs.CellNode.{cell_node, cell_ref}
 use Rattle.radix_node.specs.Cells.{CellLeaf}
 use Rattle.radix_node.specs.Node.{PlainNode, below, plain_node}
-use Rattle.radix_node.specs.inner.Seek.{seek_plain}
-use Rattle.radix_node.specs.inner.Siblings.{bare}
+use Rattle.radix_node.specs.Seek.{seek_plain}
+use Rattle.radix_node.specs.Siblings.{bare}
 use Rattle.radix_node.proofs.CellLevels.{bare_ref}
 use Rattle.radix_txn.specs.inner.Below.{IsShapedBelow, insert_below, over, row_in}
 use Rattle.radix_txn.specs.inner.Steps.{IsNextOf}

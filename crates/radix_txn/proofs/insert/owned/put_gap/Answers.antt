@@ -3,7 +3,7 @@ use Rattle.std.specs.Arc.{arc_value}
 use Rattle.radix_node.specs.CellNode.{cell_edges, cell_node, led_node}
 use Rattle.radix_node.specs.Cells.{CellLeaf, CellNode, cells_in}
 use Rattle.radix_node.specs.Node.{PlainNode, edges_of}
-use Rattle.radix_node.specs.inner.Siblings.{bare, nodes_list}
+use Rattle.radix_node.specs.Siblings.{bare, nodes_list}
 use Rattle.radix_node.proofs.CellLevels.{bare_node}
 use Rattle.radix_node.proofs.Lent.{cells_with_edges}
 use Rattle.radix_txn.specs.inner.Steps.{IsNextOf}

@@ -4,7 +4,7 @@ use Rattle.radix_node.specs.CellNode.{cell_node, cell_ref}
 use Rattle.radix_node.specs.Cells.{CellNode}
 use Rattle.radix_node.specs.Node.{below}
 use Rattle.radix_node.specs.Nodes.{pairs_of}
-use Rattle.radix_node.specs.inner.Siblings.{bare, cells_list}
+use Rattle.radix_node.specs.Siblings.{bare, cells_list}
 use Rattle.radix_txn.specs.declared.remove.owned.Gone.{Gone}
 use Rattle.radix_txn.specs.inner.Below.{IsShapedBelow}
 use Rattle.radix_txn.specs.inner.Gone.{HasNone, IsCutUnder, IsGone, IsLeft, LeadsOn}
@@ -84,11 +84,11 @@ take_in-returns-in-Missing-clause-gone t c =
     (subst (λ (n : CellNode). HasNone c.args.target c.in-Some.left.now n (cell_ref c.take_at.new.slot) c.args.cells.now c.take_at.new.cells) child h)
     (same_lent c.args.node.now c.edges_mut.result.now c.edge_mut-edge.result.now c.in-Some.at c.edges_mut.ensures.cells c.edge_mut-edge.ensures.cells c.in-Some.left.now c.args.rest.now c.in-Some.ensures c.take_at.new.slot (h.same ∙ child))
 
-pub take_in-returns-in-Kept-clause-gone : goal.take_in-returns-in-Kept-clause-gone
-take_in-returns-in-Kept-clause-gone t c =
+pub take_in-returns-in-Under-clause-gone : goal.take_in-returns-in-Under-clause-gone
+take_in-returns-in-Under-clause-gone t c =
     let child = child_lent c.args.node.now c.edges_mut.result.now c.edge_mut-edge.result.now c.in-Some.at c.edges_mut.ensures.cells c.edge_mut-edge.ensures.cells c.in-Some.left.now c.args.rest.now c.in-Some.ensures (cell_ref c.node_mut.result.now) c.node_mut.ensures.cells in
-    let d = c.in-Kept.deleted in
-    let h : IsCutUnder c.args.target c.in-Some.left.now (cell_ref c.node_mut.result.now) (cell_ref c.take_at.new.slot) d.row d.count c.args.cells.now c.take_at.new.cells = subst (λ (g : Gone). IsGone c.args.target c.in-Some.left.now (cell_ref c.node_mut.result.now) (cell_ref c.take_at.new.slot) g c.args.cells.now c.take_at.new.cells) c.in-Kept.is c.in_ok-take_at.ensures.gone in
+    let d = c.in-Under.deleted in
+    let h : IsCutUnder c.args.target c.in-Some.left.now (cell_ref c.node_mut.result.now) (cell_ref c.take_at.new.slot) d.row d.count c.args.cells.now c.take_at.new.cells = subst (λ (g : Gone). IsGone c.args.target c.in-Some.left.now (cell_ref c.node_mut.result.now) (cell_ref c.take_at.new.slot) g c.args.cells.now c.take_at.new.cells) c.in-Under.is c.in_ok-take_at.ensures.gone in
     kept_onward c.args.target c.in-Some.at c.in-Some.left.now c.args.rest.now (cell_node c.args.node.now) c.in-Some.ensures c.requires.shape (cell_ref c.take_at.new.slot) _ d.row d.count c.args.cells.now c.take_at.new.cells
     (grown_lent c.args.node.now c.edges_mut.result.now c.edge_mut-edge.result.now c.in-Some.at c.edges_mut.ensures.cells c.edge_mut-edge.ensures.cells c.in-Some.left.now c.args.rest.now c.in-Some.ensures c.take_at.new.slot) c.requires.own
     (subst (λ (n : CellNode). IsCutUnder c.args.target c.in-Some.left.now n (cell_ref c.take_at.new.slot) d.row d.count c.args.cells.now c.take_at.new.cells) child h)

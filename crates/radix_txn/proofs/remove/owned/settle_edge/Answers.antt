@@ -5,7 +5,7 @@ use Rattle.radix_node.specs.Cells.{CellNode, cells_in}
 use Rattle.radix_node.specs.Lending.{with_edge, with_edges, with_ref}
 use Rattle.radix_node.specs.Node.{PlainNode, nodes_in, plain_node}
 use Rattle.radix_node.specs.Nodes.{Plain}
-use Rattle.radix_node.specs.inner.Siblings.{bare, cells_list, nodes_list}
+use Rattle.radix_node.specs.Siblings.{bare, cells_list, nodes_list}
 use Rattle.radix_node.proofs.CellLevels.{bare_node}
 use Rattle.radix_txn.specs.inner.Gone.{IsSettled, IsStanding, IsVoid}
 use Rattle.radix_txn.specs.inner.Steps.{one_left}

@@ -2,7 +2,7 @@
 use Rattle.std.proofs.Common.{◌∙◌, ◌<◌, ℕ, List, length, sym, ap, subst, arith}
 use Rattle.watch_word.specs.Logs.{Cell}
 use Rattle.radix_node.specs.Cells.{AreBelow}
-use Rattle.radix_node.specs.Watches.{WatchesHold}
+use Rattle.radix_node.specs.Watches.{HoldsWatched}
 use Rattle.radix_txn.specs.Notice.{IsNotice, IsOpened}
 use Rattle.radix_txn.specs.Txn.{Txn}
 use Rattle.radix_txn.proofs.CellTxn.{frozen, told}
@@ -37,7 +37,7 @@ returns-clause-held c =
     let s = c.self.inside.state in
     let kept = c.self.invariant (ap (λ (t : Txn). t.spoiled) c.self.view_is ∙ c.requires.sound) in
     let end = frozen s.changed s.first c.self.inside.start s.tree s.left kept c.root.ensures.apart c.root.ensures.shape c.root-2.ensures.shape in
-    subst (λ (t : Txn). WatchesHold t.start t.tree) c.self.view_is end.held
+    subst (λ (t : Txn). HoldsWatched t.start t.tree) c.self.view_is end.held
 
 pub returns-clause-opened : goal.returns-clause-opened
 returns-clause-opened c =

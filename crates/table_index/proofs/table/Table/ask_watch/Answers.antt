@@ -8,7 +8,7 @@ use Rattle.mdb_schema.specs.declared.ask_error.AskError.TheVariants.{Memory}
 use Rattle.radix_node.specs.Cells.{plain_of}
 use Rattle.table_index.specs.Table.{TableRows}
 use Rattle.table_index.specs.Watched.{is_watchable}
-use Rattle.table_index.specs.inner.Held.{plains}
+use Rattle.table_index.specs.inner.IndexTrees.{plains}
 use Rattle.table_index.proofs.AskedRows.{answered, pairs_there, place_there, refused}
 use Rattle.table_index.proofs.WatchedRows.{answer_alone, spot_of, unwatched, watched_answer}
 use Rattle.table_index.proofs.table.Table.ask_watch.Goals as goal

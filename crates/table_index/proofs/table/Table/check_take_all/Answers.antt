@@ -2,7 +2,7 @@ use Rattle.std.proofs.Common.{Ok, Err, subst}
 use Rattle.std.specs.Prelude.{⊤}
 use Rattle.mdb_schema.specs.Wipe.{wiped_rows}
 use Rattle.table_index.specs.Table.{TableRows, AnswersCheck}
-use Rattle.table_index.specs.inner.Held.{plains, rows_held}
+use Rattle.table_index.specs.inner.IndexTrees.{plains, rows_held}
 use Rattle.table_index.proofs.WipeAnswers.{check_passed, check_refused}
 use Rattle.table_index.proofs.table.Table.check_take_all.Goals as goal
 

@@ -1,4 +1,4 @@
-use Rattle.table_index.proofs.HeldRows.{empty_table}
+use Rattle.table_index.proofs.RowsOfTrees.{empty_table}
 use Rattle.table_index.proofs.SeparateTrees.{new_separate}
 use Rattle.table_index.proofs.table.Table.empty.Goals as goal
 

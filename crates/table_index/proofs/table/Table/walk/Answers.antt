@@ -8,7 +8,7 @@ use Rattle.mdb_schema.specs.declared.ask_error.AskError.TheVariants.{Memory}
 use Rattle.radix_node.specs.Cells.{plain_of}
 use Rattle.table_index.specs.Table.{TableRows}
 use Rattle.table_index.specs.Walks.{answer_rows}
-use Rattle.table_index.specs.inner.Held.{plains, rows_held}
+use Rattle.table_index.specs.inner.IndexTrees.{plains, rows_held}
 use Rattle.table_index.proofs.AskedRows.{answered, pairs_there, refused}
 use Rattle.table_index.proofs.WalkedRows.{walk_refused, walked}
 use Rattle.table_index.proofs.table.Table.walk.Goals as goal

@@ -3,7 +3,7 @@ use Rattle.mdb_schema.specs.Answer.{ask_rows}
 use Rattle.mdb_schema.specs.Refusals.{AnswersAsk}
 use Rattle.radix_txn.specs.Txn.{Txn}
 use Rattle.table_index.specs.Table.{TableChange}
-use Rattle.table_index.specs.inner.Held.{AreTrees, nodes_of, rows_held}
+use Rattle.table_index.specs.inner.IndexTrees.{AreTrees, nodes_of, rows_held}
 use Rattle.table_index.proofs.table_txn.TableTxn.ask.Goals as goal
 
 pub ask_present-requires : goal.ask_present-requires

@@ -2,8 +2,8 @@ use Rattle.std.proofs.Common.{◌≡◌, ◌∙◌, List, ap, false, refl, sym, 
 use Rattle.radix_node.specs.Cells.{CellTree}
 use Rattle.table_index.specs.Frozen.{AreFrozen}
 use Rattle.table_index.specs.Table.{TableChange, TableRows}
-use Rattle.table_index.specs.inner.Held.{starts_of}
-use Rattle.table_index.proofs.HeldRows.{standing_table}
+use Rattle.table_index.specs.inner.IndexTrees.{starts_of}
+use Rattle.table_index.proofs.RowsOfTrees.{standing_table}
 use Rattle.table_index.proofs.WatchedTables.{questions_since}
 use Rattle.table_index.proofs.WrittenRows.{keeps_others}
 use Rattle.table_index.proofs.table_txn.TableTxn.freeze.Goals as goal

@@ -4,7 +4,7 @@ use Rattle.std.proofs.lemmas.List.{with_items_is, places}
 use Rattle.mdb_schema.specs.Write.{put_row}
 use Rattle.radix_txn.specs.Txn.{Txn}
 use Rattle.table_index.specs.Table.{TableChange, AnswersPut, AreLeft}
-use Rattle.table_index.specs.inner.Held.{AreTrees, nodes_of, rows_held, starts_of}
+use Rattle.table_index.specs.inner.IndexTrees.{AreTrees, nodes_of, rows_held, starts_of}
 use Rattle.table_index.specs.inner.TreeEdits.{IsPut, IsRefused}
 use Rattle.table_index.proofs.WriteAnswers.{change_of, put_answer, put_refused}
 use Rattle.table_index.proofs.Changes.{carried, change_drawn, change_ready}

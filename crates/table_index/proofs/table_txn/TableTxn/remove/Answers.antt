@@ -4,7 +4,7 @@ use Rattle.std.proofs.lemmas.List.{with_items_is, places}
 use Rattle.mdb_schema.specs.Write.{remove_row}
 use Rattle.radix_txn.specs.Txn.{Txn}
 use Rattle.table_index.specs.Table.{TableChange, AnswersRemove, AreLeft}
-use Rattle.table_index.specs.inner.Held.{AreTrees, nodes_of, rows_held, starts_of}
+use Rattle.table_index.specs.inner.IndexTrees.{AreTrees, nodes_of, rows_held, starts_of}
 use Rattle.table_index.specs.inner.TreeEdits.{IsWritten, IsRefused}
 use Rattle.table_index.proofs.WriteAnswers.{change_of, removed_answer, remove_refused}
 use Rattle.table_index.proofs.Changes.{carried, change_drawn, change_ready}

@@ -1,7 +1,7 @@
 use Rattle.std.proofs.Common.{◌≡◌, ap, ◌∙◌, false}
 use Rattle.table_index.specs.Table.{TableChange, TableRows}
-use Rattle.table_index.specs.inner.Held.{trees_of}
-use Rattle.table_index.proofs.HeldRows.{standing_table}
+use Rattle.table_index.specs.inner.IndexTrees.{trees_of}
+use Rattle.table_index.proofs.RowsOfTrees.{standing_table}
 use Rattle.table_index.proofs.table_txn.TableTxn.stand.Goals as goal
 
 pub invariant_of-result : goal.invariant_of-result

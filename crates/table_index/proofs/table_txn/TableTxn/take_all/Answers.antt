@@ -7,7 +7,7 @@ use Rattle.mdb_schema.specs.Wipe.{wiped_rows}
 use Rattle.radix_txn.specs.Txn.{Txn}
 use Rattle.table_index.specs.Drawn.{HasDrawnCells}
 use Rattle.table_index.specs.Table.{TableChange, AnswersTake, AreLeft, rows_asked}
-use Rattle.table_index.specs.inner.Held.{AreTrees, nodes_of, rows_held, starts_of}
+use Rattle.table_index.specs.inner.IndexTrees.{AreTrees, nodes_of, rows_held, starts_of}
 use Rattle.table_index.specs.inner.Wipes.{IsRefusedWipe, IsWiped}
 use Rattle.table_index.proofs.WriteAnswers.{change_of}
 use Rattle.table_index.proofs.Changes.{carried, change_drawn, change_ready}

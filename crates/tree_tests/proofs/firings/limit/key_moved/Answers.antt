@@ -3,7 +3,7 @@ use Rattle.watch_word.specs.Logs.{Cell}
 use Rattle.std.proofs.Common.{◌≡◌, subst, sym}
 use Rattle.radix_node.specs.Cells.{cells_of}
 use Rattle.radix_node.proofs.OneBook.{each_is}
-use Rattle.radix_node.proofs.WatchesHold.{get_watch_has}
+use Rattle.radix_node.proofs.TreeWatches.{get_watch_has}
 use Rattle.radix_node.specs.Watches.{get_watch}
 use Rattle.tree_tests.proofs.firings.limit.key_moved.Goals as goal
 

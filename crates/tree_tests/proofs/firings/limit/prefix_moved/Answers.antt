@@ -4,7 +4,7 @@ use Rattle.watch_word.specs.Logs.{Cell}
 use Rattle.radix_node.specs.Cells.{cells_of}
 use Rattle.radix_node.specs.Watches.{seek_watch}
 use Rattle.radix_node.proofs.OneBook.{each_is}
-use Rattle.radix_node.proofs.WatchesHold.{seek_watch_has}
+use Rattle.radix_node.proofs.TreeWatches.{seek_watch_has}
 use Rattle.tree_tests.proofs.firings.limit.prefix_moved.Goals as goal
 
 pub has_moved-requires : goal.has_moved-requires
