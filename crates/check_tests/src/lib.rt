@@ -1,0 +1,5 @@
+//! Tests of the reading of outputs, by its public call alone.
+#![tactic(auto)]
+
+#[cfg(test)]
+mod tests;

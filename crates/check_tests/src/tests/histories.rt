@@ -1,0 +1,20 @@
+//! Outputs whose commits are none of one history.
+use super::{ANN, BOTH, Near, first_other};
+use std::test::Fail;
+
+static COMMITS: [Near; 8] = [
+    (&ANN, 4, "3: commit @2", 4),
+    (&ANN, 4, "3: commit @0", 4),
+    (&BOTH, 8, "3: commit @1", 8),
+    (&BOTH, 8, "3: commit @3", 8),
+    (&BOTH, 4, "3: commit @2", 8),
+    (&BOTH, 6, "1: write @0", 8),
+    (&BOTH, 2, "1: write @1", 4),
+    (&BOTH, 6, "1: write @18446744073709551615", 8),
+];
+
+#[test]
+fn numbers_and_what_they_stand_on_are_those_of_a_history(rt: HostRuntime) -> Result<(), Fail> {
+    assert!(rt; first_other(rt.alloc(), &COMMITS)?.is_none());
+    Ok(())
+}

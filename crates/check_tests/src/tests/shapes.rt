@@ -1,0 +1,44 @@
+//! Outputs of another shape.
+use super::{ANN, BOTH, Near, first_other};
+use std::test::Fail;
+
+static LINES: [Near; 18] = [
+    (&ANN, 1, "client 2 c1", 1),
+    (&ANN, 1, "client 1 c2", 1),
+    (&ANN, 1, "client 1 c1 ", 1),
+    (&ANN, 1, "client 01 c1", 1),
+    (&BOTH, 5, "client 1 c2", 5),
+    (&ANN, 3, "3: inserted", 3),
+    (&ANN, 3, "2:inserted", 3),
+    (&ANN, 3, "02: inserted", 3),
+    (&ANN, 3, "2: inserted ", 3),
+    (&ANN, 3, "2: deleted", 3),
+    (&ANN, 4, "3: commit @01", 4),
+    (&ANN, 4, "3: commit @18446744073709551616", 4),
+    (&ANN, 4, "3: commit @", 4),
+    (&ANN, 5, "4: read @1+", 5),
+    (&ANN, 7, "6: rows 0", 7),
+    (&ANN, 7, "6: none\n  {}", 8),
+    (&ANN, 7, "6: none\n7: none", 8),
+    (&ANN, 7, "6: none\n", 8),
+];
+
+#[test]
+fn each_line_has_its_form(rt: HostRuntime) -> Result<(), Fail> {
+    assert!(rt; first_other(rt.alloc(), &LINES)?.is_none());
+    Ok(())
+}
+
+static REFUSALS: [Near; 5] = [
+    (&ANN, 3, "2: refused read-only", 3),
+    (&ANN, 3, "2: refused ids-spent", 3),
+    (&ANN, 3, "2: refused spoiled", 3),
+    (&ANN, 2, "1: refused commits-spent", 2),
+    (&ANN, 5, "4: refused transaction-open", 5),
+];
+
+#[test]
+fn the_order_of_the_lines_decides_four_refusals(rt: HostRuntime) -> Result<(), Fail> {
+    assert!(rt; first_other(rt.alloc(), &REFUSALS)?.is_none());
+    Ok(())
+}

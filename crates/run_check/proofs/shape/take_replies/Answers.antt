@@ -1,0 +1,21 @@
+use Rattle.std.proofs.Common.{rules, ap, sym, ◌∙◌, option_copied}
+use Rattle.run_check.specs.Shape.{take_replies}
+use Rattle.run_check.specs.declared.mode.Mode.TheVariants.{Idle}
+use Rattle.run_check.specs.Reads.{replies_of}
+use Rattle.run_check.specs.Views.{place_of}
+use Rattle.run_check.proofs.RepliesTaken.{one_more_reply, reply_refused, stops_bad}
+use Rattle.run_check.proofs.shape.take_replies.Goals as goal
+
+pub returns-in_err-printed : goal.returns-in_err-printed
+returns-in_err-printed c =
+    let l = c.loop-at in
+    let there = sym c.get.ensures ∙ ap option_copied c.in-Some.is in
+    let line = c.in_err-printed.field-0.0.line in
+    let bad = reply_refused c.args.script.now c.args.start l.place l.at l.mode l.replies.items c.in-Some.line.now there l.invariant line (sym c.in_err-printed.ensures) in
+    stops_bad replies_of (take_replies Idle c.args.script.now (place_of c.args.start)) c.from_residual.result line c.from_residual.ensures.1 bad
+
+pub loop-at-preserved : goal.loop-at-preserved
+loop-at-preserved c =
+    let l = c.loop-at in
+    let there = sym c.get.ensures ∙ ap option_copied c.in-Some.is in
+    one_more_reply c.args.script.now c.args.start l.place l.at l.mode l.replies.items c.in-Some.line.now there l.invariant c.in_ok-printed.behind c.after-mode.result c.in_ok-printed.printed c.push.new.self.items (sym c.in_ok-printed.ensures) c.after-mode.ensures (search rules)

@@ -1,0 +1,15 @@
+pub mod Checked
+pub mod Commits
+pub mod CommitView
+pub mod FirstBad
+pub mod Forms
+pub mod inner
+pub mod Laws
+pub mod Mode
+pub mod Output
+pub mod OutputView
+pub mod Reads
+pub mod Shape
+pub mod TextLines
+pub mod Views
+pub mod worked

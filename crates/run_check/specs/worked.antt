@@ -1,0 +1,5 @@
+pub mod Rows
+pub mod ToldTexts
+pub mod WorkedHistory
+pub mod WorkedReplies
+pub mod WorkedShape
