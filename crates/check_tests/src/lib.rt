@@ -1,4 +1,4 @@
-//! Tests of the reading of outputs, by its public call alone.
+//! Tests of the check of outputs, by its public call alone.
 #![tactic(auto)]
 
 #[cfg(test)]

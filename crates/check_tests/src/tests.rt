@@ -1,31 +1,35 @@
-//! Outputs that were told, and near ones with the first line that fails a test.
+//! Outputs that are legal, and near ones with their first bad lines.
 
-use client_script::{Scripts, read_script};
-use mdb_datum::Text;
-use run_check::{Stop, read_output};
-use run_io::Texts;
+use mdb_schema::{Schema, read_schema};
+use run_check::{Verdict, check_output};
 use std::alloc::{AllocError, Global};
 
 mod bytes;
+mod clients;
 mod histories;
+mod legal;
+mod outputs;
+mod replies;
 mod shapes;
-mod told;
+
+use clients::{scripts_of, words_of};
 
 /// A client's word, and the text of its script.
 type Client = (&'static str, &'static str);
 
-/// An output that was told: its clients and its text.
-type Told = (&'static [Client], &'static str);
+/// A legal output: its schema, its clients and its text.
+type Told = (&'static str, &'static [Client], &'static str);
 
-/// A near output: what is told, but with this text in the place of a line, and the first line that
-/// fails a test.
+/// A near output: what is told, but with this text in the place of a line, and its first bad line.
 type Near = (&'static Told, usize, &'static str, u32);
 
-/// What a text tells: how many commits, or the first line that fails a test.
-type Read = Result<usize, u32>;
+/// One table `t`, whose one index is `id`, over the text `name`.
+const ONE_TABLE: &str = r#"{"memdb":1,"tables":{"t":{"indexes":{
+"id":{"unique":true,"indexer":{"kind":"text","field":"name"}}}}}}"#;
 
 /// A client that writes a row and reads it back.
 const ANN: Told = (
+    ONE_TABLE,
     &[(
         "c1",
         "write\ninsert t {\"name\":\"ann\",\"age\":3}\ncommit\nread\nfirst t id [\"ann\"]\nfirst t id [\"bob\"]\n",
@@ -42,6 +46,7 @@ const ANN: Told = (
 
 /// Two clients that write a row each, one after the other.
 const BOTH: Told = (
+    ONE_TABLE,
     &[
         ("c1", "write\ninsert t {\"name\":\"a\"}\ncommit\n"),
         ("c2", "write\ninsert t {\"name\":\"b\"}\ncommit\n"),
@@ -57,46 +62,34 @@ client 2 c2
 "#,
 );
 
-/// Adds the script that a text reads as. A text that can't be read counts as want of memory, which ends
-/// a test.
-fn add_script(alloc: Global, scripts: &mut Scripts, text: &str) -> Result<(), AllocError> {
-    match read_script(alloc, text.as_bytes()) {
-        Ok(script) => scripts.push(script),
+/// The schema that a text reads as. A text that can't be read counts as want of memory, which ends a
+/// test.
+fn schema_of(alloc: Global, text: &str) -> Result<Schema, AllocError> {
+    match read_schema(alloc, text.as_bytes()) {
+        Ok(schema) => Ok(schema),
         Err(_) => Err(AllocError),
     }
 }
 
-/// The scripts of clients.
-fn scripts_of(alloc: Global, clients: &[Client]) -> Result<Scripts, AllocError> {
-    let mut scripts = Scripts::new(alloc);
-    for at in 0..clients.len() {
-        add_script(alloc, &mut scripts, clients[at].1)?;
-    }
-    Ok(scripts)
-}
-
-/// The words of clients.
-fn words_of(alloc: Global, clients: &[Client]) -> Result<Texts, AllocError> {
-    let mut words = Texts::new(alloc);
-    for at in 0..clients.len() {
-        words.push(Text::of(alloc, clients[at].0)?)?;
-    }
-    Ok(words)
-}
-
-/// What a text tells of these clients.
-fn read(alloc: Global, told: &Told, out: &[u8]) -> Result<Read, AllocError> {
-    let words = words_of(alloc, told.0)?;
-    let scripts = scripts_of(alloc, told.0)?;
-    // As the call asks.
-    if words.len() != scripts.len() || scripts.len() > 64 || out.len() > 1 << 24 {
+/// The verdict on a text as what these clients were told. What can't be checked counts as want of
+/// memory.
+fn checked(alloc: Global, told: &Told, out: &[u8]) -> Result<Verdict, AllocError> {
+    let schema = schema_of(alloc, told.0)?;
+    let words = words_of(alloc, told.1)?;
+    let scripts = scripts_of(alloc, told.1)?;
+    if words.len() != scripts.len()
+        || scripts.len() == 0
+        || scripts.len() > 64
+        || out.len() > 1 << 24
+    {
         return Err(AllocError);
     }
-    match read_output(alloc, &words, &scripts, out) {
-        Ok(output) => Ok(Ok(output.commit_count())),
-        Err(Stop::Bad { line }) => Ok(Err(line)),
-        Err(Stop::Memory) => Err(AllocError),
-    }
+    check_output(alloc, &schema, &words, &scripts, out)
+}
+
+/// Whether what is told is legal.
+fn is_legal(alloc: Global, told: &Told) -> Result<bool, AllocError> {
+    Ok(checked(alloc, told, told.2.as_bytes())? == Verdict::Legal)
 }
 
 /// Adds a line, or another text in its place.
@@ -121,16 +114,16 @@ fn with_line(alloc: Global, out: &str, place: usize, text: &str) -> Result<Vec<u
     Ok(near)
 }
 
-/// Whether the first line of a near output that fails a test is the one that it names.
-fn fails_there(alloc: Global, near: &Near) -> Result<bool, AllocError> {
-    let out = with_line(alloc, near.0.1, near.1, near.2)?;
-    Ok(read(alloc, near.0, &out)? == Err(near.3))
+/// Whether the first bad line of a near output is the one that it names.
+fn is_bad_there(alloc: Global, near: &Near) -> Result<bool, AllocError> {
+    let out = with_line(alloc, near.0.2, near.1, near.2)?;
+    Ok(checked(alloc, near.0, &out)? == Verdict::Not { line: near.3 })
 }
 
-/// The place of the first near output of which another line fails, if there is one.
+/// The place of the first near output whose first bad line is another, if there is one.
 fn first_other(alloc: Global, nears: &[Near]) -> Result<Option<usize>, AllocError> {
     for at in 0..nears.len() {
-        if !fails_there(alloc, &nears[at])? {
+        if !is_bad_there(alloc, &nears[at])? {
             return Ok(Some(at));
         }
     }

@@ -13,3 +13,6 @@ run_rows s cs = row (codes "schema") (s ∷ []) ∷ row (codes "clients") cs ∷
 abbrev pub make_rows : Text → Text → Text → List Row
 make_rows a b c =
     row (codes "number") (a ∷ []) ∷ row (codes "clients") (b ∷ []) ∷ row (codes "count") (c ∷ []) ∷ []
+
+abbrev pub check_rows : List Text → List Row
+check_rows fs = row (codes "files") fs ∷ []

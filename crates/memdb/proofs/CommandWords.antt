@@ -1,5 +1,6 @@
 -- What clap makes of the words: of the first, and with it of all.
-use Rattle.std.proofs.Common.{◌≡◌, ◌∙◌, Bool, cond, true, false, refl, sym, ap, ap₂, subst, List, [], ◌∷◌, ◌++◌, length, Option, Some, None, inl, inr, nat_lt, codes, append_assoc, append-nil}
+use Rattle.std.proofs.Common.{◌≡◌, ◌<◌, ◌∙◌, arith, suc, lt-ltb, Bool, cond, true, false, refl, sym, ap, ap₂, subst, List, [], ◌∷◌, ◌++◌, length, Option, Some, None, inl, inr, nat_lt, codes, append_assoc, append-nil}
+use Rattle.std.proofs.lemmas.Bool.Decides.{nat_tests}
 use Rattle.std.specs.List.{list_all, fold}
 use Rattle.std.specs.Option.{is_some, option_map}
 use Rattle.std.specs.Str.{bytes_eq}
@@ -15,11 +16,12 @@ use Rattle.clap.specs.declared.error.kind.ErrorKind.TheVariants as kind
 use Rattle.clap.specs.declared.parser.matches.ArgMatches.{ArgMatches}
 use Rattle.clap.proofs.FaultLemmas.{stopped_fault}
 use Rattle.clap.proofs.OnLiterals.{clap_on_literals}
-use Rattle.memdb.specs.Words.{numbers_behind}
-use Rattle.memdb.specs.inner.CommandLine.{Asked, asked_at, asked_by, asked_of_matches, bare, either, files, program, to_make}
-use Rattle.memdb.proofs.CommandRows.{run_rows, make_rows}
+use Rattle.memdb.specs.Words.{check_behind, last_apart, numbers_behind}
+use Rattle.memdb.specs.inner.CommandLine.{Asked, asked_at, asked_by, asked_of_matches, bare, files, program, to_check, to_make, to_run}
+use Rattle.memdb.proofs.CommandRows.{check_rows, run_rows, make_rows}
 use Rattle.run_io.specs.Named.{files_behind, may_name_a_file}
 use Rattle.memdb.proofs.PlainWords.{left, no_dashes, plain_long, plain_short, right}
+use Rattle.memdb.proofs.CheckWords as check
 use Rattle.memdb.proofs.MakeWords as make
 use Rattle.memdb.proofs.RunWords as run
 use Rattle.memdb.proofs.RunWords.{nothing_else}
@@ -32,7 +34,7 @@ is_fit : is_simple_and_free program ≡ true
 is_fit = refl
 
 abbrev names : Names
-names = (codes "run", []) ∷ (codes "make", []) ∷ []
+names = (codes "run", []) ∷ (codes "make", []) ∷ (codes "check", []) ∷ []
 
 abbrev above : Shape
 above = record bare.top { is_leaf = false; is_built = true }
@@ -50,6 +52,10 @@ step_make : walked [] names (walk_from nothing_held) (codes "make") ≡ stopped_
 unfolding clap_on_literals
 step_make = refl
 
+step_check : walked [] names (walk_from nothing_held) (codes "check") ≡ stopped_at (codes "check") []
+unfolding clap_on_literals
+step_check = refl
+
 step_stopped : (name : Text) (xs : List Text) (w : Text) → walked [] names (stopped_at name xs) w ≡ stopped_at name (xs ++ w ∷ [])
 unfolding walked
 step_stopped name xs w = refl
@@ -66,6 +72,9 @@ walk_run ws = ap (λ v. fold (walked [] names) v ws) step_run ∙ walk_stopped (
 walk_make : (ws : List Text) → walk [] names nothing_held (codes "make" ∷ ws) ≡ stopped_at (codes "make") ws
 walk_make ws = ap (λ v. fold (walked [] names) v ws) step_make ∙ walk_stopped (codes "make") [] ws
 
+walk_check : (ws : List Text) → walk [] names nothing_held (codes "check" ∷ ws) ≡ stopped_at (codes "check") ws
+walk_check ws = ap (λ v. fold (walked [] names) v ws) step_check ∙ walk_stopped (codes "check") [] ws
+
 run_passes : (ws : List Text) → walk_fault above names (walk_from nothing_held) (codes "run" ∷ ws) ≡ []
 unfolding clap_on_literals
 run_passes ws = ap (λ w. walk_fault above names w ws) step_run ∙ stopped_fault above names (walk_from nothing_held) (codes "run", []) ws
@@ -73,6 +82,10 @@ run_passes ws = ap (λ w. walk_fault above names w ws) step_run ∙ stopped_faul
 make_passes : (ws : List Text) → walk_fault above names (walk_from nothing_held) (codes "make" ∷ ws) ≡ []
 unfolding clap_on_literals
 make_passes ws = ap (λ w. walk_fault above names w ws) step_make ∙ stopped_fault above names (walk_from nothing_held) (codes "make", []) ws
+
+check_passes : (ws : List Text) → walk_fault above names (walk_from nothing_held) (codes "check" ∷ ws) ≡ []
+unfolding clap_on_literals
+check_passes ws = ap (λ w. walk_fault above names w ws) step_check ∙ stopped_fault above names (walk_from nothing_held) (codes "check", []) ws
 
 abbrev fault_at : Walk → Kinds
 fault_at w = or_else (entered_fault (built program) w.stopped) (or_else (settle_fault [] false w.held)
@@ -86,6 +99,10 @@ fault_of_make : (ws : List Text) → fault_of program (codes "make" ∷ ws) ≡ 
 unfolding defaults_fault
 fault_of_make ws = ap₂ or_else (make_passes ws) (ap fault_at (walk_make ws)) ∙ nothing_else (make.fault_below ws)
 
+fault_of_check : (ws : List Text) → fault_of program (codes "check" ∷ ws) ≡ check.fault_below ws
+unfolding defaults_fault
+fault_of_check ws = ap₂ or_else (check_passes ws) (ap fault_at (walk_check ws)) ∙ nothing_else (check.fault_below ws)
+
 found_in_run : (s c : Text) (cs : List Text) → list_all may_name_a_file (s ∷ c ∷ cs) ≡ true
     → subcommand_of program (codes "run" ∷ s ∷ c ∷ cs) ≡ Some (codes "run", run_rows s (c ∷ cs))
 found_in_run s c cs e =
@@ -98,15 +115,21 @@ found_in_make a b c e =
     ap (λ (w : Walk). entered (built program) w.stopped) (walk_make (a ∷ b ∷ c ∷ []))
     ∙ ap (λ (w : Walk). Some (codes "make", finished make.rules_below w.held)) (make.walk_three a b c e)
 
+found_in_check : (f : Text) (fs : List Text) → list_all may_name_a_file (f ∷ fs) ≡ true
+    → subcommand_of program (codes "check" ∷ f ∷ fs) ≡ Some (codes "check", check_rows (f ∷ fs))
+found_in_check f fs e =
+    ap (λ (w : Walk). entered (built program) w.stopped) (walk_check (f ∷ fs))
+    ∙ ap (λ (w : Walk). Some (codes "check", finished check.rules_below w.held)) (check.walk_all f fs e)
+
 -- ---- any other first word
 
 abbrev stray : Kinds
 stray = kind.UnknownArgument ∷ kind.InvalidSubcommand ∷ []
 
 no_such : (w : Text) (ws : List Text) → may_name_a_file w ≡ true → bytes_eq (codes "run") w ≡ false → bytes_eq (codes "make") w ≡ false
-    → fault_of program (w ∷ ws) ≡ stray
+    → bytes_eq (codes "check") w ≡ false → fault_of program (w ∷ ws) ≡ stray
 unfolding walk_fault
-no_such w ws e no_run no_make = rw (no_run, no_make, no_dashes w e, plain_long w e, plain_short w e) refl
+no_such w ws e no_run no_make no_check = rw (no_run, no_make, no_check, no_dashes w e, plain_long w e, plain_short w e) refl
 
 -- ---- all words
 
@@ -116,15 +139,15 @@ data Parses (ws : List Text) (asked : Option Asked) : Type 0 where
   taken : fault_of program ws ≡ [] → asked_at (subcommand_of program ws) ≡ asked → Parses ws asked
 
 many : (s c : Text) (cs : List Text) → list_all may_name_a_file (s ∷ c ∷ cs) ≡ true
-    → Parses (codes "run" ∷ s ∷ c ∷ cs) (either (files_behind 64 (s ∷ c ∷ cs)) None)
+    → Parses (codes "run" ∷ s ∷ c ∷ cs) (option_map to_run (files_behind 64 (s ∷ c ∷ cs)))
 many s c cs e = go (nat_lt 64 (length (c ∷ cs))) (fault_of_run (s ∷ c ∷ cs) ∙ run.below_more s c cs e)
   where
     go : (b : Bool) → fault_of program (codes "run" ∷ s ∷ c ∷ cs) ≡ cond b (kind.TooManyValues ∷ []) []
-        → Parses (codes "run" ∷ s ∷ c ∷ cs) (either (cond b None (Some (files s (c ∷ cs)))) None)
+        → Parses (codes "run" ∷ s ∷ c ∷ cs) (option_map to_run (cond b None (Some (files s (c ∷ cs)))))
     go true f = refused kind.TooManyValues [] f refl
     go false f = taken f (ap asked_at (found_in_run s c cs e))
 
-after_run : (ws : List Text) → list_all may_name_a_file ws ≡ true → Parses (codes "run" ∷ ws) (either (files_behind 64 ws) None)
+after_run : (ws : List Text) → list_all may_name_a_file ws ≡ true → Parses (codes "run" ∷ ws) (option_map to_run (files_behind 64 ws))
 after_run [] e = refused kind.MissingRequiredArgument [] (fault_of_run [] ∙ run.below_none) refl
 after_run (s ∷ []) e = refused kind.MissingRequiredArgument [] (fault_of_run (s ∷ []) ∙ run.below_one s (left _ _ e)) refl
 after_run (s ∷ c ∷ cs) e = many s c cs e
@@ -138,15 +161,47 @@ after_make (a ∷ b ∷ c ∷ []) e =
 after_make (a ∷ b ∷ c ∷ d ∷ ds) e =
     refused kind.UnknownArgument [] (fault_of_make (a ∷ b ∷ c ∷ d ∷ ds) ∙ make.below_more a b c d ds e) refl
 
+-- of some words there is a last
+last_of : (w : Text) (ws : List Text) → (front : List Text) × (last : Text) × (last_apart (w ∷ ws) ≡ Some (front, last)) × (length front ≡ length ws)
+last_of w [] = ([], w, refl, refl)
+last_of w (v ∷ vs) =
+    let h = last_of v vs in
+    (w ∷ h.0, h.1, ap (option_map (λ p. (w ∷ p.0, p.1))) h.2, ap suc h.3)
+
+-- more than 64 clients are too many
+none_past : (f g h : Text) (fs : List Text) → nat_lt 66 (length (f ∷ g ∷ h ∷ fs)) ≡ true → check_behind (f ∷ g ∷ h ∷ fs) ≡ None
+none_past f g h fs over =
+    let at = last_of h fs in
+    let long = at.3 in
+    let past : 66 < length (f ∷ g ∷ h ∷ fs) = grind (arith, nat_tests) in
+    let many : nat_lt 64 (length (g ∷ at.0)) ≡ true = lt-ltb 64 (length (g ∷ at.0)) (omega (arith, past, long)) in
+    rw (at.2, many) refl
+
+after_check : (ws : List Text) → list_all may_name_a_file ws ≡ true → Parses (codes "check" ∷ ws) (option_map to_check (check_behind ws))
+after_check [] e = refused kind.MissingRequiredArgument [] (fault_of_check [] ∙ check.below_none) refl
+after_check (f ∷ []) e = refused kind.TooFewValues [] (fault_of_check (f ∷ []) ∙ check.below_one f e) refl
+after_check (f ∷ g ∷ []) e = refused kind.TooFewValues [] (fault_of_check (f ∷ g ∷ []) ∙ check.below_two f g e) refl
+after_check (f ∷ g ∷ h ∷ fs) e = go (nat_lt 66 (length (f ∷ g ∷ h ∷ fs))) refl (fault_of_check (f ∷ g ∷ h ∷ fs) ∙ check.below_more f g h fs e)
+  where
+    go : (b : Bool) → nat_lt 66 (length (f ∷ g ∷ h ∷ fs)) ≡ b → fault_of program (codes "check" ∷ f ∷ g ∷ h ∷ fs) ≡ cond b (kind.TooManyValues ∷ []) []
+        → Parses (codes "check" ∷ f ∷ g ∷ h ∷ fs) (option_map to_check (check_behind (f ∷ g ∷ h ∷ fs)))
+    go true over fault = refused kind.TooManyValues [] fault (ap (option_map to_check) (none_past f g h fs over))
+    go false within fault = taken fault (ap asked_at (found_in_check f (g ∷ h ∷ fs) e))
+
 parsed_as : (ws : List Text) → list_all may_name_a_file ws ≡ true → Parses ws (asked_by ws)
 parsed_as [] e = refused kind.MissingSubcommand [] no_words refl
 parsed_as (w ∷ ws) e = if_run (bytes_eq (codes "run") w) refl
   where
+    if_check : bytes_eq (codes "run") w ≡ false → bytes_eq (codes "make") w ≡ false → (b : Bool) → bytes_eq (codes "check") w ≡ b → Parses (w ∷ ws) (asked_by (w ∷ ws))
+    if_check no_run no_make true is =
+        subst (λ v. Parses (v ∷ ws) (asked_by (v ∷ ws))) ((bytes_eq-Decides (codes "check") w).0 is) (after_check ws (right _ _ e))
+    if_check no_run no_make false no_check =
+        refused kind.UnknownArgument (kind.InvalidSubcommand ∷ []) (no_such w ws (left _ _ e) no_run no_make no_check) (rw (no_run, no_make, no_check) refl)
+
     if_make : bytes_eq (codes "run") w ≡ false → (b : Bool) → bytes_eq (codes "make") w ≡ b → Parses (w ∷ ws) (asked_by (w ∷ ws))
     if_make no_run true is =
         subst (λ v. Parses (v ∷ ws) (asked_by (v ∷ ws))) ((bytes_eq-Decides (codes "make") w).0 is) (after_make ws (right _ _ e))
-    if_make no_run false no_make =
-        refused kind.UnknownArgument (kind.InvalidSubcommand ∷ []) (no_such w ws (left _ _ e) no_run no_make) (rw (no_run, no_make) refl)
+    if_make no_run false no_make = if_check no_run no_make (bytes_eq (codes "check") w) refl
 
     if_run : (b : Bool) → bytes_eq (codes "run") w ≡ b → Parses (w ∷ ws) (asked_by (w ∷ ws))
     if_run true is =

@@ -1,6 +1,9 @@
 pub mod AgesBounded
 pub mod AllAnswered
 pub mod AskedWords
+pub mod ByStatus
+pub mod CheckWords
+pub mod CheckedOutput
 pub mod ClientItems
 pub mod CommandRows
 pub mod CommandWords
@@ -21,6 +24,8 @@ pub mod MoreScripts
 pub mod NameBytes
 pub mod NumberDigits
 pub mod OneCause
+pub mod OneCommand
+pub mod PassedRuns
 pub mod PlainTexts
 pub mod PlainWords
 pub mod ReadSchema

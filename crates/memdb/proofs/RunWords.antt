@@ -95,7 +95,7 @@ words_pass s c cs e =
     ∙ clients_pass s (c ∷ []) cs (right _ _ (right _ _ e)))
 
 -- any text is a value
-any_text : (a : Rule) (i : Bool) (vs : List Text) → values_kinds i vp.String vs ≡ []
+pub any_text : (a : Rule) (i : Bool) (vs : List Text) → values_kinds i vp.String vs ≡ []
 any_text a i [] = refl
 any_text a i (v ∷ vs) = any_text a i vs
 

@@ -1,5 +1,6 @@
--- The words of the command line: `run SCHEMA CLIENT..` and `make NUMBER CLIENTS COUNT`.
-use Rattle.std.specs.Prelude.{◌&&◌, ℕ, List, [], ◌∷◌, ◌++◌, length, nat_lt, nat_le, Bool, if◌then◌else◌, Option, Some, None, codes}
+-- The words of the command line: `run SCHEMA CLIENT..`, `make NUMBER CLIENTS COUNT` and
+-- `check SCHEMA CLIENT.. OUTPUT`.
+use Rattle.std.specs.Prelude.{◌&&◌, ℕ, List, [], ◌∷◌, ◌++◌, length, nat_lt, nat_le, Bool, if◌then◌else◌, Option, Some, None, codes, option_map, option_and_then}
 use Rattle.std.specs.Char.{is_ascii_digit}
 use Rattle.std.specs.List.{list_all}
 use Rattle.std.specs.Str.{bytes_eq}
@@ -14,8 +15,44 @@ run_of [] = None
 run_of (word ∷ rest) = if bytes_eq (codes "run") word then files_behind 64 rest else None
 
 -- the same where each word may name a file
+abbrev pub run_named : List Bytes → Option Named
+run_named words = if list_all may_name_a_file words then run_of words else None
+
+-- ---- `check SCHEMA CLIENT.. OUTPUT`
+
+-- the files that a check names: its schema and the scripts of its clients, and an output
+pub record Checked : Type 0 where
+  pub inputs : Named
+  pub output : Bytes
+
+-- the words before the last, and the last
+abbrev pub last_apart : List Bytes → Option (List Bytes × Bytes)
+last_apart [] = None
+last_apart (word ∷ []) = Some ([], word)
+last_apart (word ∷ next ∷ more) = option_map (λ p. (word ∷ p.0, p.1)) (last_apart (next ∷ more))
+
+-- the last word names the output, and those before it are as behind `run`
+abbrev pub check_behind : List Bytes → Option Checked
+check_behind words =
+    option_and_then (λ p. option_map (λ n. record { inputs = n; output = p.1 }) (files_behind 64 p.0))
+    (last_apart words)
+
+-- `check SCHEMA CLIENT.. OUTPUT`, with 1 to 64 clients
+abbrev pub check_of : List Bytes → Option Checked
+check_of [] = None
+check_of (word ∷ rest) = if bytes_eq (codes "check") word then check_behind rest else None
+
+-- the same where each word may name a file
+abbrev pub check_named : List Bytes → Option Checked
+check_named words = if list_all may_name_a_file words then check_of words else None
+
+-- the inputs' files of either command
+abbrev pub files_of : Option Named → Option Checked → Option Named
+files_of (Some named) checked = Some named
+files_of None checked = option_map (λ c. c.inputs) checked
+
 abbrev pub files_named : List Bytes → Option Named
-files_named words = if list_all may_name_a_file words then run_of words else None
+files_named words = files_of (run_named words) (check_named words)
 
 -- ---- `make NUMBER CLIENTS COUNT`
 
@@ -57,8 +94,9 @@ numbers_named words = if list_all may_name_a_file words then make_of words else 
 
 -- ---- what is told of other words
 
--- two lines
+-- three lines
 abbrev pub usage_text : Bytes
 usage_text =
     codes "usage: memdb run SCHEMA CLIENT..."
-    ++ (10 ∷ (codes "       memdb make NUMBER CLIENTS COUNT" ++ 10 ∷ []))
+    ++ (10 ∷ (codes "       memdb make NUMBER CLIENTS COUNT"
+    ++ (10 ∷ (codes "       memdb check SCHEMA CLIENT... OUTPUT" ++ 10 ∷ []))))

@@ -1,12 +1,17 @@
-//! What calls for each status of [`crate::run::run`], as a law of the definition.
+//! What holds of the answers of [`crate::run::run`], as laws of their definitions. The functions do
+//! nothing: their contracts are the laws.
 ghost use Rattle.memdb.specs.Causes.{NoTwoCauses, OneCauseWhereTold};
+ghost use Rattle.memdb.specs.RunsPass.{RunsPass};
 
-/// Exactly one cause. Whatever the words and the files are, no two of the statuses 0, 1, 2, 3, 5
-/// and 7 are called for. Where the files tell their bytes, and no read fails but of a file that
-/// isn't there, one of them is.
-///
-/// It does nothing: its contract is the law.
+/// Exactly one cause. Whatever the words and the files are, no two of the statuses 0, 1, 2, 3, 5, 7
+/// and 10 are called for, where 10 is that of an output which can be checked. Where the files tell
+/// their bytes, and no read fails but of a file that isn't there, one of them is.
 pub fn one_cause()
     ensures no_two { NoTwoCauses }
     ensures one { OneCauseWhereTold }
+{}
+
+/// No output with which `run` ended with 0 is refused by `check`.
+pub fn runs_pass()
+    ensures { RunsPass }
 {}

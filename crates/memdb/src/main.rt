@@ -11,6 +11,7 @@
 
 mod answers;
 mod causes;
+mod checking;
 mod made;
 mod outcome;
 mod output;
@@ -20,10 +21,10 @@ mod sessions;
 mod tests;
 mod words;
 
-ghost use Rattle.std.specs.Prelude.{◌≡◌, ℕ, ◌∷◌, []};
+ghost use Rattle.std.specs.Prelude.{◌≡◌, ℕ};
 ghost use Rattle.mdb_ports.specs.Faults.{Rose};
 ghost use Rattle.run_io.specs.Arguments.{words_in};
-ghost use Rattle.memdb.specs.Causes.{CallsFor};
+ghost use Rattle.memdb.specs.Causes.{CallsFor, statuses_for};
 ghost use Rattle.memdb.specs.Outcome.{IsAnswer};
 ghost use Rattle.run_io.specs.Ended.{HasEnded};
 ghost use Rattle.run_io.specs.Observed.{observed};
@@ -65,8 +66,7 @@ fn run_arguments<R: Threads + Wait + Sync, F: Files, S: Sink>(
         HasEnded (IsAnswer (words_in args) seen) (S.told out.old) (S.told out.new) result }
     ensures comes { let seen = observed (F.told files.old) (F.reliable files.old)
         (F.faults files.old) (F.faults files.new) in
-        (status : ℕ) → CallsFor (words_in args) seen status
-        → IsOneOf (status ∷ 4 ∷ 6 ∷ []) result }
+        (status : ℕ) → CallsFor (words_in args) seen status → IsOneOf (statuses_for status) result }
     ensures failed { result ≡ 6 → Rose (S.faults out.old) (S.faults out.new) }
 {
     match words_of(alloc, args) {

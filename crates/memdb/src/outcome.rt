@@ -4,12 +4,13 @@ ghost use Rattle.client_script.specs.Legal.{Legal};
 ghost use Rattle.mdb_datum.specs.Bytes.{Bytes};
 ghost use Rattle.memdb.specs.Made.{summary};
 ghost use Rattle.memdb.specs.Outcome.{IsAnswer};
-ghost use Rattle.memdb.specs.Words.{files_named};
+ghost use Rattle.memdb.specs.Words.{files_named, run_named};
 ghost use Rattle.memdb.specs.inner.CommandOf.{IsCommandOf};
 ghost use Rattle.run_io.specs.NamedOf.{named_of};
 ghost use Rattle.run_io.specs.Observed.{observed, Stays};
 
 use crate::answers::answers;
+use crate::checking::checked;
 use crate::made::made_summary;
 use crate::output::{Output, usage};
 use crate::words::{Command, Numbers};
@@ -63,6 +64,7 @@ fn answered<R: Threads + Wait + Sync, F: Files, G: Gate + Sync>(
     match command {
         Some(Command::Run(named)) => loaded(rt, alloc, &named, files, gate),
         Some(Command::Make(numbers)) => summed_up(rt, alloc, gate, &numbers),
+        Some(Command::Check(named)) => checked(alloc, &named, files),
         None => usage(alloc),
     }
 }
@@ -81,7 +83,7 @@ fn summed_up<R: Threads + Wait + Sync, G: Gate + Sync>(
     Ok(Output { status: 0, text })
 }
 
-/// The output for the files that a command names.
+/// The output for the files that `run` names.
 fn loaded<R: Threads + Wait + Sync, F: Files, G: Gate + Sync>(
     rt: &R,
     alloc: Global,
@@ -94,7 +96,7 @@ fn loaded<R: Threads + Wait + Sync, F: Files, G: Gate + Sync>(
         Stays seen (F.told files.new) (F.reliable files.new) }
     ensures answer { let seen = observed (F.told files.old) (F.reliable files.old)
         (F.faults files.old) (F.faults files.new) in
-        IfOk result (λ output. (words : List Bytes) → files_named words ≡ Some (named_of named.now)
+        IfOk result (λ output. (words : List Bytes) → run_named words ≡ Some (named_of named.now)
         → IsAnswer words seen output.status output.text.items) }
 {
     match load(alloc, files, &named.schema, &named.clients) {

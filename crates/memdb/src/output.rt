@@ -5,7 +5,9 @@ ghost use Rattle.memdb.specs.Words.{usage_text};
 pub use run_io::{Output, end_line, write_number};
 use std::alloc::{AllocError, Global};
 
-const USAGE: &[u8] = b"usage: memdb run SCHEMA CLIENT...\n       memdb make NUMBER CLIENTS COUNT\n";
+const USAGE: &[u8] = b"usage: memdb run SCHEMA CLIENT...\n\
+\x20      memdb make NUMBER CLIENTS COUNT\n\
+\x20      memdb check SCHEMA CLIENT... OUTPUT\n";
 
 /// What is written where the words are no command.
 pub fn usage(alloc: Global) -> Result<Output, AllocError>

@@ -1,9 +1,10 @@
 //! The top call.
 ghost use Rattle.std.specs.Prelude.{◌≡◌, ◌≢◌, ◌≤◌, ◌⊎◌, ◌∷◌, [], ℕ, None};
 ghost use Rattle.mdb_ports.specs.Faults.{Rose};
-ghost use Rattle.memdb.specs.Causes.{CallsFor};
+ghost use Rattle.memdb.specs.Causes.{CallsFor, statuses_for};
+ghost use Rattle.memdb.specs.CheckOutcome.{CannotReadOutput, IsBad, IsLegal, OutputTooLarge};
 ghost use Rattle.memdb.specs.Outcome.{Done, IsAnswer, Made, Usage};
-ghost use Rattle.memdb.specs.Words.{files_named};
+ghost use Rattle.memdb.specs.Words.{check_named, files_named};
 ghost use Rattle.run_io.specs.Ended.{CutShort, Wrote};
 ghost use Rattle.run_io.specs.Observed.{observed, Stays};
 ghost use Rattle.run_io.specs.Refusals.{BrokenSchema, BrokenScript, CannotRead, TooLarge};
@@ -20,7 +21,8 @@ use std::thread::Threads;
 /// Runs the command that the words are, over these files, and writes its text to the sink. It
 /// answers the status:
 ///
-/// - 0: the answers were written, which are answers in one history; or, of `make`, the summary;
+/// - 0: the answers were written, which are answers in one history; or, of `make`, the summary; or, of
+///   `check`, `legal`, and the output is answers in one history;
 /// - 1: the words are no command, and the usage was written;
 /// - 2: the schema breaks a rule, and `schema RULE` was written, with the names of the table and
 ///   the index where the rule has them;
@@ -29,7 +31,9 @@ use std::thread::Threads;
 /// - 4: there was not enough memory, and nothing was written;
 /// - 5: a file can't be read, and `cannot read NAME` was written;
 /// - 6: the sink failed, and the beginning of a text was written;
-/// - 7: a file has more than 1,048,576 bytes, and `too large NAME` was written.
+/// - 7: a file has more than 1,048,576 bytes, or an output that is checked has more than 16,777,216,
+///   and `too large NAME` was written;
+/// - 10: the output that is checked isn't legal, and `line L` was written for its first bad line.
 ///
 /// Each client is run on a thread of its own. The gate is passed at each line of its script. The
 /// call returns once all clients are done: never, where one waits for what nobody does.
@@ -45,7 +49,8 @@ pub fn run<R: Threads + Wait + Sync, F: Files, S: Sink, G: Gate + Sync>(
     ensures answered { let seen = observed (F.told files.old) (F.reliable files.old)
         (F.faults files.old) (F.faults files.new) in
         result ≡ 0 → Wrote (S.told out.old) (S.told out.new)
-        (λ text. Done words.now seen text ⊎ Made words.now text) }
+        (λ text. Done words.now seen text ⊎ Made words.now text
+        ⊎ IsLegal (check_named words.now) seen text) }
     ensures usage { let seen = observed (F.told files.old) (F.reliable files.old)
         (F.faults files.old) (F.faults files.new) in
         result ≡ 1 → Wrote (S.told out.old) (S.told out.new) (Usage words.now seen) }
@@ -61,7 +66,8 @@ pub fn run<R: Threads + Wait + Sync, F: Files, S: Sink, G: Gate + Sync>(
     ensures cannot_read { let seen = observed (F.told files.old) (F.reliable files.old)
         (F.faults files.old) (F.faults files.new) in
         result ≡ 5 → Wrote (S.told out.old) (S.told out.new)
-        (CannotRead (files_named words.now) seen) }
+        (λ text. CannotRead (files_named words.now) seen text
+        ⊎ CannotReadOutput (check_named words.now) seen text) }
     ensures cut_short { let seen = observed (F.told files.old) (F.reliable files.old)
         (F.faults files.old) (F.faults files.new) in
         result ≡ 6 → Rose (S.faults out.old) (S.faults out.new)
@@ -69,13 +75,19 @@ pub fn run<R: Threads + Wait + Sync, F: Files, S: Sink, G: Gate + Sync>(
     ensures too_large { let seen = observed (F.told files.old) (F.reliable files.old)
         (F.faults files.old) (F.faults files.new) in
         result ≡ 7 → Wrote (S.told out.old) (S.told out.new)
-        (TooLarge (files_named words.now) seen) }
-    ensures no_other { IsOneOf (0 ∷ 1 ∷ 2 ∷ 3 ∷ 4 ∷ 5 ∷ 6 ∷ 7 ∷ []) result }
+        (λ text. TooLarge (files_named words.now) seen text
+        ⊎ OutputTooLarge (check_named words.now) seen text) }
+    ensures first_bad { let seen = observed (F.told files.old) (F.reliable files.old)
+        (F.faults files.old) (F.faults files.new) in
+        result ≡ 10 → Wrote (S.told out.old) (S.told out.new)
+        (IsBad (check_named words.now) seen) }
+    ensures no_other { IsOneOf (0 ∷ 1 ∷ 2 ∷ 3 ∷ 4 ∷ 5 ∷ 6 ∷ 7 ∷ 10 ∷ []) result }
 
-    // Where its cause is there a status comes, but for want of memory and a failed write.
+    // Where its cause is there a status comes, but for want of memory and a failed write: of an
+    // output that can be checked, 0 or 10.
     ensures comes { let seen = observed (F.told files.old) (F.reliable files.old)
         (F.faults files.old) (F.faults files.new) in
-        (status : ℕ) → CallsFor words.now seen status → IsOneOf (status ∷ 4 ∷ 6 ∷ []) result }
+        (status : ℕ) → CallsFor words.now seen status → IsOneOf (statuses_for status) result }
 
     // What stays. No call of the sink fails, but where the status is 6. Words that are no command
     // touch no file.

@@ -10,6 +10,7 @@ use std::thread::Threads;
 
 mod arguments;
 mod catalogue;
+mod check;
 mod clients;
 mod held;
 mod hostile;
@@ -84,7 +85,9 @@ const PREFIX_NAME: &str = r#"{"memdb":1,"tables":{"t":{"indexes":{
 
 const BAD_INDEX: &str = r#"{"memdb":1,"tables":{"t":{"indexes":{"a\"b\u0001\n":1,"id":1}}}}"#;
 
-const USAGE: &str = "usage: memdb run SCHEMA CLIENT...\n       memdb make NUMBER CLIENTS COUNT\n";
+const USAGE: &str = "usage: memdb run SCHEMA CLIENT...\n\
+\x20      memdb make NUMBER CLIENTS COUNT\n\
+\x20      memdb check SCHEMA CLIENT... OUTPUT\n";
 
 const EMPTY: &str = "write\ncommit\nread\n";
 
@@ -399,12 +402,15 @@ const LAWFUL: &[File] = &[("S", &[(SCHEMA, 1)]), ("c1", &[(ANN, 1)])];
 const NO_COMMAND: Want = Want::Ends(1, USAGE);
 
 /// Words that are no command, beside lawful files.
-static NO_COMMANDS: [Run; 5] = [
+static NO_COMMANDS: [Run; 8] = [
     ("", LAWFUL, (0, 0), NO_COMMAND),
     ("run S", LAWFUL, (0, 0), NO_COMMAND),
     ("run S c1 -x", LAWFUL, (0, 0), NO_COMMAND),
     ("run -x c1", LAWFUL, (0, 0), NO_COMMAND),
     ("make 1 65 3", LAWFUL, (0, 0), NO_COMMAND),
+    ("check S c1", LAWFUL, (0, 0), NO_COMMAND),
+    ("check S c1 -x", LAWFUL, (0, 0), NO_COMMAND),
+    ("checks S c1 c1", LAWFUL, (0, 0), NO_COMMAND),
 ];
 
 #[test]

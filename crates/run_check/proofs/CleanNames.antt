@@ -1,6 +1,6 @@
 -- Names and texts without line feeds, in commands, schemas and what a client knows; and what is
 -- judged of them.
-use Rattle.std.proofs.Common.{arith, ◌≡◌, refl, ap, subst, sym, ◌∙◌, ℕ, zero, suc, inl, inr, List, [], ◌∷◌, ◌++◌, length, Bool, true, false, ◌&&◌, Option, Some, None, Ok, Err, slice_get, map, reverse, codes}
+use Rattle.std.proofs.Common.{arith, ◌≡◌, refl, ap, subst, sym, ◌∙◌, ℕ, zero, suc, inl, inr, List, [], ◌∷◌, ◌++◌, length, Bool, true, false, Option, Some, None, Ok, Err, slice_get, map, reverse, codes}
 use Rattle.std.specs.Bool.{⊤}
 use Rattle.std.specs.List.{list_all}
 use Rattle.std.specs.Prelude.{if◌then◌else◌, nat_lt}
@@ -28,14 +28,11 @@ use Rattle.client_script.specs.Watching.{check_judged, limit_judged, put_set, se
 use Rattle.client_script.specs.declared.command.Command.{Command}
 use Rattle.client_script.specs.declared.command.Command.TheVariants as command
 use Rattle.client_script.specs.declared.command.NameCommand.TheVariants as name_line
+pub use Rattle.run_check.specs.inner.Decided.{AreNamed, is_named}
 use Rattle.run_check.proofs.IndentedTexts.{AreFlat, AreFlatChanges, IsCleanReply}
 use Rattle.run_check.proofs.PlainTexts.{is_flat, is_other, lacks, lacks_both}
 
 -- ---- names
-
--- there are bytes, and all are those of names
-abbrev pub is_named : Bytes → Bool
-is_named bs = nat_lt 0 (length bs) && list_all is_name_byte bs
 
 other_byte : (c b : ℕ) → is_name_byte c ≡ false → is_name_byte b ≡ true → is_other c b ≡ true
 other_byte c b other here = elim (cases_eq b c) [
@@ -78,10 +75,6 @@ HasFlatTexts closed = ⊤
 HasFlatTexts (reading n) = ⊤
 HasFlatTexts (writing t) = AreFlat t.texts
 
-abbrev pub AreNamed : List Watch → Type 0
-AreNamed [] = ⊤
-AreNamed (w ∷ ws) = (is_named w.name ≡ true) × AreNamed ws
-
 abbrev pub HaveNamedMembers : List WatchSet → Type 0
 HaveNamedMembers [] = ⊤
 HaveNamedMembers (s ∷ ss) = AreNamed s.members × HaveNamedMembers ss
@@ -117,7 +110,7 @@ pub passed_gives : (rule : Bytes) (b : Bool) → is_flat rule ≡ true → Gives
 passed_gives rule true flat = tt
 passed_gives rule false flat = flat
 
-abbrev IfThere : {A : Type 0} → (A → Type 0) → Option A → Type 0
+abbrev pub IfThere : {A : Type 0} → (A → Type 0) → Option A → Type 0
 IfThere P None = ⊤
 IfThere P (Some a) = P a
 

@@ -41,10 +41,10 @@ writes_joined (l ∷ xs) ys =
     ∙ sym (append_assoc (write_of l.command) (writes_of xs) (writes_of ys))
 
 -- none stands between a place and itself
-no_writes : (at : ℕ) (script : List Line) → writes_between at at script ≡ []
+pub no_writes : (at : ℕ) (script : List Line) → writes_between at at script ≡ []
 no_writes at script = let none : at - at ≡ 0 = omega arith in ap (λ (n : ℕ). writes_of (take n (drop at script))) none
 
-one_more_write : (first at : ℕ) (script : List Line) (l : Line) → slice_get script at ≡ Some l → first ≤ at → writes_between first (at + 1) script ≡ writes_between first at script ++ write_of l.command
+pub one_more_write : (first at : ℕ) (script : List Line) (l : Line) → slice_get script at ≡ Some l → first ≤ at → writes_between first (at + 1) script ≡ writes_between first at script ++ write_of l.command
 one_more_write first at script l there le =
     let within : at < length script = slice_get_within script at l there in
     let rest : List Line = drop first script in

@@ -48,11 +48,11 @@ use Rattle.run_check.proofs.WrittenNumbers.{EndsNumber, number_after}
 -- ---- the number of a commit in a text
 
 -- the commit that a reply prints
-abbrev commit_of : Reply → Option ℕ
+abbrev pub commit_of : Reply → Option ℕ
 commit_of (committed n changed texts) = Some n
 commit_of r = None
 
-ends_number : (changed : List Changed) (texts : List Bytes) → EndsNumber (changed_lines changed ++ did_lines texts)
+pub ends_number : (changed : List Changed) (texts : List Bytes) → EndsNumber (changed_lines changed ++ did_lines texts)
 ends_number [] [] = tt
 ends_number [] (t ∷ texts) = refl
 ends_number (c ∷ changed) texts = refl
@@ -104,7 +104,7 @@ few_rows (stopped_at n) small = tt
 few_rows (refused rule) small = tt
 
 -- what is open behind a line, by the lines alone
-working_mode : (w : Working) (c : Command) (text : Bytes) → (working_after w c text).mode ≡ mode_after w.mode c
+pub working_mode : (w : Working) (c : Command) (text : Bytes) → (working_after w c text).mode ≡ mode_after w.mode c
 working_mode w c text = of w.mode w.begun w.lines c
   where
     of : (m : Mode) (b : Option ℕ) (ls : List WriteCommand) (c : Command) → (working_after (record { mode = m; begun = b; lines = ls }) c text).mode ≡ mode_after m c
@@ -196,7 +196,7 @@ module _ (schema : DbSchema) (H : History) where
   AreRightFor rs cs = AllRight cs × (numbers_of cs ≡ printed rs)
 
   module _ (laws : IsLawfulSchema schema) (names : IsCleanSchema schema) (few : AreFew schema H) where
-    before_limit : (now : ℕ) → now ≤ length H → (nat_lt now commit_limit ≡ true) × (now < 2 ^ 64)
+    pub before_limit : (now : ℕ) → now ≤ length H → (nat_lt now commit_limit ≡ true) × (now < 2 ^ 64)
     before_limit now le =
         let small = few.commits in
         let lt : now < 2 ^ 63 = omega (arith, le, small) in
@@ -207,7 +207,7 @@ module _ (schema : DbSchema) (H : History) where
     line_known client n v next w l r lines known works plain number short a =
         let small : IsSmall r = reply_small schema laws names H few n lines v known client l.command r next plain a short in
         let limit = before_limit a.now a.there in
-        let none : (x : WriteCommand) → IsSpent schema H v x r next → ⊥ = unspent schema laws names H few n lines v known client l.command r next a in (
+        let none : (x : WriteCommand) → IsSpent schema H v x r next → ⊥ = unspent schema laws names H few n lines v known client l.command r next in (
           record {
             number = number;
             clean = (answered_clean schema names H v known.clean client a.now l.command r next plain a.says).0;

@@ -1,14 +1,13 @@
 -- A legal text has no first bad line: it passes the first three tests, which find its history, and
 -- each client is told what it may be told.
-use Rattle.std.proofs.Common.{arith, ◌≡◌, refl, ap, ap₂, subst, sym, ◌∙◌, ℕ, zero, suc, ◌+◌, ◌^◌, ◌<◌, ◌≤◌, inl, inr, List, [], ◌∷◌, ◌++◌, length, map, take, not, Bool, true, false, ◌==◌, ◌&&◌, ◌||◌, Some, Ok, slice_get, Contains, IsPermutation, sum_by}
+use Rattle.std.proofs.Common.{arith, ◌≡◌, refl, ap, subst, sym, ◌∙◌, ℕ, zero, suc, ◌+◌, ◌^◌, ◌<◌, ◌≤◌, inl, inr, List, [], ◌∷◌, ◌++◌, length, take, not, Bool, true, false, ◌==◌, ◌&&◌, Some, Ok, slice_get, Contains, IsPermutation}
 use Rattle.std.specs.List.{enumerate_from, list_any}
 use Rattle.std.specs.Prelude.{if◌then◌else◌, nat_eq, nat_le}
 use Rattle.std.proofs.lemmas.Bool.{and_from, cases_eq, not_from_false}
 use Rattle.std.proofs.lemmas.Bool.Decides.{nat_tests}
-use Rattle.std.proofs.lemmas.List.{length-map, length-take-le, map-append}
+use Rattle.std.proofs.lemmas.List.{length-map, length-take-le}
 use Rattle.std.proofs.lemmas.List.FromFn.{length-enumerate_from}
 use Rattle.std.proofs.lemmas.List.Sorted.{Contains-permutation, IsPermutation-map, length_permutation, sum_by-IsPermutation}
-use Rattle.std.proofs.lemmas.List.Sums.{sum_by-cons}
 use Rattle.std.proofs.lemmas.Option.{slice_get_within}
 use Rattle.std.proofs.Math.Seq.{take-length}
 use Rattle.mdb_datum.specs.Bytes.{Bytes}
@@ -19,7 +18,7 @@ use Rattle.mdb_schema.specs.Schema.{DbSchema}
 use Rattle.mdb_schema.specs.State.{empty_state}
 use Rattle.mdb_schema.specs.Tests.{◌>>=◌, passed}
 use Rattle.client_script.specs.Client.{Client, at_start}
-use Rattle.client_script.specs.Legal.{Legal, all_printed, callers, printed}
+use Rattle.client_script.specs.Legal.{Legal, all_printed, callers}
 use Rattle.client_script.specs.Reply.{Reply, output_text}
 use Rattle.client_script.specs.Session.{Runs, Sessions}
 use Rattle.client_script.specs.declared.line.Line.{Line}
@@ -34,67 +33,11 @@ use Rattle.run_check.proofs.CommitsRead.{AllRight, IsRight, all_numbers, numbers
 use Rattle.run_check.proofs.FewWritten.{all_written, replies_in}
 use Rattle.run_check.proofs.FirstBadOne.{AllTold, IsBadBy, none_untold}
 use Rattle.run_check.proofs.LineNumbers.{AllBelow}
+use Rattle.run_check.proofs.NumberCounts.{all_firsts, count, count_sum, each_once, firsts, none_found, one_if}
 use Rattle.run_check.proofs.OutputCut.{AreCleanScripts, HaveReplies, sessions_clean}
 use Rattle.run_check.proofs.RepliesRead.{AllPrinted, AreFlatWords, ArePrinted, MayStandIn, output_read}
 use Rattle.run_check.proofs.SmallReplies.{AreFew}
 use Rattle.run_check.proofs.TextSizes.{AllShort, all_printed_few, output_short}
-
--- ---- no number comes twice
-
--- how often a number comes
-abbrev count : ℕ → List ℕ → ℕ
-count m [] = 0
-count m (x ∷ xs) = (if nat_eq m x then 1 else 0) + count m xs
-
-abbrev one_if : ℕ → ℕ → ℕ
-one_if m x = if nat_eq m x then 1 else 0
-
-count_sum : (m : ℕ) (xs : List ℕ) → sum_by (one_if m) xs ≡ count m xs
-count_sum m [] = refl
-count_sum m (x ∷ xs) = sum_by-cons (one_if m) x xs ∙ ap (λ (n : ℕ). one_if m x + n) (count_sum m xs)
-
--- where it comes nowhere, no test finds it
-none_found : (m : ℕ) (xs : List ℕ) → count m xs ≡ 0 → list_any (nat_eq m) xs ≡ false
-none_found m [] none = refl
-none_found m (x ∷ xs) none = by (nat_eq m x) none (none_found m xs)
-  where
-    by : (t : Bool) → (if t then 1 else 0) + count m xs ≡ 0 → (count m xs ≡ 0 → list_any (nat_eq m) xs ≡ false) → (t || list_any (nat_eq m) xs) ≡ false
-    by true e rest = absurd (omega (arith, e))
-    by false e rest = rest (omega (arith, e))
-
--- numbers one after the other
-abbrev firsts : {A : Type 0} → List (ℕ × A) → List ℕ
-firsts ps = map (λ p. p.0) ps
-
-low_none : {A : Type 0} (m i : ℕ) (xs : List A) → m < i → count m (firsts (enumerate_from i xs)) ≡ 0
-low_none m i [] lt = refl
-low_none m i (x ∷ xs) lt =
-    let apart : nat_eq m i ≡ false = grind (arith, nat_tests, lt) in
-    let rest = low_none m (i + 1) xs (omega (arith, lt)) in
-    subst (λ (t : Bool). (if t then 1 else 0) + count m (firsts (enumerate_from (i + 1) xs)) ≡ 0) (sym apart) (omega (arith, rest))
-
-each_once : {A : Type 0} (m i : ℕ) (xs : List A) → count m (firsts (enumerate_from i xs)) ≤ 1
-each_once m i [] = omega arith
-each_once m i (x ∷ xs) = elim (cases_eq m i) [
-  | inl same ↦
-      let none = low_none m (i + 1) xs (omega (arith, same)) in
-      let is : nat_eq m i ≡ true = grind (arith, nat_tests, same) in
-      subst (λ (t : Bool). (if t then 1 else 0) + count m (firsts (enumerate_from (i + 1) xs)) ≤ 1) (sym is) (omega (arith, none))
-  | inr other ↦
-      let rest = each_once m (i + 1) xs in
-      let is : nat_eq m i ≡ false = grind (arith, nat_tests, other) in
-      subst (λ (t : Bool). (if t then 1 else 0) + count m (firsts (enumerate_from (i + 1) xs)) ≤ 1) (sym is) (omega (arith, rest))
-]
-
-firsts_of : (k : ℕ) (ms : List ℕ) → firsts {A = ℕ} (map {A = ℕ} {B = ℕ × ℕ} (λ m. (m, k)) ms) ≡ ms
-firsts_of k [] = refl
-firsts_of k (m ∷ ms) = ap (λ (xs : List ℕ). m ∷ xs) (firsts_of k ms)
-
-all_firsts : (k : ℕ) (rss : List (List Reply)) → firsts (all_printed k rss) ≡ all_numbers rss
-all_firsts k [] = refl
-all_firsts k (rs ∷ rss) =
-    map-append (λ (p : ℕ × ℕ). p.0) (map (λ m. (m, k)) (printed rs)) (all_printed (k + 1) rss)
-    ∙ ap₂ (λ (x y : List ℕ). x ++ y) (firsts_of k (printed rs)) (all_firsts (k + 1) rss)
 
 module _ (H : History) (rss : List (List Reply)) (numbers' : IsPermutation (enumerate_from 1 (callers H)) (all_printed 1 rss)) where
   -- so no client was told a number twice, nor two the same

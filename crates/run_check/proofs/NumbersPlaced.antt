@@ -264,6 +264,7 @@ all_placed cs k order found end is so_far =
     record {
       numbered = so_far.left ∙ ap (numbers (length cs) so_far.seen) (drop_of_length-le cs (omega (arith, end)));
       whole = ap length is ∙ full.0 ∙ whole;
+      within = λ m at some. so_far.there m at (full.1 m at (ap (λ (xs : List ℕ). slice_get xs m) (sym is) ∙ some));
       each = λ m at some.
           ap (commit_numbered (m + 1)) (sym all)
           ∙ so_far.each m

@@ -26,3 +26,8 @@ ok_so P Q (Err e) here so = tt
 pub ok_known : {A B E : Type 0} (Q : B → Type 0) (r : Result A E) (f : A → Result B E) → ((a : A) → r ≡ Ok a → IfOk Q (f a)) → IfOk Q (r >>= f)
 ok_known Q (Ok a) f each = each a refl
 ok_known Q (Err e) f each = tt
+
+-- what came out was made of what came out before
+pub came_of : {A B E : Type 0} (r : Result A E) (f : A → Result B E) (x : B) → (r >>= f) ≡ Ok x → (a : A) × (r ≡ Ok a) × (f a ≡ Ok x)
+came_of (Ok a) f x is = (a, refl, is)
+came_of (Err e) f x is = cc

@@ -67,7 +67,7 @@ further_leaves n (l ∷ ls) = by (l.ended && is_further l.text) (further_leaves 
     by false le = omega arith
 
 -- so many lines, or as many as there are where the answer tells a commit
-abbrev rows_or : Place → Bool → Option ℕ → Taken Bytes
+abbrev pub rows_or : Place → Bool → Option ℕ → Taken Bytes
 rows_or at t (Some k) = take_rows k at
 rows_or at t None = if t then Ok (further_from at.next at.lines) else Ok ([], at)
 
@@ -123,7 +123,7 @@ clients_leave k (w ∷ ws) (s ∷ ss) at =
     ok_then (Leaves (length at.lines) size) (Leaves (length at.lines) counted) (take_client k w s at) _ (client_leaves k w s at)
     (λ first le. ok_then (Leaves (length first.1.lines) counted) (Leaves (length at.lines) counted) (take_clients (k + 1) ws ss first.1) _ (clients_leave (k + 1) ws ss first.1) (λ others le'. omega (arith, le, le')))
 
-shape_counts : (names : List Bytes) (scripts : List (List Line)) (out : Bytes) → IfOk (λ pss. counted pss ≤ length out) (shape names scripts out)
+pub shape_counts : (names : List Bytes) (scripts : List (List Line)) (out : Bytes) → IfOk (λ pss. counted pss ≤ length out) (shape names scripts out)
 unfolding Leaves
 shape_counts names scripts out =
     let start : Place = record { next = 1; lines = text_lines out } in

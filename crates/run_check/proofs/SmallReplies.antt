@@ -74,10 +74,10 @@ module _ (schema : DbSchema) (laws : IsLawfulSchema schema) (names : IsCleanSche
       small_of (length H) n (writes_len next.transaction) r all.commits lines (few_writes next.transaction after.within.transaction after.bound) short (answered_counted schema laws H n v few client a.now a.there r next c a.says)
 
   -- no transaction is full
-  pub unspent : Answers schema H client v c r next → (w : WriteCommand) → IsSpent schema H v w r next → ⊥
-  unspent a w s =
-      let turned : Bound schema laws H (suc n) (outcome v (write_turn schema H v w)).1.transaction = turn_so schema H a.now v (λ p. Bound schema laws H (suc n) p.1.transaction) (each_bound schema laws H n a.now v few.bound) (to_write w) in
-      let stays : IsWithin (length H) (outcome v (write_turn schema H v w)).1 = next_within (length H) schema H a.now v (to_write w) a.there few.within in
+  pub unspent : (w : WriteCommand) → IsSpent schema H v w r next → ⊥
+  unspent w s =
+      let turned : Bound schema laws H (suc n) (outcome v (write_turn schema H v w)).1.transaction = turn_so schema H 0 v (λ p. Bound schema laws H (suc n) p.1.transaction) (each_bound schema laws H n 0 v few.bound) (to_write w) in
+      let stays : IsWithin (length H) (outcome v (write_turn schema H v w)).1 = next_within (length H) schema H 0 v (to_write w) (omega arith) few.within in
       let bound : Bound schema laws H (suc n) (writing s.opened) = subst (Bound schema laws H (suc n)) s.transaction (subst (λ (t : Turn). Bound schema laws H (suc n) (outcome v t).1.transaction) s.allowed turned) in
       let there : s.opened.number ≤ length H = subst (StandsWithin (length H)) s.transaction (subst (λ (t : Turn). IsWithin (length H) (outcome v t).1) s.allowed stays).transaction in
       too_many (writes_in (take s.opened.number H)) (length s.opened.writes) (rows_in (state_at schema H s.opened.number)) (rows_in (state_seen schema H (sight_of s.opened))) s.full bound (all.rows s.opened.number there)

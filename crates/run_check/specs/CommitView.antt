@@ -1,5 +1,5 @@
 -- What the code keeps of a commit, which has the lines of its transaction by their places.
-use Rattle.std.specs.Prelude.{◌≡◌, ◌&&◌, ◌+◌, ◌-◌, ◌++◌, ℕ, List, [], ◌∷◌, length, take, drop, Bool, not, nat_le, unwrap_or, slice_get, slice_index_or, is_some, Option, Some, None, Result, Ok, Err, codes, ⊤}
+use Rattle.std.specs.Prelude.{◌≡◌, ◌&&◌, ◌+◌, ◌-◌, ◌<◌, ◌++◌, ℕ, List, [], ◌∷◌, length, take, drop, Bool, not, nat_le, unwrap_or, slice_get, slice_index_or, is_some, Option, Some, None, Result, Ok, Err, codes, ⊤}
 use Rattle.std.specs.declared.alloc.Global.{Global}
 use Rattle.std.specs.declared.vec.Vec.{Vec}
 use Rattle.mdb_datum.specs.Bytes.{Bytes}
@@ -83,6 +83,7 @@ is_free n order =
 pub record AreInOrder (cs : List Committed) (order : List ℕ) : Type 0 where
   pub numbered : numbers (length cs) [] cs ≡ Ok tt
   pub whole : length order ≡ length cs
+  pub within : (m at : ℕ) → slice_get order m ≡ Some at → at < length cs
   pub each : (m at : ℕ) → slice_get order m ≡ Some at
       → commit_numbered (m + 1) cs ≡ slice_get cs at
 

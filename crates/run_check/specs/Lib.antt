@@ -11,5 +11,6 @@ pub mod OutputView
 pub mod Reads
 pub mod Shape
 pub mod TextLines
+pub mod Verdicts
 pub mod Views
 pub mod worked

@@ -3,34 +3,37 @@ use Rattle.std.proofs.Common.{arith, ◌≡◌, ◌≤◌, ◌∙◌, refl, sym,
 use Rattle.std.specs.Prelude.{IfSome, IsSome}
 use Rattle.mdb_datum.specs.Bytes.{Bytes}
 use Rattle.mdb_ports.specs.Files.{Contents}
-use Rattle.run_io.specs.Observed.{file_limit, IsWhole, IsTooLarge, IsAbsent, AreWhole, IsReached}
+use Rattle.run_io.specs.Observed.{IsWhole, IsWholeWithin, IsPast, IsAbsent, AreWhole, IsReached}
 
 -- no bytes are the whole file of this name
+abbrev pub IsNotWithin : ℕ → Option Contents → Bytes → Type 0
+IsNotWithin limit told name = (bytes : Bytes) → IsWholeWithin limit told name bytes → ⊥
+
 abbrev pub IsNotWhole : Option Contents → Bytes → Type 0
 IsNotWhole told name = (bytes : Bytes) → IsWhole told name bytes → ⊥
 
 -- ---- one file
 
 -- where the files are told, a file has one content
-pub whole_once : (told : Option Contents) (name a b : Bytes) → IsSome told → IsWhole told name a → IsWhole told name b → a ≡ b
+pub whole_once : {limit : ℕ} (told : Option Contents) (name a b : Bytes) → IsSome told → IsWholeWithin limit told name a → IsWholeWithin limit told name b → a ≡ b
 whole_once None name a b h w v = cc
 whole_once (Some files) name a b h w v = let e : Some a ≡ Some b = sym w.there ∙ v.there in cc
 
-pub large_not_whole : (told : Option Contents) (name : Bytes) → IsSome told → IsTooLarge told name → IsNotWhole told name
+pub large_not_whole : {limit : ℕ} (told : Option Contents) (name : Bytes) → IsSome told → IsPast limit told name → IsNotWithin limit told name
 large_not_whole None name h l bytes w = cc
-large_not_whole (Some files) name h l bytes w =
+large_not_whole {limit} (Some files) name h l bytes w =
     let e : Some l.bytes ≡ Some bytes = sym l.there ∙ w.there in
     let same : l.bytes ≡ bytes = cc in
-    let short : length l.bytes ≤ file_limit = subst (λ (b : Bytes). length b ≤ file_limit) (sym same) w.fits in
+    let short : length l.bytes ≤ limit = subst (λ (b : Bytes). length b ≤ limit) (sym same) w.fits in
     omega (arith, l.longer, short)
 
-pub absent_not_whole : (told : Option Contents) (name : Bytes) → IsAbsent told name → IsNotWhole told name
+pub absent_not_whole : {limit : ℕ} (told : Option Contents) (name : Bytes) → IsAbsent told name → IsNotWithin limit told name
 absent_not_whole told name a bytes w =
     let there : a.files name ≡ Some bytes = subst (λ (t : Option Contents). IfSome t (λ files. files name ≡ Some bytes)) a.tells w.there in
     let h : None ≡ Some bytes = sym a.none ∙ there in
     cc
 
-pub absent_not_large : (told : Option Contents) (name : Bytes) → IsAbsent told name → IsTooLarge told name → ⊥
+pub absent_not_large : {limit : ℕ} (told : Option Contents) (name : Bytes) → IsAbsent told name → IsPast limit told name → ⊥
 absent_not_large told name a l =
     let there : a.files name ≡ Some l.bytes = subst (λ (t : Option Contents). IfSome t (λ files. files name ≡ Some l.bytes)) a.tells l.there in
     let h : None ≡ Some l.bytes = sym a.none ∙ there in

@@ -6,5 +6,6 @@ pub mod LoadAnswers
 pub mod LoadRefusals
 pub mod LoadedStatus
 pub mod OneAnswer
+pub mod OneFile
 pub mod Pieces
 pub mod ScriptsInOrder

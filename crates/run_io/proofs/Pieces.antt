@@ -5,7 +5,7 @@ use Rattle.std.proofs.lemmas.List.{append-nil, take_rest}
 use Rattle.mdb_datum.specs.Bytes.{Bytes}
 use Rattle.mdb_ports.specs.Files.{Contents, Fetched, Fetches}
 use Rattle.mdb_ports.specs.Sink.{Grows}
-use Rattle.run_io.specs.Observed.{IsWhole, IsTooLarge, file_limit}
+use Rattle.run_io.specs.Observed.{IsWholeWithin, IsPast}
 
 -- the bytes are the front of the file of this name, where there is one
 pub record IsFront (files : Contents) (name bytes : Bytes) : Type 0 where
@@ -51,27 +51,27 @@ front_next told later name bytes next buffer n same made before got within =
     rw (same, made) (front_grown told name bytes buffer n before got within)
 
 -- where nothing is left, the front is the whole file
-pub front_whole : (told : Option Contents) (name bytes buffer : Bytes) (n : ℕ)
+pub front_whole : (limit : ℕ) (told : Option Contents) (name bytes buffer : Bytes) (n : ℕ)
     → IfSome told (λ files. IsFront files name bytes)
     → Fetches told name (length bytes) buffer (Ok n)
     → n ≡ 0
-    → length bytes ≤ file_limit
-    → IsWhole told name bytes
-front_whole None name bytes buffer n before got none fits = record { there = tt; fits = fits }
-front_whole (Some files) name bytes buffer n before got none fits =
+    → length bytes ≤ limit
+    → IsWholeWithin limit told name bytes
+front_whole limit None name bytes buffer n before got none fits = record { there = tt; fits = fits }
+front_whole limit (Some files) name bytes buffer n before got none fits =
     let past : length got.0 ≤ length bytes = got.2.at_end.0 none in
     let same : bytes ≡ got.0 = before.front got.0 got.1 ∙ take_all (length bytes) got.0 past in
     record { there = got.1 ∙ ap Some (sym same); fits = fits }
 
 -- a piece that passes the limit shows a file that is too large
-pub front_too_large : (told : Option Contents) (name bytes buffer : Bytes) (n : ℕ)
+pub front_too_large : (limit : ℕ) (told : Option Contents) (name bytes buffer : Bytes) (n : ℕ)
     → Fetches told name (length bytes) buffer (Ok n)
     → n ≤ length buffer
-    → file_limit - length bytes < n
-    → IsTooLarge told name
-front_too_large None name bytes buffer n got within past =
+    → limit - length bytes < n
+    → IsPast limit told name
+front_too_large limit None name bytes buffer n got within past =
     record { bytes = bytes ++ take n buffer; there = tt; longer = omega (arith, length-append bytes (take n buffer), length-take-le n buffer within) }
-front_too_large (Some files) name bytes buffer n got within past =
+front_too_large limit (Some files) name bytes buffer n got within past =
     record { bytes = got.0; there = got.1; longer = omega (arith, got.2.there, length-drop (length bytes) got.0) }
 
 pub grows_nothing : (told : Option Bytes) → Grows told told []
@@ -103,11 +103,11 @@ front_within text at n within fits =
     omega (arith, subst P (take_rest text at) fits, length-drop at text)
 
 -- a piece that the limit allows keeps the bytes within it
-pub fits_next : (bytes next buffer : Bytes) (n : ℕ)
+pub fits_next : (limit : ℕ) (bytes next buffer : Bytes) (n : ℕ)
     → next ≡ bytes ++ take n buffer
-    → length bytes ≤ file_limit
+    → length bytes ≤ limit
     → n ≤ length buffer
-    → n ≤ file_limit - length bytes
-    → length next ≤ file_limit
-fits_next bytes next buffer n made fits within allowed =
+    → n ≤ limit - length bytes
+    → length next ≤ limit
+fits_next limit bytes next buffer n made fits within allowed =
     omega (arith, ap length made, length-append bytes (take n buffer), length-take-le n buffer within)

@@ -6,6 +6,7 @@ pub mod Loads
 pub mod Named
 pub mod NamedOf
 pub mod Observed
+pub mod OneFile
 pub mod RefusalCauses
 pub mod RefusalTexts
 pub mod Refusals

@@ -22,20 +22,31 @@ pub record Stays (seen : Observed) (told : Option Contents) (reliable : Bool) : 
   pub same_reliance : reliable ≡ seen.reliable
   pub later : seen.before ≤ seen.now
 
--- the most bytes of one file
+-- the most bytes of a schema's file and of a client's, and of an output's
 abbrev pub file_limit : ℕ
 file_limit = 1048576
 
--- a file of these bytes, which are within the limit; where the files are told, it is there
-pub record IsWhole (told : Option Contents) (name bytes : Bytes) : Type 0 where
+abbrev pub output_limit : ℕ
+output_limit = 16777216
+
+-- a file of these bytes, which are within a limit; where the files are told, it is there
+pub record IsWholeWithin (limit : ℕ) (told : Option Contents) (name bytes : Bytes)
+    : Type 0 where
   pub there : IfSome told (λ files. files name ≡ Some bytes)
-  pub fits : length bytes ≤ file_limit
+  pub fits : length bytes ≤ limit
 
 -- a file of more bytes; where the files are told, it is there
-pub record IsTooLarge (told : Option Contents) (name : Bytes) : Type 0 where
+pub record IsPast (limit : ℕ) (told : Option Contents) (name : Bytes) : Type 0 where
   pub bytes : Bytes
   pub there : IfSome told (λ files. files name ≡ Some bytes)
-  pub longer : file_limit < length bytes
+  pub longer : limit < length bytes
+
+-- a schema's file or a client's
+abbrev pub IsWhole : Option Contents → Bytes → Bytes → Type 0
+IsWhole told name bytes = IsWholeWithin file_limit told name bytes
+
+abbrev pub IsTooLarge : Option Contents → Bytes → Type 0
+IsTooLarge told name = IsPast file_limit told name
 
 -- a file that isn't there, where the files are told
 pub record IsAbsent (told : Option Contents) (name : Bytes) : Type 0 where

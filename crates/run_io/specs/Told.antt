@@ -5,6 +5,8 @@ use Rattle.mdb_schema.specs.declared.error.SchemaError.TheVariants as schema_err
 use Rattle.run_io.specs.RefusalTexts.{name_line, broken_text, script_text}
 use Rattle.run_io.specs.declared.load_error.LoadError.{LoadError}
 use Rattle.run_io.specs.declared.load_error.LoadError.TheVariants.{Memory, Read, TooLarge, Schema, Script}
+use Rattle.run_io.specs.declared.output_error.OutputError.{OutputError}
+use Rattle.run_io.specs.declared.output_error.OutputError.TheVariants as unread
 
 -- the file that an error names is one of so many
 abbrev pub NamesFile : ℕ → LoadError → Type 0
@@ -27,3 +29,11 @@ TellsError names (Schema schema_errors.Memory) status text = ⊥
 TellsError names (Schema (schema_errors.Broken r t i)) status text =
     (status ≡ 2) × (text ≡ broken_text (record { rule = r; table = t; index = i }))
 TellsError names (Script client e) status text = (status ≡ 3) × (text ≡ script_text client e)
+
+-- the same of an output's file of this name
+abbrev pub TellsOutputError : Bytes → OutputError → ℕ → Bytes → Type 0
+TellsOutputError name unread.Memory status text = ⊥
+TellsOutputError name unread.Read status text =
+    (status ≡ 5) × (text ≡ name_line (codes "cannot read ") name)
+TellsOutputError name unread.TooLarge status text =
+    (status ≡ 7) × (text ≡ name_line (codes "too large ") name)

@@ -2,7 +2,7 @@
 ghost use Rattle.std.specs.Prelude.{◌≡◌, ◌<◌, ◌∷◌, ◌^◌, [], length, vec_len, IfOk};
 ghost use Rattle.run_io.specs.Observed.{observed, Stays};
 ghost use Rattle.run_io.specs.inner.ContentsOf.{contents_of};
-ghost use Rattle.run_io.specs.inner.Reading.{Reads, AddsFile, contents_in};
+ghost use Rattle.run_io.specs.inner.Reading.{Reads, AddsFile, content_of, contents_in};
 
 use crate::contents::Contents;
 use crate::file::{new_piece, read_file};
@@ -10,6 +10,9 @@ use crate::load_error::LoadError;
 use mdb_datum::Text;
 use mdb_ports::Files;
 use std::alloc::Global;
+
+/// The most bytes of a schema's file, and of a client's.
+const LIMIT: usize = 1_048_576;
 
 /// Reads the files of these names whole, the schema's first. It takes memory for their bytes, and
 /// for one piece.
@@ -54,7 +57,7 @@ fn read_by_pieces<F: Files>(
         (F.faults files.old) (F.faults files.new) in
         Reads contents_of seen 0 (schema.now ∷ clients.now) result }
 {
-    let schema = read_file(alloc, files, 0, schema, piece)?;
+    let schema = read_numbered(alloc, files, 0, schema, piece)?;
     let clients = read_clients(alloc, files, clients, piece)?;
     Ok(Contents { schema, clients })
 }
@@ -92,7 +95,7 @@ fn read_clients<F: Files>(
 /// a list. After an error the list is unchanged.
 ///
 /// # Errors
-/// As [`read_file`].
+/// As [`read_numbered`].
 fn add_file<F: Files>(
     alloc: Global,
     files: &mut F,
@@ -109,6 +112,32 @@ fn add_file<F: Files>(
         (F.faults files.old) (F.faults files.new) in
         AddsFile seen file name.now contents.old.items contents.new.items result }
 {
-    contents.push(read_file(alloc, files, file, name, piece)?)?;
+    contents.push(read_numbered(alloc, files, file, name, piece)?)?;
     Ok(())
+}
+
+/// Reads the file of this name whole, which may have 1,048,576 bytes, by pieces that fit a buffer.
+///
+/// # Errors
+/// `Read` where a call fails, `TooLarge` past the limit, each with the number `file`; `Memory` may
+/// come at any file.
+fn read_numbered<F: Files>(
+    alloc: Global,
+    files: &mut F,
+    file: u32,
+    name: &Text,
+    piece: &mut [u8],
+) -> Result<Vec<u8>, LoadError>
+    requires { 0 < length piece.old }
+    ensures stays { let seen = observed (F.told files.old) (F.reliable files.old)
+        (F.faults files.old) (F.faults files.new) in
+        Stays seen (F.told files.new) (F.reliable files.new) }
+    ensures reads { let seen = observed (F.told files.old) (F.reliable files.old)
+        (F.faults files.old) (F.faults files.new) in
+        Reads content_of seen file (name.now ∷ []) result }
+{
+    match read_file(alloc, files, LIMIT, name, piece) {
+        Ok(bytes) => Ok(bytes),
+        Err(error) => Err(LoadError::at(file, error)),
+    }
 }

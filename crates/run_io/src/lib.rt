@@ -5,10 +5,11 @@
 //! reads them as a schema and scripts. Its contract says when each answer comes: a file that can't
 //! be read, a file past the limit, a schema or a script that breaks a rule. `Named` has the names of
 //! the files, by the words of a command, and `refusal_of` the status and the text of each such error.
-//! `write_all` writes a text in as many calls as the sink wants.
+//! `load_output` reads the file of an output, and `output_refusal` tells why it can't. `write_all`
+//! writes a text in as many calls as the sink wants.
 //!
 //! Loading takes time and memory in proportion to the files. A file is fetched by pieces of 65,536
-//! bytes, and none past 1,048,576 bytes is kept.
+//! bytes, and none is kept past its limit: 1,048,576 bytes, or 16,777,216 of an output.
 #![tactic(auto)]
 
 mod arguments;
@@ -20,6 +21,7 @@ mod load_error;
 mod loading;
 mod named;
 mod output;
+mod output_error;
 mod refusal;
 mod texts;
 mod write;
@@ -27,9 +29,10 @@ mod write;
 pub use arguments::words_of;
 pub use inputs::Inputs;
 pub use load_error::LoadError;
-pub use loading::load;
+pub use loading::{load, load_output};
 pub use named::{Named, may_name_files};
 pub use output::{Output, end_line, write_number};
-pub use refusal::refusal_of;
+pub use output_error::OutputError;
+pub use refusal::{output_refusal, refusal_of};
 pub use texts::Texts;
 pub use write::write_all;

@@ -2,6 +2,7 @@
 ghost use Rattle.std.specs.Prelude.{◌≡◌};
 ghost use Rattle.run_io.specs.declared.load_error.LoadError.TheVariants.{Memory};
 
+use crate::output_error::OutputError;
 use client_script::ScriptError;
 use mdb_schema::SchemaError;
 use std::alloc::{AllocError, AllocFailed};
@@ -20,6 +21,21 @@ pub enum LoadError {
     Schema(SchemaError),
     /// The script of this client, counted from 1, breaks a rule.
     Script { client: u32, error: ScriptError },
+}
+
+impl LoadError {
+    ghost use Rattle.run_io.specs.inner.Reading.{numbered};
+
+    /// The error at the file of this number.
+    pub(crate) fn at(file: u32, error: OutputError) -> LoadError
+        ensures { result ≡ numbered file error }
+    {
+        match error {
+            OutputError::Memory => LoadError::Memory,
+            OutputError::Read => LoadError::Read { file },
+            OutputError::TooLarge => LoadError::TooLarge { file },
+        }
+    }
 }
 
 impl From<AllocError> for LoadError {

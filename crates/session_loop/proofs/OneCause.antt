@@ -53,7 +53,7 @@ has_cause words seen plain = by_command (files_named words) refl
     by_command (Some named) run = by_files (called_where_told (files_named words) seen named run plain)
     by_command None e = record { status = 1; among = inr (inl refl); called = no_command refl e }
 
-pub one_cause_where_told : (words : List Bytes) (seen : Observed) → HasNoExcuse seen → HasOneCause (LoopCallsFor words seen)
+pub one_cause_where_told : (words : List Bytes) (seen : Observed) → HasNoExcuse seen → HasOneCause (0 ∷ 1 ∷ 2 ∷ 3 ∷ 5 ∷ 7 ∷ []) (LoopCallsFor words seen)
 one_cause_where_told words seen plain =
     let h = has_cause words seen plain in
     record { status = h.status; among = h.among; called = h.called; only = λ other calls. no_two_causes words seen other h.status calls h.called }

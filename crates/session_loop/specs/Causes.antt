@@ -31,5 +31,5 @@ NoTwoCauses = (words : List Bytes) (seen : Observed) (s t : ℕ)
 -- where the files tell their bytes, and no read fails but of a file that isn't there, one status is
 -- called for, and no other
 abbrev pub OneCauseWhereTold : Type 0
-OneCauseWhereTold =
-    (words : List Bytes) (seen : Observed) → HasNoExcuse seen → HasOneCause (LoopCallsFor words seen)
+OneCauseWhereTold = (words : List Bytes) (seen : Observed) → HasNoExcuse seen
+    → HasOneCause (0 ∷ 1 ∷ 2 ∷ 3 ∷ 5 ∷ 7 ∷ []) (LoopCallsFor words seen)

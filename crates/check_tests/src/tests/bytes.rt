@@ -1,5 +1,6 @@
 //! Any bytes at all.
-use super::{ANN, Read, read};
+use super::{ANN, checked};
+use run_check::Verdict;
 use std::alloc::{AllocError, Global};
 use std::test::Fail;
 
@@ -14,19 +15,19 @@ fn line_behind(bytes: &[u8]) -> u32 {
     line
 }
 
-/// Whether an output that is cut behind so many bytes fails at the line where it ends.
-fn does_cut_fail(alloc: Global, len: usize) -> Result<bool, AllocError> {
-    let Some(front) = ANN.1.as_bytes().get(..len) else {
+/// Whether an output that is cut behind so many bytes is bad at the line where it ends.
+fn is_cut_bad(alloc: Global, len: usize) -> Result<bool, AllocError> {
+    let Some(front) = ANN.2.as_bytes().get(..len) else {
         return Ok(false);
     };
     let line = line_behind(front);
-    Ok(read(alloc, &ANN, front)? == Err(line))
+    Ok(checked(alloc, &ANN, front)? == Verdict::Not { line })
 }
 
 /// Whether this holds of each front of the output.
-fn do_cuts_fail(alloc: Global) -> Result<bool, AllocError> {
-    for len in 0..ANN.1.len() {
-        if !does_cut_fail(alloc, len)? {
+fn are_cuts_bad(alloc: Global) -> Result<bool, AllocError> {
+    for len in 0..ANN.2.len() {
+        if !is_cut_bad(alloc, len)? {
             return Ok(false);
         }
     }
@@ -34,8 +35,8 @@ fn do_cuts_fail(alloc: Global) -> Result<bool, AllocError> {
 }
 
 #[test]
-fn an_output_that_is_cut_fails_where_it_ends(rt: HostRuntime) -> Result<(), Fail> {
-    assert!(rt; do_cuts_fail(rt.alloc())?);
+fn an_output_that_is_cut_is_bad_where_it_ends(rt: HostRuntime) -> Result<(), Fail> {
+    assert!(rt; are_cuts_bad(rt.alloc())?);
     Ok(())
 }
 
@@ -55,18 +56,18 @@ fn drawn(alloc: Global, from: u32, mask: u8, count: usize) -> Result<Vec<u8>, Al
     Ok(bytes)
 }
 
-/// Whether bytes in no order, behind the heading, fail at the line in which they begin.
-fn does_drawn_fail(alloc: Global, from: u32, mask: u8) -> Result<bool, AllocError> {
+/// Whether bytes in no order, behind the heading, are bad at the first line or the one behind it.
+fn is_drawn_bad(alloc: Global, from: u32, mask: u8) -> Result<bool, AllocError> {
     let mut out = b"client 1 c1\n1: ".to_vec(alloc)?;
     let bytes = drawn(alloc, from, mask, 300)?;
     out.extend_from_slice(&bytes)?;
-    Ok(read(alloc, &ANN, &out)? == Err(2))
+    Ok(checked(alloc, &ANN, &out)? == Verdict::Not { line: 2 })
 }
 
 /// Whether this holds of many such bytes.
-fn do_drawn_fail(alloc: Global) -> Result<bool, AllocError> {
+fn are_drawn_bad(alloc: Global) -> Result<bool, AllocError> {
     for from in 0..100 {
-        let held = does_drawn_fail(alloc, from, 255)? && does_drawn_fail(alloc, from, 63)?;
+        let held = is_drawn_bad(alloc, from, 255)? && is_drawn_bad(alloc, from, 63)?;
         if !held {
             return Ok(false);
         }
@@ -75,23 +76,23 @@ fn do_drawn_fail(alloc: Global) -> Result<bool, AllocError> {
 }
 
 #[test]
-fn bytes_in_no_order_fail(rt: HostRuntime) -> Result<(), Fail> {
-    assert!(rt; do_drawn_fail(rt.alloc())?);
+fn bytes_in_no_order_are_bad(rt: HostRuntime) -> Result<(), Fail> {
+    assert!(rt; are_drawn_bad(rt.alloc())?);
     Ok(())
 }
 
-/// What a byte tells that stands so often.
-fn read_of(alloc: Global, byte: u8, count: usize) -> Result<Read, AllocError> {
+/// The verdict on a byte that stands so often.
+fn verdict_on(alloc: Global, byte: u8, count: usize) -> Result<Verdict, AllocError> {
     let mut out: Vec<u8> = Vec::new(alloc);
     out.resize(count, byte)?;
-    read(alloc, &ANN, &out)
+    checked(alloc, &ANN, &out)
 }
 
 #[test]
-fn long_lines_and_zeros_fail(rt: HostRuntime) -> Result<(), Fail> {
-    let first = Err(1);
-    assert!(rt; read_of(rt.alloc(), b'1', 16_777_216)? == first);
-    assert!(rt; read_of(rt.alloc(), 0, 1_000)? == first);
-    assert!(rt; read_of(rt.alloc(), b'\n', 16_777_216)? == first);
+fn long_lines_and_zeros_are_bad(rt: HostRuntime) -> Result<(), Fail> {
+    let first = Verdict::Not { line: 1 };
+    assert!(rt; verdict_on(rt.alloc(), b'1', 16_777_216)? == first);
+    assert!(rt; verdict_on(rt.alloc(), 0, 1_000)? == first);
+    assert!(rt; verdict_on(rt.alloc(), b'\n', 16_777_216)? == first);
     Ok(())
 }

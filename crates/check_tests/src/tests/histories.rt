@@ -2,7 +2,7 @@
 use super::{ANN, BOTH, Near, first_other};
 use std::test::Fail;
 
-static COMMITS: [Near; 8] = [
+static COMMITS: [Near; 9] = [
     (&ANN, 4, "3: commit @2", 4),
     (&ANN, 4, "3: commit @0", 4),
     (&BOTH, 8, "3: commit @1", 8),
@@ -11,6 +11,8 @@ static COMMITS: [Near; 8] = [
     (&BOTH, 6, "1: write @0", 8),
     (&BOTH, 2, "1: write @1", 4),
     (&BOTH, 6, "1: write @18446744073709551615", 8),
+    // The number is there, but the client may not begin so: the history passes it.
+    (&BOTH, 6, "1: refused whatever", 6),
 ];
 
 #[test]

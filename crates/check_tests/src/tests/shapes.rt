@@ -29,12 +29,14 @@ fn each_line_has_its_form(rt: HostRuntime) -> Result<(), Fail> {
     Ok(())
 }
 
-static REFUSALS: [Near; 5] = [
+static REFUSALS: [Near; 6] = [
     (&ANN, 3, "2: refused read-only", 3),
     (&ANN, 3, "2: refused ids-spent", 3),
     (&ANN, 3, "2: refused spoiled", 3),
     (&ANN, 2, "1: refused commits-spent", 2),
     (&ANN, 5, "4: refused transaction-open", 5),
+    // It passes here, and falls where sessions are looked at, on the commit that it leaves.
+    (&ANN, 3, "2: refused read-only x", 3),
 ];
 
 #[test]

@@ -1,5 +1,6 @@
 -- The command line as `clap` is told it, and what it gives of it.
-use Rattle.std.specs.Prelude.{◌≡◌, ◌≤◌, ℕ, false, true, List, length, if◌then◌else◌, Option, Some, None, codes, option_map, option_and_then, ⊤}
+use Rattle.std.specs.Prelude.{◌≡◌, ◌≤◌, ℕ, false, true, List, [], ◌∷◌, length, if◌then◌else◌, Option, Some, None, codes, option_map, option_and_then, ⊤}
+use Rattle.std.specs.List.{list_all}
 use Rattle.std.specs.Str.{bytes_eq}
 use Rattle.clap.specs.Words.{App, Row, Rule, Text, all_of, first_of, new_app, new_rule, subcommand_rows_of, with_rule, with_subcommand}
 use Rattle.clap.specs.Simple.{on_top}
@@ -7,8 +8,8 @@ use Rattle.clap.specs.declared.builder.command.Command.{Command}
 use Rattle.clap.specs.declared.builder.command.Command.TheViews.{out-Command}
 use Rattle.clap.specs.declared.parser.matches.ArgMatches.{ArgMatches}
 use Rattle.memdb.specs.Made.{Numbers}
-use Rattle.memdb.specs.Words.{make_of, number_in, numbers_of, run_of}
-use Rattle.run_io.specs.Named.{Named}
+use Rattle.memdb.specs.Words.{Checked, check_behind, number_in, numbers_behind, numbers_of}
+use Rattle.run_io.specs.Named.{Named, files_behind, may_name_a_file}
 
 -- ---- what `clap` is told
 
@@ -26,6 +27,13 @@ abbrev pub make_app : App
 make_app =
     with_rule (with_rule (with_rule (new_app (codes "make")) (word_rule (codes "number"))) (word_rule (codes "clients"))) (word_rule (codes "count"))
 
+-- the schema's file, 1 to 64 clients', and an output's
+abbrev pub files_rule : Rule
+files_rule = record (word_rule (codes "files")) { range = Some (record { start_inclusive = 3; end_inclusive = 66 }) }
+
+abbrev pub check_app : App
+check_app = with_rule (new_app (codes "check")) files_rule
+
 -- no word of a command goes to its subcommands as well
 abbrev pub IsLocal : Command → Type 0
 IsLocal c = (out-Command c).has_globals ≡ false
@@ -34,7 +42,7 @@ abbrev pub bare : App
 bare = on_top (λ s. record s { no_binary_name = true; disable_help_flag = true; disable_help_subcommand = true; subcommand_required = true }) (new_app (codes "memdb"))
 
 abbrev pub program : App
-program = with_subcommand (with_subcommand bare run_app.top) make_app.top
+program = with_subcommand (with_subcommand (with_subcommand bare run_app.top) make_app.top) check_app.top
 
 -- ---- what is read of what it gives
 
@@ -51,17 +59,22 @@ number_at id rs = option_and_then number_in (first_of id rs)
 abbrev pub numbers_in : List Row → Option Numbers
 numbers_in rs = numbers_of (number_at (codes "number") rs) (number_at (codes "clients") rs) (number_at (codes "count") rs)
 
+abbrev pub check_in : List Row → Option Checked
+check_in rs = option_and_then check_behind (all_of (codes "files") rs)
+
 -- ---- what is asked for
 
--- one of the two commands
+-- one of the three commands
 pub data Asked : Type 0 where
   to_run : Named → Asked
   to_make : Numbers → Asked
+  to_check : Checked → Asked
 
 -- by the name of a subcommand and its rows
 abbrev pub asked_in : Text → List Row → Option Asked
 asked_in name rs = if bytes_eq name (codes "run") then option_map to_run (files_in rs) else (
-    if bytes_eq name (codes "make") then option_map to_make (numbers_in rs) else None)
+    if bytes_eq name (codes "make") then option_map to_make (numbers_in rs) else (
+    if bytes_eq name (codes "check") then option_map to_check (check_in rs) else None))
 
 abbrev pub asked_at : Option (Text × List Row) → Option Asked
 asked_at = option_and_then (λ p. asked_in p.0 p.1)
@@ -69,20 +82,23 @@ asked_at = option_and_then (λ p. asked_in p.0 p.1)
 abbrev pub asked_of_matches : ArgMatches → Option Asked
 asked_of_matches m = asked_at (subcommand_rows_of m)
 
--- by words that may each name a file
-abbrev pub either : Option Named → Option Numbers → Option Asked
-either (Some named) numbers = Some (to_run named)
-either None numbers = option_map to_make numbers
+-- by words that may each name a file: the first, and those behind it
+abbrev pub asked_behind : Text → List Text → Option Asked
+asked_behind word rest = if bytes_eq (codes "run") word then option_map to_run (files_behind 64 rest) else (
+    if bytes_eq (codes "make") word then option_map to_make (numbers_behind rest) else (
+    if bytes_eq (codes "check") word then option_map to_check (check_behind rest) else None))
 
 abbrev pub asked_by : List Text → Option Asked
-asked_by words = either (run_of words) (make_of words)
+asked_by [] = None
+asked_by (word ∷ rest) = asked_behind word rest
 
 -- what a parse gave is what the words say
 abbrev pub AreRead : List Text → Option ArgMatches → Type 0
 AreRead words found = option_and_then asked_of_matches found ≡ asked_by words
 
--- 1 to 64 clients, where any are run
+-- 1 to 64 clients, where any are run; the names of those that are checked hold no line feeds
 abbrev pub HasClients : Option Asked → Type 0
 HasClients (Some (to_run named)) = (1 ≤ length named.clients) × (length named.clients ≤ 64)
 HasClients (Some (to_make numbers)) = ⊤
+HasClients (Some (to_check files)) = list_all may_name_a_file files.inputs.clients ≡ true
 HasClients None = ⊤

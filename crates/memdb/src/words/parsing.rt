@@ -3,15 +3,18 @@ ghost use Rattle.std.specs.Prelude.{◌≡◌, ◌++◌, ◌∷◌, [], ◌≤�
 ghost use Rattle.std.specs.Prelude.{option_and_then, option_map, true};
 ghost use Rattle.std.specs.List.{list_all};
 ghost use Rattle.clap.specs.Words.{app_of, found_of, rows_of, rule_of, with_subcommand};
+ghost use Rattle.memdb.specs.Words.{check_behind};
 ghost use Rattle.memdb.specs.inner.CommandLine.{AreRead, HasClients, IsLocal, asked_by};
-ghost use Rattle.memdb.specs.inner.CommandLine.{asked_of_matches, bare, clients_rule, files};
-ghost use Rattle.memdb.specs.inner.CommandLine.{files_in, make_app, number_at, numbers_in, program};
-ghost use Rattle.memdb.specs.inner.CommandLine.{run_app, to_make, to_run, word_rule};
+ghost use Rattle.memdb.specs.inner.CommandLine.{asked_of_matches, bare, check_app, check_in};
+ghost use Rattle.memdb.specs.inner.CommandLine.{clients_rule, files, files_in, files_rule, make_app};
+ghost use Rattle.memdb.specs.inner.CommandLine.{number_at, numbers_in, program, run_app, to_check};
+ghost use Rattle.memdb.specs.inner.CommandLine.{to_make, to_run, word_rule};
 ghost use Rattle.memdb.specs.inner.CommandOf.{asked_of};
 ghost use Rattle.run_io.specs.Named.{may_name_a_file};
 ghost use Rattle.run_io.specs.NamedOf.{named_of};
 
 use super::Command;
+use super::checked::CheckedFiles;
 use super::numbers::{Numbers, number_in};
 use clap::error::ErrorKind;
 use clap::{Arg, ArgMatches};
@@ -43,8 +46,8 @@ fn read_texts<'a>(alloc: Global, words: &'a [&'a str]) -> Result<Option<Command>
 fn program<'a>(alloc: Global) -> Result<clap::Command<'a>, AllocError>
     ensures { IfOk result (λ c. app_of c ≡ program) }
 {
-    let program = with_run(alloc)?;
-    with_make(alloc, program)
+    let program = with_make(alloc, with_run(alloc)?)?;
+    with_check(alloc, program)
 }
 
 /// The program with the command `run` alone.
@@ -61,6 +64,17 @@ fn with_make<'a>(alloc: Global, program: clap::Command<'a>) -> Result<clap::Comm
 {
     let make = make_command(alloc)?;
     program.subcommand(make)
+}
+
+/// A program with the command `check` too.
+fn with_check<'a>(
+    alloc: Global,
+    program: clap::Command<'a>,
+) -> Result<clap::Command<'a>, AllocError>
+    ensures { IfOk result (λ c. app_of c ≡ with_subcommand (app_of program.entry) check_app.top) }
+{
+    let check = check_command(alloc)?;
+    program.subcommand(check)
 }
 
 /// The program with no command.
@@ -99,6 +113,14 @@ fn make_command<'a>(alloc: Global) -> Result<clap::Command<'a>, AllocError>
     )
 }
 
+/// The command `check`, with its words.
+fn check_command<'a>(alloc: Global) -> Result<clap::Command<'a>, AllocError>
+    ensures app { IfOk result (λ c. app_of c ≡ check_app) }
+    ensures local { IfOk result (λ c. IsLocal c) }
+{
+    Ok(clap::Command::new(alloc, "check").arg(file_words(alloc))?)
+}
+
 /// A word that has to be there.
 fn word<'a>(alloc: Global, id: &'a str) -> Arg<'a>
     ensures rule { rule_of result ≡ word_rule id.entry.now }
@@ -113,6 +135,14 @@ fn client_words<'a>(alloc: Global) -> Arg<'a>
     ensures local { result.global ≡ false }
 {
     word(alloc, "clients").num_args(1..=64)
+}
+
+/// The words that name a schema's file, clients' files and an output's.
+fn file_words<'a>(alloc: Global) -> Arg<'a>
+    ensures rule { rule_of result ≡ files_rule }
+    ensures local { result.global ≡ false }
+{
+    word(alloc, "files").num_args(3..=66)
 }
 
 /// What `clap` makes of the words.
@@ -156,6 +186,7 @@ fn read_subcommand(alloc: Global, matches: &ArgMatches<'_>) -> Result<Option<Com
     match matches.subcommand() {
         Some(("run", found)) => read_run(alloc, found),
         Some(("make", found)) => Ok(read_make(found)),
+        Some(("check", found)) => read_check(alloc, found),
         _ => Ok(None),
     }
 }
@@ -202,6 +233,39 @@ fn add_copy(alloc: Global, word: &str, copies: &mut Texts) -> Result<(), AllocEr
     ensures { OnOk result (copies.new ≡ copies.old ++ word.now ∷ []) }
 {
     copies.push(Text::of(alloc, word)?)
+}
+
+/// The command `check` with these words.
+fn read_check(alloc: Global, found: &ArgMatches<'_>) -> Result<Option<Command>, AllocError>
+    requires clients { HasClients (option_map to_check (check_in (rows_of (found_of found.now)))) }
+    ensures { IfOk result (λ r. option_map asked_of r
+        ≡ option_map to_check (check_in (rows_of (found_of found.now)))) }
+{
+    let Some(files) = found.get_strs("files") else {
+        return Ok(None);
+    };
+    checked(alloc, files)
+}
+
+/// The command `check` of the files that words name: the last is the output's, and those before it a
+/// schema's and 1 to 64 clients'.
+fn checked(alloc: Global, words: &[&str]) -> Result<Option<Command>, AllocError>
+    requires clients { HasClients (option_map to_check (check_behind (map (λ w. w.now) words.now))) }
+    ensures { IfOk result (λ r. option_map asked_of r
+        ≡ option_map to_check (check_behind (map (λ w. w.now) words.now))) }
+{
+    let Some((output, inputs)) = words.split_last() else {
+        return Ok(None);
+    };
+    let Some((schema, clients)) = inputs.split_first() else {
+        return Ok(None);
+    };
+    if clients.is_empty() || clients.len() > 64 {
+        return Ok(None);
+    }
+    let inputs = named(alloc, schema, clients)?;
+    let output = Text::of(alloc, output)?;
+    Ok(Some(Command::Check(CheckedFiles { inputs, output })))
 }
 
 /// The command `make` with these words, where they are numbers in range.

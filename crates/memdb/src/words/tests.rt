@@ -48,6 +48,22 @@ const MAKES: [(&str, Option<(u32, u32, u32)>); 18] = [
     ("Make|1|2|3", None),
 ];
 
+/// The words, parted by bars, and how many clients there are where they are `check`.
+const CHECKS: [(&str, Option<usize>); 12] = [
+    ("check|s.json|c1|o", Some(1)),
+    ("check|s.json|c1|c2|o", Some(2)),
+    ("check|c1|c1|c1", Some(1)),
+    ("check|a-b|c 1|ä", Some(1)),
+    ("check|s.json|c1", None),
+    ("check|s.json", None),
+    ("check", None),
+    ("check|s.json|c1|-o", None),
+    ("check|s.json|c1|", None),
+    ("check|s.json|c\n1|o", None),
+    ("check|s.json||o", None),
+    ("Check|s.json|c1|o", None),
+];
+
 /// Adds a word of the command line.
 fn push_word(alloc: Global, words: &mut Vec<Text>, word: &str) -> Result<(), AllocError> {
     words.push(Text::of(alloc, word)?)?;
@@ -86,6 +102,7 @@ fn numbers_in(alloc: Global, text: &str) -> Result<Option<(u32, u32, u32)>, Allo
     match command_in(alloc, text)? {
         Some(Command::Make(made)) => Ok(Some((made.number(), made.clients(), made.count()))),
         Some(Command::Run(_named)) => Ok(None),
+        Some(Command::Check(_files)) => Ok(None),
         None => Ok(None),
     }
 }
@@ -98,9 +115,26 @@ fn make_has_three_numbers_in_range(rt: HostRuntime) -> Result<(), Fail> {
     Ok(())
 }
 
-/// A schema's word and so many clients'.
-fn run_of(alloc: Global, clients: usize) -> Result<String, AllocError> {
-    let mut text = String::from_str(alloc, "run|s.json")?;
+/// How many clients a text names beside the output that it asks to check.
+fn checked_in(alloc: Global, text: &str) -> Result<Option<usize>, AllocError> {
+    match command_in(alloc, text)? {
+        Some(Command::Check(files)) => Ok(Some(files.inputs.names().len())),
+        _ => Ok(None),
+    }
+}
+
+#[test]
+fn check_names_a_schema_clients_and_an_output(rt: HostRuntime) -> Result<(), Fail> {
+    for (text, want) in &CHECKS {
+        assert!(rt; checked_in(rt.alloc(), text)? == *want, "{text}");
+    }
+    Ok(())
+}
+
+/// The words of a command with so many clients' files behind a schema's.
+fn run_of(alloc: Global, command: &str, clients: usize) -> Result<String, AllocError> {
+    let mut text = String::from_str(alloc, command)?;
+    text.push_str("|s.json")?;
     for _ in 0..clients {
         text.push_str("|c")?;
     }
@@ -109,12 +143,20 @@ fn run_of(alloc: Global, clients: usize) -> Result<String, AllocError> {
 
 /// Whether they are a command.
 fn may_be_so_many(alloc: Global, clients: usize) -> Result<bool, AllocError> {
-    is_run(alloc, &run_of(alloc, clients)?)
+    is_run(alloc, &run_of(alloc, "run", clients)?)
+}
+
+/// Whether an output of so many clients can be checked.
+fn may_be_checked(alloc: Global, clients: usize) -> Result<bool, AllocError> {
+    let found = checked_in(alloc, &run_of(alloc, "check", clients.saturating_add(1))?)?;
+    Ok(found == Some(clients))
 }
 
 #[test]
 fn at_most_sixty_four_clients_are_run(rt: HostRuntime) -> Result<(), Fail> {
     assert!(rt; may_be_so_many(rt.alloc(), 64)?);
     assert!(rt; !may_be_so_many(rt.alloc(), 65)?);
+    assert!(rt; may_be_checked(rt.alloc(), 64)?);
+    assert!(rt; !may_be_checked(rt.alloc(), 65)?);
     Ok(())
 }

@@ -6,6 +6,14 @@ use Rattle.run_io.specs.Loads.{IsUnread, IsPastLimit}
 use Rattle.run_io.specs.Observed.{Observed, IsWhole, AreWhole}
 use Rattle.run_io.specs.declared.load_error.LoadError.{LoadError}
 use Rattle.run_io.specs.declared.load_error.LoadError.TheVariants.{Memory, Read, TooLarge, Schema, Script}
+use Rattle.run_io.specs.declared.output_error.OutputError.{OutputError}
+use Rattle.run_io.specs.declared.output_error.OutputError.TheVariants as one_file
+
+-- the error at the file of this number
+abbrev pub numbered : ℕ → OutputError → LoadError
+numbered file one_file.Memory = Memory
+numbered file one_file.Read = Read file
+numbered file one_file.TooLarge = TooLarge file
 
 -- the bytes of one file, and of several
 abbrev pub content_of : Vec ℕ Global → List Bytes

@@ -32,15 +32,15 @@ fn one_file(alloc: Global, length: usize, fails: u64) -> Result<MemFiles, AllocE
     Ok(MemFiles::of(list, failing(alloc, fails)?))
 }
 
-/// Reads the file `a` as file 3.
-fn read_one(alloc: Global, files: &mut MemFiles) -> Result<Vec<u8>, LoadError> {
+/// Reads the file `a`, which may have 1,048,576 bytes.
+fn read_one(alloc: Global, files: &mut MemFiles) -> Result<Vec<u8>, OutputError> {
     let mut piece = new_piece(alloc)?;
     let name = Text::of(alloc, "a")?;
-    read_file(alloc, files, 3, &name, &mut piece)
+    read_file(alloc, files, 1_048_576, &name, &mut piece)
 }
 
-/// Reads a file of so many bytes as file 3, where a call may fail.
-fn read_bytes(alloc: Global, length: usize, fails: u64) -> Result<Vec<u8>, LoadError> {
+/// Reads a file of so many bytes, where a call may fail.
+fn read_bytes(alloc: Global, length: usize, fails: u64) -> Result<Vec<u8>, OutputError> {
     let mut files = one_file(alloc, length, fails)?;
     read_one(alloc, &mut files)
 }
@@ -51,8 +51,8 @@ fn outcome(alloc: Global, length: usize, fails: u64) -> Result<&'static str, All
     word_of(&read_bytes(alloc, length, fails), &bytes)
 }
 
-/// A word for what was read as file 3, beside the bytes that the file has.
-fn word_of(found: &Result<Vec<u8>, LoadError>, bytes: &[u8]) -> Result<&'static str, AllocError> {
+/// A word for what was read, beside the bytes that the file has.
+fn word_of(found: &Result<Vec<u8>, OutputError>, bytes: &[u8]) -> Result<&'static str, AllocError> {
     match found {
         Ok(found) => Ok(bytes_word(found, bytes)),
         Err(error) => error_word(error),
@@ -69,12 +69,11 @@ fn bytes_word(found: &[u8], bytes: &[u8]) -> &'static str {
 }
 
 /// The word of an error. Want of memory ends a test.
-fn error_word(error: &LoadError) -> Result<&'static str, AllocError> {
+fn error_word(error: &OutputError) -> Result<&'static str, AllocError> {
     match error {
-        LoadError::Memory => Err(AllocError),
-        LoadError::Read { file: 3 } => Ok("unread"),
-        LoadError::TooLarge { file: 3 } => Ok("too large"),
-        _ => Ok("another error"),
+        OutputError::Memory => Err(AllocError),
+        OutputError::Read => Ok("unread"),
+        OutputError::TooLarge => Ok("too large"),
     }
 }
 

@@ -216,3 +216,53 @@ fn a_client_file_has_at_most_1048576_bytes(rt: HostRuntime) -> Result<(), Fail> 
     assert!(rt; are_limited(rt.alloc())?);
     Ok(())
 }
+
+/// 64 bytes.
+const SOME: &str = "################################################################";
+
+/// The file `o` of so many times 64 bytes, where a call may fail.
+fn one_output(alloc: Global, times: usize, fails: u64) -> Result<MemFiles, AllocError> {
+    let mut files = FileList::new(alloc);
+    list(alloc, &mut files, "o", SOME.repeat(alloc, times)?.as_str())?;
+    Ok(MemFiles::of(files, failing(alloc, fails)?))
+}
+
+/// A word for what was loaded, beside how many times 64 bytes the file has.
+fn output_word(
+    found: &Result<Vec<u8>, OutputError>,
+    times: usize,
+) -> Result<&'static str, AllocError> {
+    match found {
+        Ok(bytes) if bytes.len() / 64 == times => Ok("whole"),
+        Ok(_bytes) => Ok("other bytes"),
+        Err(OutputError::Memory) => Err(AllocError),
+        Err(OutputError::Read) => Ok("unread"),
+        Err(OutputError::TooLarge) => Ok("too large"),
+    }
+}
+
+/// A name, how many times 64 bytes the file `o` has, the call that fails, and what the load comes to.
+type OutputCase = (&'static str, usize, u64, &'static str);
+
+static OUTPUTS: [OutputCase; 5] = [
+    ("o", 0, 0, "whole"),
+    ("o", 16_385, 0, "whole"),
+    ("o", 262_145, 0, "too large"),
+    ("o", 0, 1, "unread"),
+    ("x", 0, 0, "unread"),
+];
+
+/// Whether the load comes to what the case says.
+fn comes_so(alloc: Global, case: &OutputCase) -> Result<bool, AllocError> {
+    let mut files = one_output(alloc, case.1, case.2)?;
+    let found = load_output(alloc, &mut files, &Text::of(alloc, case.0)?);
+    Ok(output_word(&found, case.1)? == case.3)
+}
+
+#[test]
+fn an_output_has_at_most_16777216_bytes(rt: HostRuntime) -> Result<(), Fail> {
+    for at in 0..OUTPUTS.len() {
+        assert!(rt; comes_so(rt.alloc(), &OUTPUTS[at])?, "{at}");
+    }
+    Ok(())
+}

@@ -62,6 +62,24 @@ fn tells_script(alloc: Global) -> Result<bool, AllocError> {
     Ok(is_told(&output, 3, "script 1 line 2 bad-doc\n"))
 }
 
+/// Whether the error of an output's file is told.
+fn tells_output(
+    alloc: Global,
+    error: OutputError,
+    status: u8,
+    text: &str,
+) -> Result<bool, AllocError> {
+    let output = output_refusal(alloc, &Text::of(alloc, "o 1")?, error)?;
+    Ok(is_told(&output, status, text))
+}
+
+#[test]
+fn an_output_that_is_not_loaded_is_told(rt: HostRuntime) -> Result<(), Fail> {
+    assert!(rt; tells_output(rt.alloc(), OutputError::Read, 5, "cannot read o 1\n")?);
+    assert!(rt; tells_output(rt.alloc(), OutputError::TooLarge, 7, "too large o 1\n")?);
+    Ok(())
+}
+
 #[test]
 fn each_error_is_told(rt: HostRuntime) -> Result<(), Fail> {
     assert!(rt; tells_unread(rt.alloc())?);

@@ -16,5 +16,5 @@ returns-in_err-clients-clause-reads g c =
     let before = g.F.Files.faults c.args.files.now in
     let now = g.F.Files.faults c.read_clients.new.files in
     let read = c.in_ok-schema.ensures in
-    let ends = reads_since contents_in told (g.F.Files.told c.read_file.new.files) reliable (g.F.Files.reliable c.read_file.new.files) before (g.F.Files.faults c.read_file.new.files) now 1 c.args.clients.now (Err e) read.stays.same_files read.stays.same_reliance read.reads.0 c.in_err-clients.ensures.reads in
+    let ends = reads_since contents_in told (g.F.Files.told c.read_numbered.new.files) reliable (g.F.Files.reliable c.read_numbered.new.files) before (g.F.Files.faults c.read_numbered.new.files) now 1 c.args.clients.now (Err e) read.stays.same_files read.stays.same_reliance read.reads.0 c.in_err-clients.ensures.reads in
     rw (p.1, p.2) (reads_later contents_in contents_of (observed told reliable before now) 0 c.args.clients.now c.args.schema.now c.in_ok-schema.schema.items e read.reads.1.0 ends)

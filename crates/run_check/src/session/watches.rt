@@ -1,0 +1,271 @@
+//! Lines of watches.
+ghost use Rattle.std.specs.Prelude.{◌≡◌, ◌<◌, ◌≤◌, ◌+◌, [], Decides, IfErr, IfOk, List, None, OnOk, Some};
+ghost use Rattle.std.specs.Prelude.{if◌then◌else◌, length, nat_lt, slice_get};
+ghost use Rattle.mdb_schema.specs.Guarded.{IsUnchanged};
+ghost use Rattle.mdb_schema.specs.History.{History, IsMadeBy};
+ghost use Rattle.mdb_schema.specs.Schema.{DbSchema};
+ghost use Rattle.mdb_schema.specs.Watchable.{HasFound, IsTouched};
+ghost use Rattle.client_script.specs.Client as plain;
+ghost use Rattle.client_script.specs.Client.{set_named, watch_named};
+ghost use Rattle.client_script.specs.declared.command.Command.TheVariants as commands;
+ghost use Rattle.client_script.specs.declared.command.WatchesCommand.TheVariants as watches_lines;
+ghost use Rattle.run_check.specs.declared.client.Client.{Client};
+ghost use Rattle.run_check.specs.declared.rule.Rule.TheVariants as rules;
+ghost use Rattle.run_check.specs.inner.CalledView.{IsSetAt, IsWatchAt};
+ghost use Rattle.run_check.specs.inner.ClientView.{known, watches_known, watching_known};
+ghost use Rattle.run_check.specs.inner.GuardView.{IsWatchedAt};
+ghost use Rattle.run_check.specs.inner.NamedView.{value_named};
+ghost use Rattle.run_check.specs.inner.SessionView.{AreKnown, IsDue, IsKnown, IsSoundWatch, TellsLine, TellsSize};
+ghost use Rattle.run_check.specs.inner.StoreView.{Begun, indexes_at};
+ghost use Rattle.run_check.specs.inner.WatchView.{member_count};
+
+use crate::client::Client;
+use crate::decimal::number_behind;
+use crate::reply::write_numbered;
+use crate::rule::Rule;
+use crate::session::{Refused, Sessions};
+use crate::watching::Watch;
+use client_script::WatchesCommand;
+use mdb_datum::Text;
+use std::alloc::AllocError;
+
+impl<'a> Sessions<'a> {
+    /// A line of watches.
+    pub(super) fn watches(
+        &mut self,
+        client: usize,
+        knows: &mut Client<'a>,
+        line: &'a WatchesCommand,
+        text: &[u8],
+    ) -> Result<(), Refused>
+        requires known { AreKnown self.old knows.old }
+        ensures told { (schema : DbSchema) (H : History) (txns : List Begun)
+            → IsKnown schema H txns self.old knows.old
+            → IsDue schema H (client + 1) (known txns knows.old) text.now → self.old.text.items ≡ []
+            → TellsLine schema H (client + 1) (commands.Watches line.now) text.now
+            (known txns knows.old) self.new knows.new result }
+    {
+        match line {
+            WatchesCommand::Check { name } => self.check(client, knows, name, text),
+            WatchesCommand::Add { set, name } => {
+                let place = watch_place(knows, name)?;
+                self.add(knows, set, place, text)
+            }
+            WatchesCommand::AddLimit {
+                set,
+                limit,
+                name,
+                other,
+            } => {
+                let first = watch_place(knows, name)?;
+                let second = watch_place(knows, other)?;
+                let place = limited_place(knows, set, *limit, first, second);
+                self.add(knows, set, place, text)
+            }
+            WatchesCommand::Wait { set } => {
+                knows.no_writing()?;
+                let set = set_place(knows, set)?;
+                self.wait(client, knows, set, None, text)
+            }
+            WatchesCommand::WaitUntil { set, until } => {
+                knows.no_writing()?;
+                let set = set_place(knows, set)?;
+                let until = watch_place(knows, until)?;
+                self.wait(client, knows, set, Some(until), text)
+            }
+        }
+    }
+
+    /// Adds the watch at a place to a set.
+    fn add(
+        &mut self,
+        knows: &mut Client<'a>,
+        set: &'a Text,
+        place: usize,
+        text: &[u8],
+    ) -> Result<(), Refused>
+        ensures told { (schema : DbSchema) (H : History) (txns : List Begun) (w : plain.Watch)
+            → IsKnown schema H txns self.old knows.old
+            → slice_get (watches_known knows.old.watching) place ≡ Some w
+            → TellsSize set.now w (known txns knows.old) (known txns knows.new)
+            text.now self.old.text.items self.new.text.items result }
+        ensures knows { OnOk result ((schema : DbSchema) (H : History) (txns : List Begun) (w : plain.Watch)
+            → IsKnown schema H txns self.old knows.old
+            → slice_get (watches_known knows.old.watching) place ≡ Some w
+            → IsKnown schema H txns self.new knows.new) }
+        ensures kept { self.new ≡ record self.old { text = self.new.text } }
+    {
+        let Some(size) = number_behind(b"size ", text) else {
+            return Ok(());
+        };
+        let at = knows.watching.set_place(self.alloc, set)?;
+        if !knows.watching.add(at, place, size)? {
+            return Ok(());
+        }
+        write_numbered(b"size ", size, &mut self.text)?;
+        Ok(())
+    }
+
+    /// Looks at a watch.
+    fn check(
+        &mut self,
+        client: usize,
+        knows: &mut Client<'a>,
+        name: &Text,
+        text: &[u8],
+    ) -> Result<(), Refused>
+        requires known { AreKnown self.old knows.old }
+        ensures told { (schema : DbSchema) (H : History) (txns : List Begun)
+            → IsKnown schema H txns self.old knows.old
+            → IsDue schema H (client + 1) (known txns knows.old) text.now → self.old.text.items ≡ []
+            → TellsLine schema H (client + 1) (commands.Watches (watches_lines.Check name.now)) text.now
+            (known txns knows.old) self.new knows.new result }
+    {
+        knows.no_writing()?;
+        let place = watch_place(knows, name)?;
+        if let Some(number) = self.say_number(knows, b"quiet @", text)? {
+            let quiet = self.place_is_quiet(client, knows, place, number)?;
+            self.keep_if(quiet);
+            return Ok(());
+        }
+        if let Some(number) = self.say_number(knows, b"fired @", text)? {
+            let fired = self.is_fired_at(knows, place, number);
+            self.keep_if(fired);
+            return Ok(());
+        }
+        Ok(())
+    }
+
+    /// Keeps the text if it may be told, and else clears it.
+    pub(super) fn keep_if(&mut self, may: bool)
+        ensures text { self.new.text.items ≡ (if may then self.old.text.items else []) }
+        ensures kept { self.new ≡ record self.old { text = self.new.text } }
+    {
+        if !may {
+            self.text.clear();
+        }
+    }
+
+    /// Whether a client may be told that the watch at a place is quiet after so many commits.
+    pub(super) fn place_is_quiet(
+        &self,
+        client: usize,
+        knows: &Client<'a>,
+        place: usize,
+        commits: u64,
+    ) -> Result<bool, AllocError>
+        requires known { AreKnown self.now knows.now }
+        ensures { (schema : DbSchema) (H : History) (txns : List Begun) (w : plain.Watch)
+            → IsKnown schema H txns self.now knows.now
+            → slice_get (watches_known knows.now.watching) place ≡ Some w → commits ≤ length H
+            → IfOk result (λ is_quiet. Decides is_quiet
+            (IsUnchanged schema H (client + 1) w.query w.number commits)) }
+    {
+        match knows.watching.watches.at(place) {
+            Some(watch) => self.is_quiet(client, watch, commits),
+            None => Ok(false),
+        }
+    }
+
+    /// Whether the watch at a place may be told to have fired after so many commits.
+    fn is_fired_at(&self, knows: &Client<'a>, place: usize, commits: u64) -> bool
+        requires known { AreKnown self.now knows.now }
+        ensures { (schema : DbSchema) (H : History) (txns : List Begun) (w : plain.Watch)
+            → IsKnown schema H txns self.now knows.now
+            → slice_get (watches_known knows.now.watching) place ≡ Some w
+            → Decides result (IsTouched schema H w.query w.number commits) }
+    {
+        match knows.watching.watches.at(place) {
+            Some(watch) => self.has_fired(watch, commits),
+            None => false,
+        }
+    }
+
+    /// Whether the commit of a number is a client's own.
+    fn is_own(&self, client: usize, number: u64) -> bool
+        ensures { (schema : DbSchema) (H : History) (txns : List Begun) (v : Client)
+            → IsKnown schema H txns self.now v → Decides result (IsMadeBy H (client + 1) number) }
+    {
+        let Some(place) = number.checked_sub(1) else {
+            return false;
+        };
+        let Some(at) = self.order.get(place as usize) else {
+            return false;
+        };
+        match self.commits.get(*at) {
+            Some(commit) => commit.client == client,
+            None => false,
+        }
+    }
+
+    /// Whether a client may be told that a watch is quiet after so many commits.
+    pub(super) fn is_quiet(
+        &self,
+        client: usize,
+        watch: &Watch<'a>,
+        commits: u64,
+    ) -> Result<bool, AllocError>
+        requires table { watch.now.at.table < length self.now.store.tables.items }
+        requires index { watch.now.at.index < length (indexes_at self.now.store watch.now.at.table) }
+        ensures { (schema : DbSchema) (H : History) (txns : List Begun) (v : Client)
+            → IsKnown schema H txns self.now v → IsSoundWatch schema H watch.now
+            → commits ≤ length H
+            → IfOk result (λ is_quiet. Decides is_quiet
+            (IsUnchanged schema H (client + 1) watch.now.query.now watch.now.number commits)) }
+    {
+        let indexes = self.store.table(watch.at.table);
+        watch.is_quiet(self.alloc, indexes, commits, self.is_own(client, commits))
+    }
+
+    /// Whether a watch may be told to have fired after so many commits.
+    pub(super) fn has_fired(&self, watch: &Watch<'a>, commits: u64) -> bool
+        requires table { watch.now.at.table < length self.now.store.tables.items }
+        requires index { watch.now.at.index < length (indexes_at self.now.store watch.now.at.table) }
+        ensures { (schema : DbSchema) (H : History) (txns : List Begun)
+            (w : IsWatchedAt schema H txns watch.now.query.now watch.now.at
+            (indexes_at self.now.store watch.now.at.table))
+            → Decides watch.now.has_found
+            (HasFound schema H watch.now.query.now watch.now.number w.lookup.at)
+            → Decides result
+            (IsTouched schema H watch.now.query.now watch.now.number commits) }
+    {
+        watch.has_fired(self.store.table(watch.at.table), commits)
+    }
+}
+
+/// The place of the watch of a name.
+fn watch_place(knows: &Client<'_>, name: &Text) -> Result<usize, Rule>
+    ensures found { IfOk result (λ place. IsWatchAt name.now knows.now.watching place) }
+    ensures none { IfErr result (λ rule. (rule ≡ rules.UnknownName)
+        × (watch_named name.now (watches_known knows.now.watching) ≡ None)) }
+{
+    match knows.watching.watches.place(name) {
+        Some(place) => Ok(place),
+        None => Err(Rule::UnknownName),
+    }
+}
+
+/// The place of the one watch while the set of a name has fewer members than the limit, else that of
+/// the other.
+fn limited_place(knows: &Client<'_>, set: &Text, limit: u32, first: usize, second: usize) -> usize
+    ensures { result ≡ (if nat_lt (member_count (value_named set.now knows.now.watching.sets.names
+        knows.now.watching.sets.values.items)) limit then first else second) }
+{
+    if knows.watching.size(set) < limit as usize {
+        first
+    } else {
+        second
+    }
+}
+
+/// The place of the set of a name.
+fn set_place(knows: &Client<'_>, name: &Text) -> Result<usize, Rule>
+    ensures found { IfOk result (λ place. IsSetAt name.now knows.now.watching place) }
+    ensures none { IfErr result (λ rule. (rule ≡ rules.UnknownName)
+        × (set_named name.now (watching_known knows.now.watching).sets ≡ None)) }
+{
+    match knows.watching.sets.place(name) {
+        Some(place) => Ok(place),
+        None => Err(Rule::UnknownName),
+    }
+}
