@@ -8,7 +8,7 @@ use Rattle.memdb.specs.RunsPass.{RunsPass}
 use Rattle.run_io.specs.declared.inputs.Inputs.{Inputs}
 
 pub runs_pass : RunsPass
-runs_pass words checks ran seen output told run bad inputs names same =
+runs_pass command checks ran seen output told run bad inputs names same =
     let files = bad.of.lawful.files.inputs.clients in
     let by_inputs : Legal bad.of.lawful.inputs.schema run.named.clients bad.of.lawful.inputs.scripts output = subst (λ (i : Inputs). Legal i.schema run.named.clients i.scripts output) inputs run.holds in
     let by_names : Legal bad.of.lawful.inputs.schema files bad.of.lawful.inputs.scripts output = subst (λ (ns : List Bytes). Legal bad.of.lawful.inputs.schema ns bad.of.lawful.inputs.scripts output) names by_inputs in

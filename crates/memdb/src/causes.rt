@@ -11,7 +11,8 @@ pub fn one_cause()
     ensures one { OneCauseWhereTold }
 {}
 
-/// No output with which `run` ended with 0 is refused by `check`.
+/// No output with which `run` ended with 0 is refused by `check`, nor one with which the loop of sessions
+/// on one thread did.
 pub fn runs_pass()
     ensures { RunsPass }
 {}
