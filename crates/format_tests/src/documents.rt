@@ -1,6 +1,6 @@
 //! Texts and what they read as are those of RFC 8259 and of the documentation of `serde_json`.
 
-use mdb_datum::{Datum, DocError, Items, Members, Row, Text, read_doc, write_doc};
+use mdb_datum::{Datum, DocError, DocReader, Items, Members, Row, Text, read_doc, write_doc};
 use std::alloc::{AllocError, AllocFailed, Global};
 use std::sync::Wait;
 use std::test::Fail;
@@ -20,10 +20,36 @@ fn is_rewritten(alloc: Global, text: &str, want: &str) -> Result<bool, DocError>
     Ok(found?)
 }
 
+/// The same by a reader, which keeps its room.
+fn is_read_again(
+    reader: &mut DocReader,
+    alloc: Global,
+    text: &str,
+    want: &str,
+) -> Result<bool, DocError> {
+    let document = reader.read(text.as_bytes())?;
+    let found = is_written(alloc, &document, want);
+    drop(document);
+    Ok(found?)
+}
+
 /// Whether bytes are refused for this cause, or read where there is none. Want of memory is an
 /// error.
 fn is_refused(alloc: Global, bytes: &[u8], cause: Option<DocError>) -> Result<bool, DocError> {
     match read_doc(alloc, bytes) {
+        Ok(_) => Ok(cause.is_none()),
+        Err(DocError::Memory) => Err(DocError::Memory),
+        Err(found) => Ok(cause == Some(found)),
+    }
+}
+
+/// The same by a reader.
+fn is_refused_again(
+    reader: &mut DocReader,
+    bytes: &[u8],
+    cause: Option<DocError>,
+) -> Result<bool, DocError> {
+    match reader.read(bytes) {
         Ok(_) => Ok(cause.is_none()),
         Err(DocError::Memory) => Err(DocError::Memory),
         Err(found) => Ok(cause == Some(found)),
@@ -79,6 +105,76 @@ static REWRITTEN: [(&str, &str); 23] = [
 fn documents_read_as_their_compact_text(rt: HostRuntime) -> Result<(), Fail> {
     for (text, want) in &REWRITTEN {
         assert!(rt; is_rewritten(rt.alloc(), text, want)?, "{text}");
+    }
+    Ok(())
+}
+
+/// Documents whose names come in other orders.
+static UNORDERED: [(&str, &str); 5] = [
+    ("{\"c\":1,\"b\":2,\"a\":3}", "{\"a\":3,\"b\":2,\"c\":1}"),
+    (
+        "{\"b\":[{}],\"d\":-7,\"a\":\"x\",\"c\":{\"z\":1}}",
+        "{\"a\":\"x\",\"b\":[{}],\"c\":{\"z\":1},\"d\":-7}",
+    ),
+    ("{\"b\":1,\"a\":2,\"b\":3}", "{\"a\":2,\"b\":3}"),
+    (
+        "[[],[[]],[[[1,2],3],4],\"\\n\"]",
+        "[[],[[]],[[[1,2],3],4],\"\\n\"]",
+    ),
+    (
+        "{\"ab\":1,\"a\":2,\"abc\":3,\"\":4}",
+        "{\"\":4,\"a\":2,\"ab\":1,\"abc\":3}",
+    ),
+];
+
+#[test]
+fn a_reader_reads_one_document_after_another(rt: HostRuntime) -> Result<(), Fail> {
+    let mut reader = DocReader::new(rt.alloc());
+    for (text, want) in &REWRITTEN {
+        assert!(rt;
+            is_read_again(&mut reader, rt.alloc(), text, want)?,
+            "{text}"
+        );
+    }
+    for (text, want) in &UNORDERED {
+        assert!(rt;
+            is_read_again(&mut reader, rt.alloc(), text, want)?,
+            "{text}"
+        );
+        assert!(rt; is_rewritten(rt.alloc(), text, want)?, "{text}");
+    }
+    Ok(())
+}
+
+#[test]
+fn a_reader_refuses_what_is_no_document(rt: HostRuntime) -> Result<(), Fail> {
+    let mut reader = DocReader::new(rt.alloc());
+    for bytes in &NO_JSON {
+        assert!(rt;
+            is_refused_again(&mut reader, bytes, Some(DocError::Syntax))?,
+            "{bytes:?}"
+        );
+    }
+    for bytes in &NO_TEXT {
+        assert!(rt;
+            is_refused_again(&mut reader, bytes, Some(DocError::Syntax))?,
+            "{bytes:?}"
+        );
+    }
+    for text in &NOT_WHOLE {
+        assert!(rt;
+            is_refused_again(&mut reader, text.as_bytes(), Some(DocError::NotWhole))?,
+            "{text}"
+        );
+    }
+    for case in &NESTED {
+        let text = nested(rt.alloc(), case.0, case.1)?;
+        assert!(rt;
+            is_refused_again(&mut reader, &text, case.2)?,
+            "{} around {}",
+            case.0,
+            case.1
+        );
     }
     Ok(())
 }

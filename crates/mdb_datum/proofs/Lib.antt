@@ -2,9 +2,13 @@ mod MemberSearch
 pub mod ByteOrder
 pub mod Levels
 pub mod ListPlaces
+pub mod MemberPlaces
+pub mod MemberPuts
 pub mod MembersRead
+pub mod NextDoc
 pub mod Numbers
 pub mod OnLiterals
+pub mod PlainNumbers
 pub mod Readings
 pub mod Regular
 pub mod RoundTrip

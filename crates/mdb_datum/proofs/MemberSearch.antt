@@ -18,16 +18,16 @@ use Rattle.mdb_datum.specs.Doc.{Field, field_list, member}
 use Rattle.mdb_datum.specs.declared.datum.Datum.{Datum}
 use Rattle.mdb_datum.specs.declared.text.Text.{Text}
 
-abbrev Pair : Type 0
+abbrev pub Pair : Type 0
 Pair = Text × Datum
 
-abbrev order : List ℕ → List ℕ → Ordering
+abbrev pub order : List ℕ → List ℕ → Ordering
 order = slice_cmp nat_cmp
 
-abbrev name_of : Pair → List ℕ
+abbrev pub name_of : Pair → List ℕ
 name_of p = p.0
 
-names_are : (xs : List Pair) → names_in (field_list (map field_of xs)) ≡ map name_of xs
+pub names_are : (xs : List Pair) → names_in (field_list (map field_of xs)) ≡ map name_of xs
 names_are [] = refl
 names_are (x ∷ xs) = ap (λ ns. x.0 ∷ ns) (names_are xs)
 
@@ -49,14 +49,14 @@ other : (a b : List ℕ) (o : Ordering) → order a b ≡ o → is_eq o ≡ fals
 other a b o e differs = sym (is_eq-slice_cmp a b) ∙ ap is_eq e ∙ differs
 
 -- of names that rise each is below the later ones
-below : (xs : List Pair) → IsStrictlySortedBy order (map name_of xs) → (k at : ℕ) (d : Pair) → k < at → at < length xs → order (get_or xs k d).0 (get_or xs at d).0 ≡ Less
+pub below : (xs : List Pair) → IsStrictlySortedBy order (map name_of xs) → (k at : ℕ) (d : Pair) → k < at → at < length xs → order (get_or xs k d).0 (get_or xs at d).0 ≡ Less
 below xs rising k at d lt within =
     let long : length (map name_of xs) ≡ length xs = length-map xs name_of in
     let a = get_or-map name_of xs k d d.0 (omega arith) in
     let b = get_or-map name_of xs at d d.0 within in
     (λ i. order (sym a i) (sym b i)) ∙ Less-from_sorted order (map name_of xs) k at d.0 rising lt (omega (arith, long))
 
-comparisons : (name : List ℕ) (xs : List Pair) → IsStrictlySortedBy order (map name_of xs) → IsNonDecreasingBy (λ x. ordering_index (order (name_of x) name)) xs
+pub comparisons : (name : List ℕ) (xs : List Pair) → IsStrictlySortedBy order (map name_of xs) → IsNonDecreasingBy (λ x. ordering_index (order (name_of x) name)) xs
 comparisons name xs rising =
     searchable_from_sorted nat_list_cmp_total name_of xs name (λ k d ge lt.
     ap is_lt (nat_list_cmp_total.antisymm (get_or xs (k + 1) d).0 (get_or xs k d).0 ∙ ap ordering_reverse (below xs rising k (k + 1) d (omega arith) lt)))

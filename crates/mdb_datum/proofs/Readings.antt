@@ -58,7 +58,7 @@ pub docs_before-no_docs : (ds : List Doc) → docs_before ds no_docs ≡ doc_lis
 docs_before-no_docs [] = refl
 docs_before-no_docs (d ∷ ds) = ap (doc d) (docs_before-no_docs ds)
 
-docs_before-append : (ds : List Doc) (d : Doc) (rest : DocList) → docs_before ds (doc d rest) ≡ docs_before (ds ++ d ∷ []) rest
+pub docs_before-append : (ds : List Doc) (d : Doc) (rest : DocList) → docs_before ds (doc d rest) ≡ docs_before (ds ++ d ∷ []) rest
 docs_before-append [] d rest = refl
 docs_before-append (x ∷ ds) d rest = ap (doc x) (docs_before-append ds d rest)
 

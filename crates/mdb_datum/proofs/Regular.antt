@@ -59,7 +59,7 @@ found : {A B : Type 0} (f : A → B) (o : Option A) (b : B) → option_map f o �
 found f None b e = absurd (cc)
 found f (Some a) b e = (a, refl, the_same (f a) b e)
 
-found_both : {A B C : Type 0} (f : A → B → C) (o : Option A) (p : Option B) (c : C) → option_and_then (λ a. option_map (f a) p) o ≡ Some c → (a : A) × (b : B) × (o ≡ Some a) × (p ≡ Some b) × (c ≡ f a b)
+pub found_both : {A B C : Type 0} (f : A → B → C) (o : Option A) (p : Option B) (c : C) → option_and_then (λ a. option_map (f a) p) o ≡ Some c → (a : A) × (b : B) × (o ≡ Some a) × (p ≡ Some b) × (c ≡ f a b)
 found_both f None p c e = absurd (cc)
 found_both f (Some a) p c e = let w = found (f a) p c e in (a, w.0, refl, w.1, w.2)
 

@@ -12,7 +12,9 @@
 #![tactic(auto)]
 
 mod datum;
+mod doc_reader;
 mod error;
+mod plain;
 mod read;
 mod row;
 mod same;
@@ -20,6 +22,7 @@ mod text;
 mod write;
 
 pub use datum::{Datum, Items, Members};
+pub use doc_reader::DocReader;
 pub use error::DocError;
 pub use read::read_doc;
 pub use row::Row;
