@@ -41,6 +41,10 @@ names_rise-put k d (f ∷ fs) h =
       | Greater ↦ λ p. (below_put f.0 k d fs (turned k f.0 Greater p) h.0, rest)
     ] refl
 
+pub NamesRise-no_fields : NamesRise no_fields
+unfolding IsStrictlySortedBy
+NamesRise-no_fields = tt
+
 pub NamesRise-put : (k : Bytes) (d : Doc) (fs : List Field) → NamesRise (field_list fs) → NamesRise (field_list (put byte_order k d fs))
 NamesRise-put k d fs h = rw names_in-field_list (names_rise-put k d fs (rw names_in-field_list at h))
 

@@ -22,6 +22,13 @@ pub HaveRegularMembers-one_more : (fs : List Field) (name : List ℕ) (d : Doc) 
 HaveRegularMembers-one_more [] name d h u k = (u, k, tt)
 HaveRegularMembers-one_more (f ∷ fs) name d h u k = (h.0, h.1, HaveRegularMembers-one_more fs name d h.2 u k)
 
+pub list_nesting-one_more : (n : ℕ) (ds : List Doc) (d : Doc) → list_nesting (doc_list ds) ≤ n → nesting d ≤ n → list_nesting (doc_list (ds ++ d ∷ [])) ≤ n
+list_nesting-one_more n [] d h k = omega (arith, k)
+list_nesting-one_more n (x ∷ ds) d h k =
+    let all : max (nesting x) (list_nesting (doc_list ds)) ≤ n = h in
+    let rest = list_nesting-one_more n ds d (omega (arith, all)) k in
+    omega (arith, all, rest)
+
 -- ---- the names of a map rise
 
 abbrev pub names_of : List Field → List (List ℕ)
@@ -95,6 +102,9 @@ mutual
 
 pub not_deeper : (n : ℕ) → nat_lt 100 n ≡ false → n ≤ 100
 not_deeper n h = grind (arith, nat_tests)
+
+pub is_shallow : (n : ℕ) → n ≤ 100 → nat_lt 100 n ≡ false
+is_shallow n h = grind (arith, nat_tests)
 
 pub IsCanonical-whole_doc : (x : json.Data) (d : Doc) → whole_doc x ≡ Some d → nat_lt 100 (json.depth x) ≡ false → IsRegular d → IsCanonical d
 IsCanonical-whole_doc x d e shallow regular = record { regular = regular; shallow = not_deeper (nesting d) (ap (nat_lt 100) (nesting-whole_doc x d e) ∙ shallow) }

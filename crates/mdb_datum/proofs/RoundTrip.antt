@@ -6,7 +6,6 @@ use Rattle.std.specs.Fmt.{signed_decimal}
 use Rattle.std.specs.List.{AllByRecursion}
 use Rattle.std.specs.List.Sorted.{IsStrictlySortedBy}
 use Rattle.std.specs.Ordering.{ordering_reverse}
-use Rattle.std.proofs.lemmas.Bool.Decides.{nat_tests}
 use Rattle.std.proofs.lemmas.Cmp.{nat_list_cmp_total}
 use Rattle.std.proofs.lemmas.Str.{IsUtf8-append, IsUtf8-from_ascii}
 use Rattle.std.proofs.lemmas.Fmt.{IsAscii-decimal, IsAscii-signed}
@@ -30,6 +29,7 @@ use Rattle.mdb_datum.specs.inner.Tokens.{json_of, json_items, json_members, doc_
 use Rattle.mdb_datum.specs.Written.{comma, compact, docs_text, fields_text}
 use Rattle.mdb_datum.proofs.Numbers.{IsNumber-signed_decimal}
 use Rattle.mdb_datum.proofs.Readings.{reading-shallow}
+use Rattle.mdb_datum.proofs.Regular.{is_shallow}
 use Rattle.mdb_datum.proofs.TokenText.{print_doc_tokens}
 
 -- ---- the document as a value of `serde_json`
@@ -239,9 +239,6 @@ read-compact : (d : Doc) → IsRegular d → nesting d ≤ max_depth → read (c
 read-compact d h shallow =
     ap whole (ap (json.value max_depth) (tokens-compact d h ∙ sym (append-nil _)) ∙ value-json_tokens (json_of d) max_depth [] (omega (arith, depth-json_of d)))
     ∙ of_json-json_of d h
-
-is_shallow : (n : ℕ) → n ≤ 100 → nat_lt 100 n ≡ false
-is_shallow n h = grind (arith, nat_tests)
 
 pub reading-compact : (d : Doc) → IsCanonical d → reading (compact d) ≡ read_as d
 reading-compact d h =

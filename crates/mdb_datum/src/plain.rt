@@ -97,6 +97,18 @@ fn whole_in(text: &str) -> Option<i128>
     }
 }
 
+/// The document that a token's number is.
+fn number_in(text: &str) -> Result<Datum, Stop>
+    ensures ok { IfOk result (λ d. whole_in text.now ≡ Some (doc_of d)) }
+    ensures regular { IfOk result (λ d. IsRegular (doc_of d)) }
+    ensures shallow { IfOk result (λ d. nesting (doc_of d) ≡ 0) }
+{
+    match whole_in(text) {
+        Some(n) => Ok(Datum::Whole(n)),
+        None => Err(Stop::NotPlain),
+    }
+}
+
 /// A copy of a token's text.
 fn text_of(alloc: Global, s: &str) -> Result<Text, Stop>
     ensures same { IfOk result (λ t. t ≡ s.now) }
@@ -177,7 +189,7 @@ pub(crate) fn plain_value(
     let token = reader.next().ok_or(Stop::NotPlain)?;
     match token {
         Token::String(text) => Ok(Datum::Str(text_of(alloc, text)?)),
-        Token::Number(text) => Ok(Datum::Whole(whole_in(text).ok_or(Stop::NotPlain)?)),
+        Token::Number(text) => Ok(number_in(text)?),
         Token::Bool(flag) => Ok(Datum::Flag(flag)),
         Token::Null => Ok(Datum::Nil),
         Token::EndObject | Token::EndArray | Token::Key(_) | Token::Bad => Err(Stop::NotPlain),
