@@ -1,6 +1,6 @@
 -- A member that is put among others at its place: the members stay those of a regular object, and what
 -- `serde_json` puts among its own is the same.
-use Rattle.std.proofs.Common.{◌≡◌, ◌∙◌, ℕ, ◌≤◌, max, List, [], ◌∷◌, Option, Some, IsUtf8, Ordering, Less, Equal, Greater, refl, sym, ap, arith}
+use Rattle.std.proofs.Common.{◌≡◌, ◌∙◌, ℕ, ◌≤◌, max, List, [], ◌∷◌, Some, IsUtf8, Less, Equal, Greater, refl, ap, arith}
 use Rattle.std.specs.FinMap.Entries.{put, by_order}
 use Rattle.std.specs.List.{AllByRecursion}
 use Rattle.std.specs.List.Sorted.{IsStrictlySortedBy}
@@ -89,7 +89,7 @@ whole_fields-put k x d (json.member l y ms) (f ∷ fs) e h =
     let rest = whole_fields-put k x d ms fs e others in
     ap (λ n. whole_fields (match_ordering (byte_order k n) (json.member k x (json.member n y ms)) (json.member n x ms) (json.member n y (json.put k x ms)))) name
     ∙ elim (byte_order k f.0) as (λ o. whole_fields (match_ordering o (json.member k x (json.member f.0 y ms)) (json.member f.0 x ms) (json.member f.0 y (json.put k x ms)))
-        ≡ Some (field_list (by_order o ((k, d) ∷ f ∷ fs) ((f.0, d) ∷ fs) (f ∷ put byte_order k d fs)))) [
+    ≡ Some (field_list (by_order o ((k, d) ∷ f ∷ fs) ((f.0, d) ∷ fs) (f ∷ put byte_order k d fs)))) [
       | Less ↦ first_whole k x d (json.member f.0 y ms) (field_list (f ∷ fs)) e (first_whole f.0 y f.1 ms (field_list fs) here others)
       | Equal ↦ first_whole f.0 x d ms (field_list fs) e others
       | Greater ↦ first_whole f.0 y f.1 (json.put k x ms) (field_list (put byte_order k d fs)) here rest

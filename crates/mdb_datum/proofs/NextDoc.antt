@@ -10,7 +10,7 @@ use Rattle.serde_json.specs.Read.{number_of, of_json, of_items, of_members, conv
 use Rattle.std.specs.FinMap.Entries.{put}
 use Rattle.mdb_datum.specs.Bytes.{byte_order}
 use Rattle.mdb_datum.specs.Canonical.{nesting}
-use Rattle.mdb_datum.specs.Doc.{Doc, nil, flag, text, list, object, DocList, no_docs, doc, FieldList, Field, doc_list, field_list}
+use Rattle.mdb_datum.specs.Doc.{Doc, nil, flag, text, list, object, DocList, doc, FieldList, Field, doc_list, field_list}
 use Rattle.mdb_datum.specs.Reading.{reading, read_as, or_not_whole, whole_number, whole_doc, whole_docs, whole_fields}
 use Rattle.mdb_datum.specs.inner.Plain.{next_doc, next_docs, next_fields, whole_in}
 use Rattle.mdb_datum.proofs.MemberPuts.{whole_fields-put}

@@ -1,5 +1,5 @@
 -- A number's text that has neither a point nor an exponent, and fits a `u64` or an `i64`.
-use Rattle.std.proofs.Common.{◌≡◌, ◌∙◌, ℕ, zero, suc, ◌<◌, ◌≤◌, ◌^◌, ◌==◌, ℤ, pos, List, get_or, drop, Bool, true, false, Option, Some, None, IfSome, int_lt, w64, to_z, of_z, to_z-of_z, refl, sym, ap, subst, lt-ltb, le-leb, arith}
+use Rattle.std.proofs.Common.{◌≡◌, ◌∙◌, ℕ, zero, suc, ◌<◌, ◌≤◌, ◌^◌, ◌==◌, ℤ, pos, List, get_or, drop, true, false, Option, Some, None, IfSome, int_lt, w64, to_z, of_z, to_z-of_z, sym, ap, subst, lt-ltb, le-leb, arith}
 use Rattle.std.specs.Prelude.{FitsSigned}
 use Rattle.std.specs.Option.{SomeIff}
 use Rattle.std.proofs.lemmas.Bool.{false≢true}

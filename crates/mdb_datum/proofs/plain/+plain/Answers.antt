@@ -1,4 +1,4 @@
-use Rattle.std.proofs.Common.{◌≡◌, ◌∙◌, ◌-◌, ◌<◌, ◌≤◌, List, [], ◌∷◌, ◌++◌, length, map, Some, None, sym, ap, subst, arith, rules}
+use Rattle.std.proofs.Common.{◌≡◌, ◌∙◌, ◌-◌, ◌<◌, ◌≤◌, [], ◌∷◌, ◌++◌, length, map, Some, None, sym, ap, subst, arith, rules}
 use Rattle.std.specs.FinMap.Entries.{put}
 use Rattle.json.specs.Json.{after_end_array, read_key}
 use Rattle.json.specs.Reads.{token_of}
@@ -7,10 +7,8 @@ use Rattle.json.proofs.Grammar.{read_key-shorter}
 use Rattle.mdb_datum.specs.Bytes.{byte_order}
 use Rattle.mdb_datum.specs.Canonical.{AreRegular, HaveRegularMembers, NamesRise, docs_nesting, members_nesting}
 use Rattle.mdb_datum.specs.Datum.{doc_of, field_of}
-use Rattle.mdb_datum.specs.Doc.{whole, text, list, object, Field, doc_list, field_list}
+use Rattle.mdb_datum.specs.Doc.{text, doc_list, field_list}
 use Rattle.mdb_datum.specs.inner.Plain.{next_doc}
-use Rattle.mdb_datum.specs.declared.datum.Datum.{Datum}
-use Rattle.mdb_datum.specs.declared.text.Text.{Text}
 use Rattle.mdb_datum.proofs.MemberPuts.{NamesRise-no_fields, NamesRise-put, HaveRegularMembers-put, members_nesting-put}
 use Rattle.mdb_datum.proofs.NextDoc.{DocsRead, docs_turn, docs_over, FieldsRead, fields_begun, fields_turn, fields_over}
 use Rattle.mdb_datum.proofs.NextDoc.{next_doc-null, next_doc-boolean, next_doc-number, next_doc-string, next_doc-array, next_doc-object}

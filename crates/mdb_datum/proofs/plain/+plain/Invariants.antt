@@ -1,4 +1,4 @@
-use Rattle.std.proofs.Common.{ℕ, ◌+◌, ◌-◌, ◌*◌, ◌≤◌, length, map}
+use Rattle.std.proofs.Common.{◌+◌, ◌-◌, ◌*◌, ◌≤◌, length, map}
 use Rattle.mdb_datum.specs.Canonical.{AreRegular, HaveRegularMembers, NamesRise, docs_nesting, members_nesting}
 use Rattle.mdb_datum.specs.Datum.{field_of}
 use Rattle.mdb_datum.specs.Doc.{doc_list, field_list}

@@ -1,7 +1,6 @@
 -- The closure compares a name with the one that is looked for.
-use Rattle.std.proofs.Common.{rules, ◌≤◌, List, length, Err, subst}
+use Rattle.std.proofs.Common.{rules}
 use Rattle.std.specs.Cmp.Lexicographic.{slice_cmp}
-use Rattle.std.specs.List.Sorted.{IsBinarySearchResult}
 use Rattle.std.specs.Ordering.{nat_cmp}
 use Rattle.std.proofs.lemmas.Fn.{always_returns_same}
 use Rattle.mdb_datum.specs.declared.datum.Datum.{Datum}

@@ -1,4 +1,4 @@
-use Rattle.std.proofs.Common.{◌≡◌, ◌<◌, ◌-◌, length, get_or, true, Less, arith, rules, sym, ap, ◌∙◌}
+use Rattle.std.proofs.Common.{◌≡◌, ◌<◌, length, Less, rules}
 use Rattle.mdb_datum.specs.Bytes.{byte_order}
 use Rattle.mdb_datum.proofs.ByteOrder.{less_from_is_lt}
 use Rattle.mdb_datum.proofs.MemberPlaces.{place_last}

@@ -1,4 +1,4 @@
-use Rattle.std.proofs.Common.{◌≡◌, drop, ap, ◌∙◌, take_all, length-drop, arith}
+use Rattle.std.proofs.Common.{drop, ap, ◌∙◌, take_all, length-drop, arith}
 use Rattle.fast_float.specs.Text.{scan}
 use Rattle.mdb_datum.proofs.PlainNumbers.{negative_read}
 use Rattle.mdb_datum.proofs.plain.negative_in.Goals as goal

@@ -4,7 +4,6 @@ use Rattle.json.specs.Print.{print}
 use Rattle.mdb_datum.specs.Doc.{object, field_list}
 use Rattle.mdb_datum.specs.Reading.{reading}
 use Rattle.mdb_datum.specs.Row.{IsCanonicalRow}
-use Rattle.mdb_datum.specs.Written.{row_text}
 use Rattle.mdb_datum.specs.inner.Tokens.{doc_tokens}
 use Rattle.mdb_datum.proofs.RoundTrip.{reading-compact}
 use Rattle.mdb_datum.proofs.TokenText.{print_doc_tokens}
