@@ -27,7 +27,7 @@ use crate::line_rule::LineRule;
 use crate::parts::{limit_in, name_in, next_word, nothing, row_in, something};
 use crate::question::{Question, query_in, question_by, question_in, question_of};
 use crate::word::{Word, first_word};
-use mdb_datum::{Row, Text};
+use mdb_datum::{DocReader, Row, Text};
 use mdb_schema::{Ask, Query};
 use std::alloc::Global;
 
@@ -81,68 +81,68 @@ fn of_abort(rest: &str) -> Result<Command, LineError>
 }
 
 /// The table and the row of `insert` and `delete`.
-fn table_and_row(alloc: Global, rest: &str) -> Result<(Text, Row), LineError>
+fn table_and_row(reader: &mut DocReader, rest: &str) -> Result<(Text, Row), LineError>
     ensures { IsLineResult (λ p. p) (table_and_row rest.now) result }
 {
     let table = next_word(rest)?;
     let document = something(table.rest)?;
-    named_row(alloc, table.text, document)
+    named_row(reader, table.text, document)
 }
 
 /// A name and a row.
-fn named_row(alloc: Global, name: &str, document: &str) -> Result<(Text, Row), LineError>
+fn named_row(reader: &mut DocReader, name: &str, document: &str) -> Result<(Text, Row), LineError>
     ensures { IsLineResult (λ p. p) (named_row name.now document.now) result }
 {
-    let name = name_in(alloc, name)?;
-    let row = row_in(alloc, document)?;
+    let name = name_in(reader.alloc(), name)?;
+    let row = row_in(reader, document)?;
     Ok((name, row))
 }
 
 /// `insert TABLE DOC`.
-fn of_insert(alloc: Global, rest: &str) -> Result<Command, LineError>
+fn of_insert(reader: &mut DocReader, rest: &str) -> Result<Command, LineError>
     ensures { IsLineResult (λ c. c) (of_row write_line.Insert rest.now) result }
 {
-    let (table, row) = table_and_row(alloc, rest)?;
+    let (table, row) = table_and_row(reader, rest)?;
     Ok(Command::Write(WriteCommand::Insert { table, row }))
 }
 
 /// `delete TABLE DOC`.
-fn of_delete(alloc: Global, rest: &str) -> Result<Command, LineError>
+fn of_delete(reader: &mut DocReader, rest: &str) -> Result<Command, LineError>
     ensures { IsLineResult (λ c. c) (of_row write_line.Delete rest.now) result }
 {
-    let (table, row) = table_and_row(alloc, rest)?;
+    let (table, row) = table_and_row(reader, rest)?;
     Ok(Command::Write(WriteCommand::Delete { table, row }))
 }
 
 /// The question of `delete-all`, of `delete-prefix` and of a question's word.
-fn asked_of(alloc: Global, ask: Ask, rest: &str) -> Result<Query, LineError>
+fn asked_of(reader: &mut DocReader, ask: Ask, rest: &str) -> Result<Query, LineError>
     ensures { IsLineResult (λ q. q) (asked_of ask rest.now) result }
 {
     let question = question_of(ask, rest)?;
-    query_in(alloc, &question)
+    query_in(reader, &question)
 }
 
 /// `delete-all TABLE INDEX ARGS`.
-fn of_delete_all(alloc: Global, rest: &str) -> Result<Command, LineError>
+fn of_delete_all(reader: &mut DocReader, rest: &str) -> Result<Command, LineError>
     ensures { IsLineResult (λ c. c) (of_query (λ q. commands.Write (write_line.DeleteAll q)) Ask.Get rest.now) result }
 {
-    let query = asked_of(alloc, Ask::Get, rest)?;
+    let query = asked_of(reader, Ask::Get, rest)?;
     Ok(Command::Write(WriteCommand::DeleteAll { query }))
 }
 
 /// `delete-prefix TABLE INDEX ARGS`.
-fn of_delete_prefix(alloc: Global, rest: &str) -> Result<Command, LineError>
+fn of_delete_prefix(reader: &mut DocReader, rest: &str) -> Result<Command, LineError>
     ensures { IsLineResult (λ c. c) (of_query (λ q. commands.Write (write_line.DeletePrefix q)) Ask.Get rest.now) result }
 {
-    let query = asked_of(alloc, Ask::Get, rest)?;
+    let query = asked_of(reader, Ask::Get, rest)?;
     Ok(Command::Write(WriteCommand::DeletePrefix { query }))
 }
 
 /// A question behind its word.
-fn of_question(alloc: Global, ask: Ask, rest: &str) -> Result<Command, LineError>
+fn of_question(reader: &mut DocReader, ask: Ask, rest: &str) -> Result<Command, LineError>
     ensures { IsLineResult (λ c. c) (of_query (λ q. commands.Ask (ask_line.Question q)) ask rest.now) result }
 {
-    let query = asked_of(alloc, ask, rest)?;
+    let query = asked_of(reader, ask, rest)?;
     Ok(Command::Ask(AskCommand::Question { query }))
 }
 
@@ -216,45 +216,49 @@ fn of_size(alloc: Global, rest: &str) -> Result<Command, LineError>
 }
 
 /// `in NAME QUESTION`.
-fn of_snapshot(alloc: Global, rest: &str) -> Result<Command, LineError>
+fn of_snapshot(reader: &mut DocReader, rest: &str) -> Result<Command, LineError>
     ensures { IsLineResult (λ c. c) (of_snapshot rest.now) result }
 {
     let word = next_word(rest)?;
     let question = question_in(word.rest)?;
-    let (name, query) = named_query(alloc, word.text, &question)?;
+    let (name, query) = named_query(reader, word.text, &question)?;
     Ok(Command::Ask(AskCommand::InSnapshot { name, query }))
 }
 
 /// A name and a question.
-fn named_query(alloc: Global, name: &str, question: &Question) -> Result<(Text, Query), LineError>
+fn named_query(
+    reader: &mut DocReader,
+    name: &str,
+    question: &Question,
+) -> Result<(Text, Query), LineError>
     ensures { IsLineResult (λ p. p) (named_query name.now (question_view question.now)) result }
 {
-    let name = name_in(alloc, name)?;
-    let query = query_in(alloc, question)?;
+    let name = name_in(reader.alloc(), name)?;
+    let query = query_in(reader, question)?;
     Ok((name, query))
 }
 
 /// `watch NAME QUESTION`, behind the name and the next word.
-fn watch_of(alloc: Global, word: &Word, asked: &Word) -> Result<Command, LineError>
+fn watch_of(reader: &mut DocReader, word: &Word, asked: &Word) -> Result<Command, LineError>
     ensures { IsLineResult (λ c. c) (watch_of (word_of word.now) (word_of asked.now)) result }
 {
     let question = question_by(asked)?;
-    let (name, query) = named_query(alloc, word.text, &question)?;
+    let (name, query) = named_query(reader, word.text, &question)?;
     Ok(Command::Name(NameCommand::Watch { name, query }))
 }
 
 /// `watch NAME in NAME QUESTION`, behind `in`.
-fn watch_in(alloc: Global, word: &Word, rest: &str) -> Result<Command, LineError>
+fn watch_in(reader: &mut DocReader, word: &Word, rest: &str) -> Result<Command, LineError>
     ensures { IsLineResult (λ c. c) (watch_in (word_of word.now) rest.now) result }
 {
     let kept = next_word(rest)?;
     let question = question_in(kept.rest)?;
-    watch_kept(alloc, word.text, kept.text, &question)
+    watch_kept(reader, word.text, kept.text, &question)
 }
 
 /// The same, of its two names and its question.
 fn watch_kept(
-    alloc: Global,
+    reader: &mut DocReader,
     name: &str,
     snapshot: &str,
     question: &Question,
@@ -262,8 +266,8 @@ fn watch_kept(
     ensures { IsLineResult (λ c. c)
         (watch_kept name.now snapshot.now (question_view question.now)) result }
 {
-    let name = name_in(alloc, name)?;
-    let (snapshot, query) = named_query(alloc, snapshot, question)?;
+    let name = name_in(reader.alloc(), name)?;
+    let (snapshot, query) = named_query(reader, snapshot, question)?;
     Ok(Command::Name(NameCommand::WatchIn {
         name,
         snapshot,
@@ -272,22 +276,22 @@ fn watch_kept(
 }
 
 /// `watch`, in both forms.
-fn of_watch(alloc: Global, rest: &str) -> Result<Command, LineError>
+fn of_watch(reader: &mut DocReader, rest: &str) -> Result<Command, LineError>
     ensures { IsLineResult (λ c. c) (of_watch rest.now) result }
 {
     let word = next_word(rest)?;
     let next = next_word(word.rest)?;
-    watch_by(alloc, &word, &next)
+    watch_by(reader, &word, &next)
 }
 
 /// The same, behind the name and the next word, which tells the form.
-fn watch_by(alloc: Global, word: &Word, next: &Word) -> Result<Command, LineError>
+fn watch_by(reader: &mut DocReader, word: &Word, next: &Word) -> Result<Command, LineError>
     ensures { IsLineResult (λ c. c) (watch_by (word_of word.now) (word_of next.now)) result }
 {
     if next.text == "in" {
-        watch_in(alloc, word, next.rest)
+        watch_in(reader, word, next.rest)
     } else {
-        watch_of(alloc, word, next)
+        watch_of(reader, word, next)
     }
 }
 
@@ -372,24 +376,25 @@ fn of_wait(alloc: Global, rest: &str) -> Result<Command, LineError>
 }
 
 /// The command behind its first word, which stands alone or is followed by rows or a question.
-fn command_of(alloc: Global, word: CommandWord, rest: &str) -> Result<Command, LineError>
+fn command_of(reader: &mut DocReader, word: CommandWord, rest: &str) -> Result<Command, LineError>
     ensures { IsLineResult (λ c. c) (command_of word rest.now) result }
 {
+    let alloc = reader.alloc();
     match word {
         CommandWord::Read => of_read(rest),
         CommandWord::Write => of_write(rest),
         CommandWord::End => of_end(rest),
         CommandWord::Commit => of_commit(rest),
         CommandWord::Abort => of_abort(rest),
-        CommandWord::Insert => of_insert(alloc, rest),
-        CommandWord::Delete => of_delete(alloc, rest),
-        CommandWord::DeleteAll => of_delete_all(alloc, rest),
-        CommandWord::DeletePrefix => of_delete_prefix(alloc, rest),
+        CommandWord::Insert => of_insert(reader, rest),
+        CommandWord::Delete => of_delete(reader, rest),
+        CommandWord::DeleteAll => of_delete_all(reader, rest),
+        CommandWord::DeletePrefix => of_delete_prefix(reader, rest),
         CommandWord::Defer => of_text(alloc, rest),
-        CommandWord::Question(ask) => of_question(alloc, ask, rest),
+        CommandWord::Question(ask) => of_question(reader, ask, rest),
         CommandWord::Snapshot => of_keep(alloc, rest),
-        CommandWord::In => of_snapshot(alloc, rest),
-        CommandWord::Watch => of_watch(alloc, rest),
+        CommandWord::In => of_snapshot(reader, rest),
+        CommandWord::Watch => of_watch(reader, rest),
         CommandWord::Check => of_check(alloc, rest),
         CommandWord::Add => of_add(alloc, rest),
         CommandWord::AddLimit => of_add_limit(alloc, rest),
@@ -399,12 +404,12 @@ fn command_of(alloc: Global, word: CommandWord, rest: &str) -> Result<Command, L
 }
 
 /// The command of a line that isn't empty and begins with no blank.
-pub(crate) fn command_in(alloc: Global, line: &str) -> Result<Command, LineError>
+pub(crate) fn command_in(reader: &mut DocReader, line: &str) -> Result<Command, LineError>
     ensures { IsLineResult (λ c. c) (command_in line.now) result }
 {
     let word = first_word(line);
     match command_named(word.text) {
-        Some(known) => command_of(alloc, known, word.rest),
+        Some(known) => command_of(reader, known, word.rest),
         None => Err(LineError::Broken(LineRule::UnknownWord)),
     }
 }

@@ -16,7 +16,7 @@ ghost use Rattle.client_script.specs.inner.WordView.{word_of};
 use crate::line_error::LineError;
 use crate::line_rule::LineRule;
 use crate::word::{Word, first_word};
-use mdb_datum::{Datum, DocError, Items, Members, Row, Text, read_doc};
+use mdb_datum::{Datum, DocError, DocReader, Items, Members, Row, Text};
 use mdb_schema::{is_name_byte, is_word};
 use std::alloc::Global;
 
@@ -95,10 +95,10 @@ pub(crate) fn index_name_in(alloc: Global, word: &str) -> Result<Text, LineError
 }
 
 /// The document that the rest of a line is.
-fn doc_in(alloc: Global, rest: &str) -> Result<Datum, LineError>
+fn doc_in(reader: &mut DocReader, rest: &str) -> Result<Datum, LineError>
     ensures { IsLineResult doc_of (doc_in (reading rest.now)) result }
 {
-    match read_doc(alloc, rest.as_bytes()) {
+    match reader.read(rest.as_bytes()) {
         Ok(document) => Ok(document),
         Err(DocError::Memory) => Err(LineError::Memory),
         Err(_) => Err(LineError::Broken(LineRule::BadDoc)),
@@ -117,12 +117,12 @@ fn object_in(document: Datum) -> Option<Members>
 }
 
 /// The row that the rest of a line is.
-pub(crate) fn row_in(alloc: Global, rest: &str) -> Result<Row, LineError>
+pub(crate) fn row_in(reader: &mut DocReader, rest: &str) -> Result<Row, LineError>
     ensures { IsLineResult (λ r. r) (row_in rest.now) result }
 {
-    let document = doc_in(alloc, rest)?;
+    let document = doc_in(reader, rest)?;
     match object_in(document) {
-        Some(members) => Ok(Row::of(alloc, members)?),
+        Some(members) => Ok(Row::of(reader.alloc(), members)?),
         None => Err(LineError::Broken(LineRule::BadDoc)),
     }
 }
@@ -173,13 +173,13 @@ fn scalars_in(document: Datum) -> Option<Items>
 }
 
 /// The arguments that the rest of a line is: a list of scalars, empty where nothing is left.
-pub(crate) fn args_in(alloc: Global, rest: &str) -> Result<Items, LineError>
+pub(crate) fn args_in(reader: &mut DocReader, rest: &str) -> Result<Items, LineError>
     ensures { IsLineResult (λ p. p) (args_in rest.now) result }
 {
     if rest.is_empty() {
-        return Ok(Items::new(alloc));
+        return Ok(Items::new(reader.alloc()));
     }
-    let document = doc_in(alloc, rest)?;
+    let document = doc_in(reader, rest)?;
     match scalars_in(document) {
         Some(items) => Ok(items),
         None => Err(LineError::Broken(LineRule::BadDoc)),

@@ -11,9 +11,8 @@ use crate::line_error::LineError;
 use crate::line_rule::LineRule;
 use crate::parts::{args_in, index_name_in, name_in, next_word};
 use crate::word::Word;
-use mdb_datum::Text;
+use mdb_datum::{DocReader, Text};
 use mdb_schema::{Ask, Query};
-use std::alloc::Global;
 
 /// What stands in a question, before its names and its list are looked at.
 #[derive(Clone, Copy)]
@@ -57,23 +56,23 @@ pub(crate) fn question_in(rest: &str) -> Result<Question<'_>, LineRule>
 }
 
 /// The question with its names and arguments. It takes memory for both.
-pub(crate) fn query_in(alloc: Global, question: &Question) -> Result<Query, LineError>
+pub(crate) fn query_in(reader: &mut DocReader, question: &Question) -> Result<Query, LineError>
     ensures { IsLineResult (λ q. q) (query_in (question_view question.now)) result }
 {
-    let table = name_in(alloc, question.table)?;
-    let index = index_name_in(alloc, question.index)?;
-    query_of(alloc, question, table, index)
+    let table = name_in(reader.alloc(), question.table)?;
+    let index = index_name_in(reader.alloc(), question.index)?;
+    query_of(reader, question, table, index)
 }
 
 /// The question with its arguments, of a table and an index of these names.
 fn query_of(
-    alloc: Global,
+    reader: &mut DocReader,
     question: &Question,
     table: Text,
     index: Text,
 ) -> Result<Query, LineError>
     ensures { IsLineResult (λ q. q) (query_of (question_view question.now) table index) result }
 {
-    let args = args_in(alloc, question.args)?;
-    Ok(Query::from_parts(alloc, question.ask, table, index, args)?)
+    let args = args_in(reader, question.args)?;
+    Ok(Query::from_parts(reader.alloc(), question.ask, table, index, args)?)
 }

@@ -12,6 +12,7 @@ use crate::lines::{first_line, has_few_lines};
 use crate::script::Script;
 use crate::script_error::ScriptError;
 use crate::word::{trimmed, without_return};
+use mdb_datum::DocReader;
 use std::alloc::{AllocError, Global};
 use std::str;
 
@@ -23,23 +24,23 @@ fn is_silent(text: &str) -> bool
 }
 
 /// The command of a line without blanks at its ends, with the number of the line.
-fn text_in(alloc: Global, number: u32, text: &str) -> Result<Option<Line>, ScriptError>
+fn text_in(reader: &mut DocReader, number: u32, text: &str) -> Result<Option<Line>, ScriptError>
     ensures { IsScriptResult option_to_list (text_in number text.now) result }
 {
     if is_silent(text) {
         return Ok(None);
     }
-    match command_in(alloc, text) {
+    match command_in(reader, text) {
         Ok(command) => Ok(Some(Line { number, command })),
         Err(error) => Err(error.at(number)),
     }
 }
 
 /// The command of a line, with the number of the line.
-fn line_in(alloc: Global, number: u32, line: &str) -> Result<Option<Line>, ScriptError>
+fn line_in(reader: &mut DocReader, number: u32, line: &str) -> Result<Option<Line>, ScriptError>
     ensures { IsScriptResult option_to_list (line_in number line.now) result }
 {
-    text_in(alloc, number, trimmed(without_return(line)))
+    text_in(reader, number, trimmed(without_return(line)))
 }
 
 /// Adds a line at the end, where there is one.
@@ -54,16 +55,16 @@ fn add(lines: &mut Vec<Line>, found: Option<Line>) -> Result<(), AllocError>
 }
 
 /// The script of a text that has few enough lines.
-fn lines_in(alloc: Global, text: &str) -> Result<Script, ScriptError>
+fn lines_in(reader: &mut DocReader, text: &str) -> Result<Script, ScriptError>
     requires { length (lines_of text.now) ≤ line_limit }
     ensures { IsScriptResult (λ s. s) (lines_in 1 (lines_of text.now)) result }
 {
-    let mut lines = Vec::new(alloc);
+    let mut lines = Vec::new(reader.alloc());
     let mut number = 0u32;
     let mut rest = text;
     while let Some((line, next)) = first_line(rest) {
         number += 1;
-        let found = match line_in(alloc, number, line) {
+        let found = match line_in(reader, number, line) {
             Ok(found) => found,
             Err(error) => return Err(error),
         };
@@ -88,5 +89,6 @@ pub fn read_script(alloc: Global, bytes: &[u8]) -> Result<Script, ScriptError>
     if !has_few_lines(text) {
         return Err(ScriptError::TooManyLines);
     }
-    lines_in(alloc, text)
+    let mut reader = DocReader::new(alloc);
+    lines_in(&mut reader, text)
 }

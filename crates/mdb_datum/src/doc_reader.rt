@@ -19,7 +19,7 @@ pub struct DocReader {
 }
 
 impl DocReader {
-    /// A reader. It takes no memory, and 16 KiB where it stands.
+    /// A reader. It takes no memory, but has 16 KiB in itself.
     pub fn new(alloc: Global) -> DocReader {
         DocReader {
             alloc,
@@ -27,8 +27,14 @@ impl DocReader {
         }
     }
 
-    /// The document that a text is, as `read_doc` says. It takes memory for the document, and the
-    /// first time for a text of that length also for that.
+    /// The allocator of what it reads.
+    pub fn alloc(&self) -> Global {
+        self.alloc
+    }
+
+    /// The document that a text is, as `read_doc` reads it. It takes memory for the document, and
+    /// time in proportion to the text; a text that is longer than each before it takes memory of
+    /// its length, which the reader keeps.
     ///
     /// # Errors
     /// `Syntax` where the text is no JSON, else `Deep`, else `NotWhole`; `Memory` may come at any
