@@ -161,7 +161,7 @@ fn place_for(pairs: &[(Text, Datum)], name: &str) -> Option<usize>
     }
 }
 
-/// Puts a member at its place among others, of which none has its name.
+/// Puts a member at its place among others. A name that one of them has isn't plain.
 fn put_member(pairs: &mut Vec<(Text, Datum)>, name: Text, value: Datum) -> Result<(), Stop>
     requires { NamesRise (field_list (map field_of pairs.old.items)) }
     ensures { OnOk result (map field_of pairs.new.items

@@ -27,13 +27,17 @@ pub fn write_doc(alloc: Global, document: &Datum) -> Result<Vec<u8>, AllocError>
     Ok(out.into_inner())
 }
 
+/// How many bytes a row's text has room for before it takes more memory.
+const ROW_ROOM: usize = 256;
+
 /// The compact text of the object with these members, in memory of the members' allocator.
 pub(crate) fn write_members(members: &Members) -> Result<Vec<u8>, AllocError>
     ensures text { IfOk result (λ v. v.items ≡ row_text members.now) }
     ensures reads_back { IfOk result (λ v.
         reading v.items ≡ read_as (object (field_list members.now))) }
 {
-    let mut out = Writer::new(Vec::new(*members.pairs.allocator()));
+    let room = Vec::with_capacity(*members.pairs.allocator(), ROW_ROOM)?;
+    let mut out = Writer::new(room);
     put_members(members, &mut out)?;
     Ok(out.into_inner())
 }

@@ -1,6 +1,5 @@
 -- A node is put among edges that rise by first byte.
 use Rattle.std.proofs.Common.{◌≡◌, ◌<◌, ◌+◌, ◌++◌, ◌∷◌, ◌∙◌, ℕ, suc, List, [], map, take, drop, get_or, slice_set, Option, Some, None, Result, Ok, Err, refl, sym, ap, subst, arith, Less, Equal, Greater}
-use Rattle.std.proofs.lemmas.List.{map-set, map-append, take-map, drop-map}
 use Rattle.std.specs.Ordering.{nat_cmp}
 use Rattle.std.specs.FinMap.Entries as entries
 use Rattle.mdb_datum.specs.Row.{Pair}
@@ -12,7 +11,8 @@ use Rattle.radix_node.specs.declared.edges.Edges.{Edges, out-Edges}
 use Rattle.radix_node.specs.declared.edge.Edge.{Edge}
 use Rattle.radix_node.proofs.ByteCompare.{what_less, what_equal, what_greater}
 use Rattle.radix_node.proofs.Levels.{edges_out, first_byte}
-use Rattle.radix_node.proofs.EdgeSearch.{node_at, edge_at, get_there, in_range}
+use Rattle.radix_node.proofs.ListPlaces.{at_place, put_by, put_further, replaced_at, inserted_at}
+use Rattle.radix_node.proofs.EdgeSearch.{edge_at, get_there, in_range}
 use Rattle.radix_node.proofs.KeysUnder.{weaken_first}
 
 -- ---- prefixes that are known to begin with a byte
@@ -74,22 +74,14 @@ module _ (b : ℕ) (p : List ℕ) (n : PlainNode) (is : n.prefix ≡ b ∷ p) wh
 
   -- ---- by the place that was found
 
-  abbrev pub put_by : Result ℕ ℕ → List PlainNode → List PlainNode
-  put_by (Ok i) ns = slice_set ns i n
-  put_by (Err i) ns = take i ns ++ n ∷ drop i ns
-
-  put_further : (r : Result ℕ ℕ) (m : PlainNode) (ms : List PlainNode) → put_by (further_by 1 r) (m ∷ ms) ≡ m ∷ put_by r ms
-  put_further (Ok i) m ms = ap (λ z. slice_set (m ∷ ms) z n) (let e : 1 + i ≡ suc i = omega arith in e)
-  put_further (Err i) m ms = ap (λ z. take z (m ∷ ms) ++ n ∷ drop z (m ∷ ms)) (let e : 1 + i ≡ suc i = omega arith in e)
-
-  pub put_at_place : (ns : List PlainNode) → edge_put n ns ≡ put_by (place_of b ns) ns
+  pub put_at_place : (ns : List PlainNode) → edge_put n ns ≡ put_by PlainNode n (place_of b ns) ns
   put_at_place [] = refl
   put_at_place (m ∷ ms) =
       ap (λ o. entries.by_order o (n ∷ m ∷ ms) (n ∷ ms) (m ∷ edge_put n ms)) (ap (λ (z : List ℕ). first_order z m.prefix) is ∙ first_byte b p m.prefix)
-      ∙ elim (first_order (b ∷ []) m.prefix) as (λ o. entries.by_order o (n ∷ m ∷ ms) (n ∷ ms) (m ∷ edge_put n ms) ≡ put_by (entries.by_order o (Err 0) (Ok 0) (further_by 1 (place_of b ms))) (m ∷ ms)) [
+      ∙ elim (first_order (b ∷ []) m.prefix) as (λ o. entries.by_order o (n ∷ m ∷ ms) (n ∷ ms) (m ∷ edge_put n ms) ≡ put_by PlainNode n (entries.by_order o (Err 0) (Ok 0) (further_by 1 (place_of b ms))) (m ∷ ms)) [
         | Less ↦ refl
         | Equal ↦ refl
-        | Greater ↦ ap (λ (zs : List PlainNode). m ∷ zs) (put_at_place ms) ∙ sym (put_further (place_of b ms) m ms)
+        | Greater ↦ ap (λ (zs : List PlainNode). m ∷ zs) (put_at_place ms) ∙ sym (put_further PlainNode n (place_of b ms) m ms)
       ]
 
 -- ---- in memory
@@ -101,29 +93,20 @@ module _ (e : Edges) (edge : Edge) (label : ℕ) (is_label : label ≡ (plain_ed
   starts : (edge_node edge).prefix ≡ label ∷ own
   starts = ap (λ (z : ℕ). z ∷ own) (sym is_label)
 
-  put_placed : (r : Result ℕ ℕ) → r ≡ place_of label (edges_of e) → put_by label own (edge_node edge) starts r (edges_of e) ≡ edge_put (edge_node edge) (edges_of e)
-  put_placed r is = ap (λ z. put_by label own (edge_node edge) starts z (edges_of e)) is ∙ sym (put_at_place label own (edge_node edge) starts (edges_of e))
+  put_placed : (r : Result ℕ ℕ) → r ≡ place_of label (edges_of e) → put_by PlainNode (edge_node edge) r (edges_of e) ≡ edge_put (edge_node edge) (edges_of e)
+  put_placed r is = ap (λ z. put_by PlainNode (edge_node edge) z (edges_of e)) is ∙ sym (put_at_place label own (edge_node edge) starts (edges_of e))
 
   pub replaced : (at : ℕ) (x : Edge) → x ≡ edge → Ok at ≡ place_of label (edges_of e) → map edge_node (slice_set (out-Edges e).edges.items at x) ≡ edge_put (edge_node edge) (edges_of e)
-  replaced at x is found =
-      map-set edge_node (out-Edges e).edges.items at x
-      ∙ (λ i. slice_set (sym (edges_out e) i) at (edge_node (is i)))
-      ∙ put_placed (Ok at) found
+  replaced at x is found = replaced_at PlainNode edge_node e (edges_of e) (edges_out e) at x edge is ∙ put_placed (Ok at) found
 
   pub inserted : (at : ℕ) (items : List Edge) → items ≡ take at (out-Edges e).edges.items ++ edge ∷ drop at (out-Edges e).edges.items → Err at ≡ place_of label (edges_of e) → map edge_node items ≡ edge_put (edge_node edge) (edges_of e)
-  inserted at items is absent =
-      ap (map edge_node) is
-      ∙ map-append edge_node (take at (out-Edges e).edges.items) (edge ∷ drop at (out-Edges e).edges.items)
-      ∙ ap (λ (ns : List PlainNode). ns ++ edge_node edge ∷ map edge_node (drop at (out-Edges e).edges.items)) (sym (take-map edge_node at (out-Edges e).edges.items))
-      ∙ ap (λ (ns : List PlainNode). take at (map edge_node (out-Edges e).edges.items) ++ edge_node edge ∷ ns) (sym (drop-map edge_node at (out-Edges e).edges.items))
-      ∙ ap (λ (ns : List PlainNode). take at ns ++ edge_node edge ∷ drop at ns) (sym (edges_out e))
-      ∙ put_placed (Err at) absent
+  inserted at items is absent = inserted_at PlainNode edge_node e (edges_of e) (edges_out e) at items edge is ∙ put_placed (Err at) absent
 
   pub still_rise : (ns : List PlainNode) → EdgesRise (nodes_in (edges_of e)) → ns ≡ edge_put (edge_node edge) (edges_of e) → EdgesRise (nodes_in ns)
   still_rise ns rising is = subst (λ (ms : List PlainNode). EdgesRise (nodes_in ms)) (sym is) (put_rises label own (edge_node edge) starts (edges_of e) rising)
 
-  stands : (r : Result ℕ ℕ) → r ≡ place_of label (edges_of e) → node_at label r (edges_of e) ≡ edge_of (plain_edge edge).label (nodes_in (edges_of e))
-  stands r is = ap (λ z. node_at label z (edges_of e)) is ∙ edge_at label (edges_of e) ∙ ap (λ z. edge_of z (nodes_in (edges_of e))) is_label
+  stands : (r : Result ℕ ℕ) → r ≡ place_of label (edges_of e) → at_place PlainNode r (edges_of e) ≡ edge_of (plain_edge edge).label (nodes_in (edges_of e))
+  stands r is = ap (λ z. at_place PlainNode z (edges_of e)) is ∙ edge_at label (edges_of e) ∙ ap (λ z. edge_of z (nodes_in (edges_of e))) is_label
 
   pub old_there : (at : ℕ) (x : Edge) → x ≡ get_or (out-Edges e).edges.items at x → Ok at ≡ place_of label (edges_of e) → Some (edge_node x) ≡ edge_of (plain_edge edge).label (nodes_in (edges_of e))
   old_there at x read found = get_there e at x (in_range label e (Ok at) found) read ∙ stands (Ok at) found

@@ -1,7 +1,6 @@
 -- Where an edge stands among edges that rise by first byte.
-use Rattle.std.proofs.Common.{◌≡◌, ◌<◌, ◌≤◌, ◌+◌, ◌∷◌, ◌∙◌, ℕ, zero, suc, List, [], length, map, get_or, slice_get, option_map, vec_len, Option, Some, None, Result, Ok, Err, refl, sym, ap, subst, arith, Ordering, Less, Equal, Greater}
+use Rattle.std.proofs.Common.{◌≡◌, ◌<◌, ◌≤◌, ◌+◌, ◌∷◌, ◌∙◌, ℕ, zero, suc, List, [], length, map, get_or, slice_get, vec_len, Option, Some, None, Result, Ok, Err, refl, sym, ap, subst, arith, Ordering, Less, Equal, Greater}
 use Rattle.std.proofs.lemmas.List.{get_or-map, length-map}
-use Rattle.std.proofs.lemmas.Option.{slice_get-map, slice_get_read, slice_get_past}
 use Rattle.std.specs.List.Sorted.{IsSearchInRange, IsBinarySearchResult, IsNonDecreasingBy}
 use Rattle.std.specs.Ordering.{nat_cmp, ordering_index}
 use Rattle.std.specs.FinMap.Entries as entries
@@ -13,6 +12,7 @@ use Rattle.radix_node.specs.Siblings.{nodes_list}
 use Rattle.radix_node.specs.declared.edge.Edge.{Edge}
 use Rattle.radix_node.specs.declared.edges.Edges.{Edges, out-Edges}
 use Rattle.radix_node.proofs.ByteCompare.{what_less, what_equal, what_greater, less_from, equal_from, greater_from}
+use Rattle.radix_node.proofs.ListPlaces.{at_place, at_further, there, past}
 use Rattle.radix_node.proofs.Levels.{edges_out, nodes_list_in}
 
 -- the edges of a shaped tree rise
@@ -117,20 +117,12 @@ module _ (b : ℕ) where
   -- ---- what stands at the place
 
   -- the node at a place that was found
-  abbrev pub node_at : Result ℕ ℕ → List PlainNode → Option PlainNode
-  node_at (Ok i) ns = slice_get ns i
-  node_at (Err i) ns = None
-
-  node_further : (r : Result ℕ ℕ) (n : PlainNode) (ns : List PlainNode) → node_at (further_by 1 r) (n ∷ ns) ≡ node_at r ns
-  node_further (Ok i) n ns = ap (λ z. slice_get (n ∷ ns) z) (let e : 1 + i ≡ suc i = omega arith in e)
-  node_further (Err i) n ns = refl
-
-  pub edge_at : (ns : List PlainNode) → node_at (place_of b ns) ns ≡ edge_of b (nodes_in ns)
+  pub edge_at : (ns : List PlainNode) → at_place PlainNode (place_of b ns) ns ≡ edge_of b (nodes_in ns)
   edge_at [] = refl
-  edge_at (n ∷ ns) = elim (first_order (b ∷ []) n.prefix) as (λ o. node_at (entries.by_order o (Err 0) (Ok 0) (further_by 1 (place_of b ns))) (n ∷ ns) ≡ entries.by_order o None (Some n) (edge_of b (nodes_in ns))) [
+  edge_at (n ∷ ns) = elim (first_order (b ∷ []) n.prefix) as (λ o. at_place PlainNode (entries.by_order o (Err 0) (Ok 0) (further_by 1 (place_of b ns))) (n ∷ ns) ≡ entries.by_order o None (Some n) (edge_of b (nodes_in ns))) [
     | Less ↦ refl
     | Equal ↦ refl
-    | Greater ↦ node_further (place_of b ns) n ns ∙ edge_at ns
+    | Greater ↦ at_further PlainNode (place_of b ns) n ns ∙ edge_at ns
   ]
 
 -- ---- of edges and nodes in memory
@@ -141,18 +133,10 @@ place_found b e items r is rising within found =
     searched b items r (subst (λ (ns : List PlainNode). EdgesRise (nodes_in ns)) to rising) within found ∙ ap (place_of b) (sym to)
 
 pub get_there : (e : Edges) (at : ℕ) (r : Edge) → at < vec_len (out-Edges e).edges → r ≡ get_or (out-Edges e).edges.items at r → Some (edge_node r) ≡ slice_get (edges_of e) at
-get_there e at r lt read =
-    let items = (out-Edges e).edges.items in
-    let count = (out-Edges e).edges.ok.0 in
-    let within : at < length items = omega arith in
-    sym (ap (λ (ns : List PlainNode). slice_get ns at) (edges_out e) ∙ slice_get-map edge_node items at ∙ ap (option_map edge_node) (slice_get_read items (length items) at r refl within read))
+get_there e at r lt read = there PlainNode edge_node e (edges_of e) (edges_out e) at r lt read
 
 pub get_past : (e : Edges) (at : ℕ) → vec_len (out-Edges e).edges ≤ at → None ≡ slice_get (edges_of e) at
-get_past e at le =
-    let items = (out-Edges e).edges.items in
-    let count = (out-Edges e).edges.ok.0 in
-    let beyond : length items ≤ at = omega arith in
-    sym (ap (λ (ns : List PlainNode). slice_get ns at) (edges_out e) ∙ slice_get-map edge_node items at ∙ ap (option_map edge_node) (slice_get_past items at beyond))
+get_past e at le = past PlainNode edge_node e (edges_of e) (edges_out e) at le
 
 -- ---- the place is in range
 
@@ -191,10 +175,10 @@ edge_first b (node (c ∷ p) leaf under later) m e =
 
 -- what is at a place that was found
 pub edge_at_place : (b : ℕ) (under : Nodes) (es : List PlainNode) (at : ℕ) (m : PlainNode) → nodes_in es ≡ under → slice_get es at ≡ Some m → Ok at ≡ place_of b es → Some m ≡ edge_of b under
-edge_at_place b under es at m is there found = sym there ∙ ap (λ r. node_at b r es) found ∙ edge_at b es ∙ ap (edge_of b) is
+edge_at_place b under es at m is there found = sym there ∙ ap (λ r. at_place PlainNode r es) found ∙ edge_at b es ∙ ap (edge_of b) is
 
 pub edge_at_gap : (b : ℕ) (under : Nodes) (es : List PlainNode) (at : ℕ) → nodes_in es ≡ under → Err at ≡ place_of b es → None ≡ edge_of b under
-edge_at_gap b under es at is gap = ap (λ r. node_at b r es) gap ∙ edge_at b es ∙ ap (edge_of b) is
+edge_at_gap b under es at is gap = ap (λ r. at_place PlainNode r es) gap ∙ edge_at b es ∙ ap (edge_of b) is
 
 -- its label is the byte
 pub edge_label : (b : ℕ) (under : Nodes) (e : PlainEdge) → Some (labelled e) ≡ edge_of b under → e.label ≡ b

@@ -14,6 +14,7 @@ pub mod LeafWatch
 pub mod Lent
 pub mod Levels
 pub mod LongestPrefix
+pub mod ListPlaces
 pub mod Lookup
 pub mod LookupSteps
 pub mod Members
