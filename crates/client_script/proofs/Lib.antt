@@ -11,6 +11,8 @@ pub mod LineSplits
 pub mod LongerHistory
 pub mod OneClient
 pub mod OneHistory
+pub mod PrintedCounts
 pub mod RowCounts
+pub mod RuleNames
 pub mod ScriptAnswered
 pub mod WatchLines

@@ -10,6 +10,7 @@ pub mod Parts
 pub mod Refusal
 pub mod RefusedWord
 pub mod Reply
+pub mod RuleName
 pub mod Script
 pub mod Session
 pub mod Spent

@@ -5,6 +5,9 @@
 //! [`Command`]s, and [`Scripts`], a list of scripts that are taken out one after the other. What
 //! bytes read as is said by the definitions in `specs/`: lines, words, the grammar, the rules.
 //!
+//! A line that is carried out may break a [`Rule`] of the session: its names are here too, since
+//! whoever carries lines out tells them, and so does whoever checks what was told.
+//!
 //! Reading takes time in proportion to the file, and memory for the commands. A line without a
 //! command takes no memory.
 #![tactic(auto)]
@@ -20,6 +23,7 @@ mod lines;
 mod parts;
 mod question;
 mod read;
+mod rule;
 mod script;
 mod script_error;
 mod scripts;
@@ -30,6 +34,7 @@ pub use command::{
 };
 pub use line::Line;
 pub use read::read_script;
+pub use rule::{Rule, question_name};
 pub use script::Script;
 pub use script_error::ScriptError;
 pub use scripts::Scripts;

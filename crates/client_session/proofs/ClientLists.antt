@@ -2,26 +2,12 @@
 use Rattle.std.proofs.Common.{arith, ap, refl, ◌∙◌, ◌≡◌, subst, sym, ℕ, ◌+◌, ◌≤◌, drop, length, List, [], ◌∷◌, ◌++◌, None, slice_get}
 use Rattle.std.proofs.lemmas.List.{append-nil, append_assoc, length-append}
 use Rattle.client_script.specs.declared.line.Line.{Line}
-use Rattle.client_session.specs.Answered.{IsLater}
+use Rattle.client_session.proofs.OpenTurns.{later_self}
 use Rattle.client_session.specs.Clients.{AreLater, new_sessions, callers_back}
 use Rattle.client_session.specs.Progress.{Progress}
-use Rattle.mem_txn.proofs.OneHistory.{later_itself}
 use Rattle.mem_txn.specs.Database.{AreOf, Caller, Callers, Database, IsOf}
 
 -- ---- sessions that are still new are as before
-
-later_self : (p : Caller) → IsLater p p
-later_self p = record {
-  number = refl;
-  database = refl;
-  schema = refl;
-  book = refl;
-  seen = ([], append-nil p.seen);
-  trees = ([], append-nil p.trees);
-  counts = ([], append-nil p.counts);
-  tries = ([], append-nil p.tries);
-  log = later_itself p.log;
-}
 
 later_selves : (ss : List Progress) → AreLater ss ss
 later_selves [] = tt

@@ -12,14 +12,13 @@ mod SnapshotSteps
 mod LooksTold
 mod MadeSoFar
 pub mod ManyClients
-mod OneMoreLine
-mod OpenTurns
+pub mod OneMoreLine
+pub mod OpenTurns
 pub mod PlacesByCaller
 mod QuietBefore
 mod QuietMembers
 mod ReplyLines
 mod RequestTurns
-mod RowRules
 mod SessionSteps
 mod SetsJoined
 pub mod Threads

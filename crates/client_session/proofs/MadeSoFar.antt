@@ -6,8 +6,9 @@ use Rattle.mem_txn.specs.CellHistory.{CellHistory}
 use Rattle.mem_txn.specs.Database.{Caller, cells_seen}
 use Rattle.client_script.specs.Client.{Client, at_start}
 use Rattle.client_script.specs.Legal.{number_printed, printed}
-use Rattle.client_script.specs.Reply.{Reply, read_at, write_at, ended, committed, aborted, inserted, replaced, deleted, wiped, deferred, answered, snapshot_at, snapshot_within, quiet_at, fired_at, sized, woken_by, stopped_at, refused}
+use Rattle.client_script.specs.Reply.{Reply}
 use Rattle.client_script.specs.declared.line.Line.{Line}
+use Rattle.client_script.proofs.PrintedCounts.{printed_few}
 use Rattle.client_session.proofs.OneMoreLine.{rising_wider, told_longer}
 use Rattle.client_session.specs.Answered.{AreMade, AreRising, IsLater, commit_at}
 use Rattle.client_session.specs.Cells.{RunsByCells}
@@ -20,37 +21,6 @@ pub printed_both : (rs ss : List Reply) → printed (rs ++ ss) ≡ printed rs ++
 printed_both [] ss = refl
 printed_both (r ∷ rs) ss = ap (λ (ms : List ℕ). number_printed r ++ ms) (printed_both rs ss) ∙ sym (append_assoc (number_printed r) (printed rs) (printed ss))
 
--- ---- at most one a reply
-
-one_at_most : (r : Reply) → length (number_printed r) ≤ 1
-one_at_most (committed m changed texts) = omega arith
-one_at_most (read_at n) = omega arith
-one_at_most (write_at n) = omega arith
-one_at_most ended = omega arith
-one_at_most aborted = omega arith
-one_at_most inserted = omega arith
-one_at_most replaced = omega arith
-one_at_most deleted = omega arith
-one_at_most (wiped k) = omega arith
-one_at_most deferred = omega arith
-one_at_most (answered a) = omega arith
-one_at_most (snapshot_at n) = omega arith
-one_at_most (snapshot_within n) = omega arith
-one_at_most (quiet_at n) = omega arith
-one_at_most (fired_at n) = omega arith
-one_at_most (sized k) = omega arith
-one_at_most (woken_by name n) = omega arith
-one_at_most (stopped_at n) = omega arith
-one_at_most (refused rule) = omega arith
-
-few_printed : (rs : List Reply) → length (printed rs) ≤ length rs
-few_printed [] = omega arith
-few_printed (r ∷ rs) =
-    let one = one_at_most r in
-    let rest = few_printed rs in
-    let both = length-append (number_printed r) (printed rs) in
-    omega (arith, one, rest, both)
-
 as_many_lines : (J : CellHistory) (n : ℕ) (v : Client) (ls : List Line) (rs : List Reply) (end : Client) → RunsByCells J n v ls rs end → length rs ≡ length ls
 as_many_lines J n v [] [] end runs = refl
 as_many_lines J n v [] (r ∷ rs) end runs = absurd runs
@@ -60,10 +30,10 @@ as_many_lines J n v (l ∷ ls) (r ∷ rs) end (next, a, told, runs) = ap suc (as
 -- so there is room for one more
 pub room_for_one : (J : CellHistory) (n : ℕ) (script : List Line) (at count : ℕ) (rs : List Reply) (end : Client) → RunsByCells J n at_start (take at script) rs end → count ≡ length (printed rs) → at ≤ length script → at + 1 < 2 ^ 64 → count + 1 < 2 ^ 64
 room_for_one J n script at count rs end runs counted within few =
-    let printed_few = few_printed rs in
+    let few_printed = printed_few rs in
     let lines = as_many_lines J n at_start (take at script) rs end runs in
     let taken = length-take-le at script within in
-    omega (arith, counted, printed_few, lines, taken, few)
+    omega (arith, counted, few_printed, lines, taken, few)
 
 pub room_carried : (pass : Caller) (script : List Line) (from at : ℕ) (old : Transcript) (d : SessionState) (t : Transcript) → CarriedOn pass script from at old d t → at ≤ length script → at + 1 < 2 ^ 64 → t.commits + 1 < 2 ^ 64
 room_carried pass script from at old d t on within few =

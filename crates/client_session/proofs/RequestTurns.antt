@@ -9,7 +9,7 @@ use Rattle.mdb_schema.specs.Answer as asked
 use Rattle.mdb_schema.specs.Answer.{Asked, ask}
 use Rattle.mdb_schema.specs.History.{History, writes_in}
 use Rattle.mdb_schema.specs.Query.{Query}
-use Rattle.mdb_schema.specs.Refusals.{AnswersAsk, ask_error, write_error}
+use Rattle.mdb_schema.specs.ErrorsTold.{AnswersAsk, ask_error, write_error}
 use Rattle.mdb_schema.specs.Schema.{DbSchema, table_place}
 use Rattle.std.specs.Bool.{⊤}
 use Rattle.mdb_schema.specs.State.{State, Table, table_at}
@@ -30,6 +30,7 @@ use Rattle.mem_txn.specs.declared.txn_error.TxnWipeError.TheVariants as wipe_ref
 use Rattle.table_index.specs.declared.wipe_error.WipeError.TheVariants as wipe_errors
 use Rattle.mdb_schema.specs.declared.ask_error.AskError.{AskError}
 use Rattle.mdb_schema.specs.Wipe.{wipe, wipe_by_prefix}
+use Rattle.mdb_schema.proofs.KnownTables.{other_rule}
 use Rattle.mem_txn.specs.declared.write_txn.WriteTxn.{WriteTxn}
 use Rattle.client_script.specs.Client.{Transaction, closed, reading, writing, Client, Sight, some_open, state_seen}
 use Rattle.client_script.proofs.OneClient.{insert_prints}
@@ -45,15 +46,14 @@ use Rattle.client_script.specs.declared.command.Command.TheVariants as command
 use Rattle.client_script.specs.declared.command.WriteCommand.{WriteCommand}
 use Rattle.client_script.specs.declared.command.WriteCommand.TheVariants as write_line
 use Rattle.client_script.specs.RefusedWord.{write_word, question_word}
+use Rattle.client_script.proofs.RuleNames.{question_same, rule_of_question, rule_same}
+use Rattle.client_script.specs.RuleName.{question_rule, rule_name}
 use Rattle.mdb_encode.specs.KeyRefusal.{wrong_kind, out_of_range, bad_uuid, too_many, too_long}
-use Rattle.client_session.proofs.RowRules.{rule_same, other_rule}
 use Rattle.client_session.specs.declared.reply.Reply.TheVariants as replies
-use Rattle.client_session.specs.declared.rule.Rule.TheVariants as rules
+use Rattle.client_script.specs.declared.rule.Rule.TheVariants as rules
 use Rattle.client_session.specs.inner.Asking.{asked_reply}
-use Rattle.client_session.specs.inner.Refusal.{write_rule, wipe_rule, question_rule, txn_question_rule, row_rule_but_memory}
+use Rattle.client_session.specs.inner.Refusal.{write_rule, wipe_rule, txn_question_rule, row_rule_but_memory}
 use Rattle.client_session.specs.inner.ReplyOf.{reply_of}
-use Rattle.client_session.specs.inner.RuleName.{rule_name, question_name}
-use Rattle.mdb_encode.specs.ArgRefusal.{arg_count, arg_kind, arg_out_of_range, arg_bad_uuid, arg_too_long, no_prefix_form}
 use Rattle.client_session.specs.declared.open.Open.{Open}
 use Rattle.client_session.specs.declared.open.Open.TheVariants as opens
 use Rattle.client_session.specs.inner.OpenView.{TurnsTo, caller_of, transaction_of, Stands, IsNumbered, made}
@@ -335,34 +335,9 @@ wipe_refused_turn : (c : WriteCommand) (wiping : DbSchema → State → Asked (L
 unfolding IsWipe
 wipe_refused_turn c wiping is_wipe txn txn' why breaks changes items sound = same_turns c txn txn' _ (λ v is. is_wipe (txn_of txn).caller.schema (txn_of txn).caller.seen v ∙ rw (is, breaks) refl) changes items sound
 
--- the rule of a question that is refused, and its name
-pub rule_of_question : (why : asked.AskRefusal) → question_rule (ask_error why) ≡ Some (rules.Question (ask_error why))
-rule_of_question asked.unknown_table = refl
-rule_of_question asked.no_prefix_name = refl
-rule_of_question asked.unknown_index = refl
-rule_of_question asked.not_unique = refl
-rule_of_question (asked.bad_argument arg_count) = refl
-rule_of_question (asked.bad_argument arg_kind) = refl
-rule_of_question (asked.bad_argument arg_out_of_range) = refl
-rule_of_question (asked.bad_argument arg_bad_uuid) = refl
-rule_of_question (asked.bad_argument arg_too_long) = refl
-rule_of_question (asked.bad_argument no_prefix_form) = refl
-
-pub name_of_question : (why : asked.AskRefusal) → question_name (ask_error why) ≡ question_word why
-name_of_question asked.unknown_table = refl
-name_of_question asked.no_prefix_name = refl
-name_of_question asked.unknown_index = refl
-name_of_question asked.not_unique = refl
-name_of_question (asked.bad_argument arg_count) = refl
-name_of_question (asked.bad_argument arg_kind) = refl
-name_of_question (asked.bad_argument arg_out_of_range) = refl
-name_of_question (asked.bad_argument arg_bad_uuid) = refl
-name_of_question (asked.bad_argument arg_too_long) = refl
-name_of_question (asked.bad_argument no_prefix_form) = refl
-
 -- a question's refusal, from the turn that tells it
 question_refused : (c : Command) (old new : Open) (schema : DbSchema) (why : asked.AskRefusal) → TurnsTo c old new (said.refused (question_word why)) → RefusedTo c old new schema (question_rule (ask_error why))
-question_refused c old new schema why turns = subst (λ (r : Option rules.the_data). RefusedTo c old new schema r) (sym (rule_of_question why)) (subst (λ (b : Bytes). TurnsTo c old new (said.refused b)) (sym (name_of_question why)) turns)
+question_refused c old new schema why turns = subst (λ (r : Option rules.the_data). RefusedTo c old new schema r) (sym (rule_of_question why)) (subst (λ (b : Bytes). TurnsTo c old new (said.refused b)) (sym (question_same why)) turns)
 
 module _ (c : WriteCommand) (wiping : DbSchema → State → Asked (List Write)) (is_wipe : IsWipe c wiping) (name : Bytes) (unknown : (schema : DbSchema) (s : State) → table_at schema s name ≡ None → wiping schema s ≡ Err asked.unknown_table) (txn txn' : WriteTxn Bytes) (items : items_of txn' ≡ items_of txn) (sound : (txn_of txn).spoiled ≡ false) where
   lists : Asked (List Write)

@@ -28,7 +28,7 @@ use Rattle.client_script.specs.declared.command.TransactionCommand.TheVariants a
 use Rattle.mdb_schema.specs.Answer as asked
 use Rattle.mdb_schema.specs.Answer.{Asked, ask}
 use Rattle.mdb_schema.specs.Query.{Query}
-use Rattle.mdb_schema.specs.Refusals.{AnswersAsk, ask_error}
+use Rattle.mdb_schema.specs.ErrorsTold.{AnswersAsk, ask_error}
 use Rattle.mdb_schema.specs.declared.answer.Answer.{Answer}
 use Rattle.mdb_schema.specs.declared.ask_error.AskError.{AskError}
 use Rattle.client_session.specs.Cells.{TellsCells}
@@ -39,10 +39,8 @@ use Rattle.client_session.proofs.ToldCounts.{IsOfRows, TellsNone, among_none, ro
 use Rattle.client_session.proofs.FollowsOn.{follows_then, holds_on, knows_on, seen_more, within_more}
 use Rattle.client_session.proofs.SnapshotSteps.{seen_step}
 use Rattle.client_session.proofs.OpenTurns.{looks_self, none_made}
-use Rattle.client_session.proofs.RequestTurns.{rule_of_question, name_of_question, none_numbered, answer_makes, refused_makes}
-use Rattle.client_session.specs.declared.rule.Rule.TheVariants as rules
-use Rattle.client_session.specs.inner.Refusal.{question_rule}
-use Rattle.client_session.specs.inner.RuleName.{rule_name}
+use Rattle.client_session.proofs.RequestTurns.{none_numbered, answer_makes, refused_makes}
+use Rattle.client_script.specs.declared.rule.Rule.TheVariants as rules
 use Rattle.client_script.specs.declared.command.Command.{Command}
 use Rattle.client_session.specs.declared.session_state.SessionState.{SessionState}
 use Rattle.client_session.specs.declared.any_snapshot.AnySnapshot.{AnySnapshot}
@@ -58,6 +56,8 @@ use Rattle.client_session.specs.inner.SnapshotView.{snapshot_view, seen_in}
 use Rattle.client_session.specs.inner.OpenView.{Grows, IsNumbered, LooksAndTurns, TriesWrite, TurnsTo, caller_of, transaction_of, Stands, made}
 use Rattle.client_session.specs.inner.WatchingView.{Holds, IsReadBy, Knows}
 use Rattle.client_script.proofs.OneClient.{snapshot_prints}
+use Rattle.client_script.proofs.RuleNames.{rule_of_question, question_same}
+use Rattle.client_script.specs.RuleName.{question_rule, rule_name}
 use Rattle.mdb_schema.proofs.Membership.{same_key}
 
 -- ---- the entry of a commit
@@ -287,7 +287,7 @@ snapshot_refused d name q view e rule result stands there answers rule_is told =
     of (Ok a) is e_is = by_rule None (rule_is ∙ ap question_rule e_is) tt
     of (Err why) is e_is =
         let e_told : e ≡ ask_error why = cc in
-        by_rule (Some (rules.Question (ask_error why))) (rule_is ∙ ap question_rule e_told ∙ rule_of_question why) (subst (λ (b : Bytes). RepliesTo C d d (said.refused b)) (sym (name_of_question why)) (refuses why is))
+        by_rule (Some (rules.Question (ask_error why))) (rule_is ∙ ap question_rule e_told ∙ rule_of_question why) (subst (λ (b : Bytes). RepliesTo C d d (said.refused b)) (sym (question_same why)) (refuses why is))
 
 abbrev or_else : Option Sight → Option Sight → Option Sight
 or_else None y = y

@@ -9,7 +9,7 @@ use Rattle.mdb_schema.specs.Answer as asked
 use Rattle.mdb_schema.specs.Answer.{Asked, ask}
 use Rattle.mdb_schema.specs.History.{after_writes, state_at}
 use Rattle.mdb_schema.specs.Query.{Query}
-use Rattle.mdb_schema.specs.Refusals.{ask_error}
+use Rattle.mdb_schema.specs.ErrorsTold.{ask_error}
 use Rattle.mdb_schema.specs.Schema.{DbSchema}
 use Rattle.mdb_schema.specs.State.{State}
 use Rattle.mdb_schema.specs.Tests.{◌>>=◌, passed}
@@ -29,23 +29,22 @@ use Rattle.client_script.specs.Client.{Client, Judged, Sight, Watch, set_named, 
 use Rattle.client_script.specs.Reply.{Reply, answered, refused}
 use Rattle.client_script.specs.Turn.{Turn, asked_watched, outcome, watch_turn, with_watch}
 use Rattle.client_script.specs.Watching.{limit_judged, limited, watch_called}
+use Rattle.client_script.specs.declared.rule.Rule.{Rule}
+use Rattle.client_script.specs.RuleName.{question_rule, question_name, rule_name}
+use Rattle.client_script.proofs.RuleNames.{question_same}
 use Rattle.client_script.specs.declared.command.WatchesCommand.TheVariants as watches_line
 use Rattle.client_session.specs.Cells.{WatchTellsCells}
 use Rattle.client_session.specs.declared.reply.Reply as own
 use Rattle.client_session.specs.declared.reply.Reply.TheVariants as replies
-use Rattle.client_session.specs.declared.rule.Rule.{Rule}
-use Rattle.client_session.specs.declared.rule.Rule.TheVariants as rules
+use Rattle.client_script.specs.declared.rule.Rule.TheVariants as rules
 use Rattle.client_session.specs.declared.watching.Watching.{Watching}
-use Rattle.client_session.specs.inner.Refusal.{question_rule}
 use Rattle.client_session.specs.inner.ReplyOf.{reply_of}
-use Rattle.client_session.specs.inner.RuleName.{question_name, rule_name}
 use Rattle.client_session.specs.inner.SetsKept.{PutsBack, Sets, members_in}
 use Rattle.client_session.specs.inner.WatchingView.{AsksWatch, Holds, IsReadBy, IsSeenIn, IsSetOf, Knows, WatchTold, watch_of}
 use Rattle.client_session.proofs.IndexPlaces.{ok_once, some_once}
 use Rattle.client_session.proofs.LooksTold.{called_none, called_watch, judged_not, judged_so, unknown}
 use Rattle.client_session.proofs.SetsJoined.{AddsTo, count_known, put_added, set_added}
 use Rattle.client_session.proofs.WatchesNamed.{watches_more}
-use Rattle.client_session.proofs.RequestTurns.{name_of_question}
 
 -- ---- the answer to a question with its watch
 
@@ -77,7 +76,7 @@ not_given true (Err asked.no_prefix_name) e is = inr (ap (λ (x : AskError). Err
 not_given true (Err asked.unknown_index) e is = inr (ap (λ (x : AskError). Err (question_name x)) (sym (err_same e ask_errors.UnknownIndex is)))
 not_given true (Err asked.not_unique) e is = inr (ap (λ (x : AskError). Err (question_name x)) (sym (err_same e ask_errors.NotUnique is)))
 not_given true (Err (asked.bad_argument why)) e is =
-    inr (ap (λ (word : Bytes). Err word) (sym (name_of_question (asked.bad_argument why)) ∙ ap question_name (sym (err_same e (ask_error (asked.bad_argument why)) is))))
+    inr (ap (λ (word : Bytes). Err word) (sym (question_same (asked.bad_argument why)) ∙ ap question_name (sym (err_same e (ask_error (asked.bad_argument why)) is))))
 not_given true (Ok a) e is = inl is
 not_given false (Err asked.no_prefix_name) e is = inr (ap (λ (x : AskError). Err (question_name x)) (sym (err_same e ask_errors.Unwatchable is)))
 not_given false (Err asked.unknown_index) e is = inr (ap (λ (x : AskError). Err (question_name x)) (sym (err_same e ask_errors.Unwatchable is)))

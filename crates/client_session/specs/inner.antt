@@ -6,7 +6,6 @@ pub mod Looked
 pub mod OpenView
 pub mod Refusal
 pub mod ReplyOf
-pub mod RuleName
 pub mod SetsKept
 pub mod SnapshotView
 pub mod StateView

@@ -1,6 +1,6 @@
 //! A snapshot of a session.
 ghost use Rattle.mdb_schema.specs.Answer.{ask};
-ghost use Rattle.mdb_schema.specs.Refusals.{AnswersAsk};
+ghost use Rattle.mdb_schema.specs.ErrorsTold.{AnswersAsk};
 ghost use Rattle.client_session.specs.inner.SnapshotView.{snapshot_view};
 
 use mdb_schema::{Answer, AskError, Query};

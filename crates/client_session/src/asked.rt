@@ -1,20 +1,20 @@
 //! The answers to questions of a read state, written from walks over its rows.
-ghost use Rattle.std.specs.Prelude.{◌≡◌, ◌++◌, IfOk, Ok, OnOk, codes, length, take};
+ghost use Rattle.std.specs.Prelude.{◌≡◌, ◌++◌, ◌≤◌, IfOk, OnOk, codes, decimal, drop, length, take};
 ghost use Rattle.mdb_schema.specs.Answer.{ask};
 ghost use Rattle.mdb_schema.specs.declared.ask_error.AskError.TheVariants.{Memory};
 ghost use Rattle.client_script.specs.Reply.{reply_text, row_lines};
-ghost use Rattle.client_session.specs.inner.Asking.{CountsAsk, IsListed, asked_reply};
-ghost use Rattle.client_session.specs.inner.RuleName.{question_name};
+ghost use Rattle.client_script.specs.RuleName.{question_name};
+ghost use Rattle.client_session.specs.inner.Asking.{IsListed, asked_reply};
 
 use crate::reply::{write_at, write_line, write_rows};
-use crate::rule::question_name;
+use client_script::question_name;
 use mdb_schema::{Ask, AskError, Query};
 use mem_txn::ReadTxn;
 use radix_iter::Walk;
 use std::alloc::AllocError;
 
-/// Adds the answer to a question of a state, or the name of the rule that it breaks. Rows of a list
-/// are counted by one walk and written by a second, and no list of them is made.
+/// Adds the answer to a question of a state, or the name of the rule that it breaks. The rows of a list
+/// are counted and written by one walk, and no list of them is made.
 pub(crate) fn write_asked(txn: &ReadTxn, query: &Query, out: &mut Vec<u8>) -> Result<(), AllocError>
     ensures text { OnOk result (out.new.items ≡ out.old.items
         ++ reply_text (asked_reply (ask txn.now.view.schema txn.now.view.state query.now))) }
@@ -47,66 +47,50 @@ fn write_many(txn: &ReadTxn, query: &Query, out: &mut Vec<u8>) -> Result<(), All
         ++ reply_text (asked_reply (ask txn.now.view.schema txn.now.view.state query.now))) }
     ensures before { take (length out.old.items) out.new.items ≡ out.old.items }
 {
-    match count_asked(txn, query) {
-        Ok(count) => write_counted(txn, query, count, out),
+    match txn.walk(query) {
+        Ok(walk) => write_counted(walk, out),
         Err(error) => write_broken(error, out),
     }
 }
 
-/// How many rows a question is answered.
-fn count_asked(txn: &ReadTxn, query: &Query) -> Result<u64, AskError>
-    ensures { CountsAsk (ask txn.now.view.schema txn.now.view.state query.now) result }
+/// Adds how many rows a walk gives, and a line for each. The lines are written first, since how many
+/// they are is known at the end of the walk.
+fn write_counted(walk: Walk<'_>, out: &mut Vec<u8>) -> Result<(), AllocError>
+    ensures text { OnOk result (out.new.items ≡ out.old.items
+        ++ (codes "rows " ++ (decimal (length walk.entry) ++ row_lines walk.entry))) }
+    ensures before { take (length out.old.items) out.new.items ≡ out.old.items }
 {
-    match txn.walk(query) {
-        Ok(walk) => Ok(count_rows(walk)?),
-        Err(error) => Err(error),
-    }
+    let at = out.len();
+    let count = write_walk(walk, out)?;
+    put_count(count, at, out)
 }
 
-/// How many rows a walk gives.
-fn count_rows(mut walk: Walk<'_>) -> Result<u64, AllocError>
-    ensures { IfOk result (λ n. n ≡ length walk.entry) }
+/// Adds a line for each row that a walk gives, and gives their count.
+fn write_walk(mut walk: Walk<'_>, out: &mut Vec<u8>) -> Result<u64, AllocError>
+    ensures text { OnOk result (out.new.items ≡ out.old.items ++ row_lines walk.entry) }
+    ensures count { IfOk result (λ n. n ≡ length walk.entry) }
+    ensures before { take (length out.old.items) out.new.items ≡ out.old.items }
 {
     let mut count: u64 = 0;
-    while walk.next()?.is_some() {
+    while let Some(row) = walk.next()? {
+        write_line(&row, out)?;
         // No memory has room for as many rows as a `u64` can't count.
-        let Some(more) = count.checked_add(1) else {
-            return Err(AllocError);
-        };
-        count = more;
+        count = count.checked_add(1).ok_or(AllocError)?;
     }
     Ok(count)
 }
 
-/// Adds so many rows, which are those that a question is answered. It breaks no rule, since they were
-/// counted, so that the only error is want of memory.
-fn write_counted(
-    txn: &ReadTxn,
-    query: &Query,
-    count: u64,
-    out: &mut Vec<u8>,
-) -> Result<(), AllocError>
-    requires listed { IsListed query.now.ask }
-    requires count { CountsAsk (ask txn.now.view.schema txn.now.view.state query.now) (Ok count) }
-    ensures text { OnOk result (out.new.items ≡ out.old.items
-        ++ reply_text (asked_reply (ask txn.now.view.schema txn.now.view.state query.now))) }
-    ensures before { take (length out.old.items) out.new.items ≡ out.old.items }
+/// Puts how many rows there are before their lines, which begin at this place.
+fn put_count(count: u64, at: usize, out: &mut Vec<u8>) -> Result<(), AllocError>
+    requires { at ≤ length out.old.items }
+    ensures text { OnOk result (out.new.items
+        ≡ take at out.old.items ++ ((codes "rows " ++ decimal count) ++ drop at out.old.items)) }
+    ensures before { take at out.new.items ≡ take at out.old.items }
 {
+    let end = out.len();
     write_at(b"rows ", count, out)?;
-    match txn.walk(query) {
-        Ok(walk) => write_walk(walk, out),
-        Err(_) => Err(AllocError),
-    }
-}
-
-/// Adds a line for each row that a walk gives.
-fn write_walk(mut walk: Walk<'_>, out: &mut Vec<u8>) -> Result<(), AllocError>
-    ensures text { OnOk result (out.new.items ≡ out.old.items ++ row_lines walk.entry) }
-    ensures before { take (length out.old.items) out.new.items ≡ out.old.items }
-{
-    while let Some(row) = walk.next()? {
-        write_line(&row, out)?;
-    }
+    let (_, lines) = out.as_mut_slice().split_at_mut(at);
+    lines.rotate_left(end - at);
     Ok(())
 }
 

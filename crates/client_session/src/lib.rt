@@ -15,7 +15,6 @@ mod open;
 mod refusal;
 mod reply;
 mod requests;
-mod rule;
 mod run;
 mod session;
 mod session_state;

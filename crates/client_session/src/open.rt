@@ -12,8 +12,7 @@ ghost use Rattle.client_session.specs.inner.OpenView.{Stands, TriesWrite, TurnsT
 ghost use Rattle.client_session.specs.inner.ReplyOf.{reply_of};
 
 use crate::reply::Reply;
-use crate::rule::Rule;
-use client_script::TransactionCommand;
+use client_script::{Rule, TransactionCommand};
 use mdb_datum::Text;
 use mem_txn::pass_laws::{ids_tell_cells, ids_tell_cells_within};
 use mem_txn::{

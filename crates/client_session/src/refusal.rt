@@ -1,13 +1,12 @@
 //! The rules behind the errors of a write transaction.
 ghost use Rattle.std.specs.Prelude.{◌≡◌, IsErr, MatchOption, Ok};
 ghost use Rattle.client_session.specs.declared.reply.Reply.TheVariants as replies;
-ghost use Rattle.client_session.specs.inner.Refusal.{question_rule, txn_question_rule, write_rule};
-ghost use Rattle.client_session.specs.inner.Refusal.{wipe_rule};
+ghost use Rattle.client_session.specs.inner.Refusal.{txn_question_rule, wipe_rule, write_rule};
 
 use crate::reply::Reply;
-use crate::rule::Rule;
+use client_script::Rule;
 use mdb_datum::Text;
-use mdb_schema::{AskError, Schema, WriteError};
+use mdb_schema::{Schema, WriteError};
 use mem_txn::{TxnAskError, TxnWipeError, TxnWriteError};
 use std::alloc::AllocError;
 use table_index::WipeError;
@@ -22,23 +21,13 @@ pub(crate) fn refused(rule: Option<Rule>) -> Result<Reply, AllocError>
     }
 }
 
-/// The rule of a question, if it isn't for want of memory.
-pub(crate) fn question_rule(error: AskError) -> Option<Rule>
-    ensures { result ≡ question_rule error }
-{
-    match error {
-        AskError::Memory => None,
-        error => Some(Rule::Question(error)),
-    }
-}
-
 /// The rule of a question of a transaction.
 pub(crate) fn txn_question_rule(error: TxnAskError) -> Option<Rule>
     ensures { result ≡ txn_question_rule error }
 {
     match error {
         TxnAskError::Spoiled => None,
-        TxnAskError::Refused(error) => question_rule(error),
+        TxnAskError::Refused(error) => Rule::of_question(error),
     }
 }
 
@@ -65,6 +54,6 @@ pub(crate) fn wipe_rule(error: TxnWipeError) -> Option<Rule>
         TxnWipeError::UnknownTable => Some(Rule::UnknownTable),
         TxnWipeError::Refused(WipeError::Memory) => None,
         TxnWipeError::Refused(WipeError::IdsSpent) => Some(Rule::IdsSpent),
-        TxnWipeError::Refused(WipeError::Refused(error)) => question_rule(error),
+        TxnWipeError::Refused(WipeError::Refused(error)) => Rule::of_question(error),
     }
 }

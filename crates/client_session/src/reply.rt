@@ -10,10 +10,9 @@ ghost use Rattle.client_script.specs.Turn.{changed_row, name_of};
 ghost use Rattle.mdb_schema.specs.Schema.{DbSchema};
 ghost use Rattle.client_session.specs.inner.Looked.{IsLooked};
 ghost use Rattle.client_session.specs.inner.ReplyOf.{reply_of, IsNumbered, IsWord};
-ghost use Rattle.client_session.specs.inner.RuleName.{rule_name};
 
 use crate::asked::write_asked;
-use crate::rule::Rule;
+use client_script::Rule;
 use mdb_datum::{Row, Text};
 use mdb_schema::{Answer, Query, Rows, Schema};
 use mem_txn::{Change, ChangeList, DeferredList, ReadTxn, Receipt};
@@ -123,7 +122,7 @@ impl Reply {
             Reply::Committed(receipt) => write_commit(receipt, schema, out),
             Reply::Answered(answer) => write_rows(answer, out),
             Reply::Asked(txn, query) => write_asked(txn, query, out),
-            Reply::Refused(rule) => write_refused(*rule, schema, out),
+            Reply::Refused(rule) => rule.write(schema, out),
             Reply::Ended
             | Reply::Aborted
             | Reply::Inserted
@@ -225,16 +224,6 @@ fn write_woken(name: &Text, number: u64, out: &mut Vec<u8>) -> Result<(), AllocE
     out.extend_from_slice(b"fired ")?;
     out.extend_from_slice(name.as_str().as_bytes())?;
     write_at(b" @", number, out)
-}
-
-/// Adds the name of the rule that a line breaks.
-fn write_refused(rule: Rule, schema: &Schema, out: &mut Vec<u8>) -> Result<(), AllocError>
-    ensures text { OnOk result (out.new.items ≡ out.old.items
-        ++ (codes "refused " ++ rule_name schema.now rule)) }
-    ensures before { take (length out.old.items) out.new.items ≡ out.old.items }
-{
-    out.extend_from_slice(b"refused ")?;
-    rule.write(schema, out)
 }
 
 /// Adds a commit's number, a line for each change, and a line for each deferred text.

@@ -23,12 +23,11 @@ ghost use Rattle.client_session.specs.inner.WatchingView.{Holds, wait_for};
 use crate::any_snapshot::AnySnapshot;
 use crate::named::Named;
 use crate::open::Open;
-use crate::refusal::{question_rule, refused};
+use crate::refusal::refused;
 use crate::reply::Reply;
-use crate::rule::Rule;
 use crate::waits_for::WaitsFor;
 use crate::watching::Watching;
-use client_script::{AskCommand, Command, NameCommand, TransactionCommand, WatchesCommand};
+use client_script::{AskCommand, Command, NameCommand, Rule, TransactionCommand, WatchesCommand};
 use mdb_datum::Text;
 use mdb_schema::Query;
 use mem_txn::{Db, Pass};
@@ -457,7 +456,7 @@ impl SessionState {
         };
         match kept.ask(query) {
             Ok(answer) => Ok(Reply::Answered(answer)),
-            Err(error) => refused(question_rule(error)),
+            Err(error) => refused(Rule::of_question(error)),
         }
     }
 

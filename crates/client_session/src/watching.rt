@@ -19,10 +19,10 @@ ghost use Rattle.mem_txn.specs.Checked.{IdsTellCells};
 ghost use Rattle.mem_txn.specs.Database.{Caller, IsOf};
 
 use crate::named::Named;
-use crate::refusal::{question_rule, refused};
+use crate::refusal::refused;
 use crate::reply::Reply;
-use crate::rule::Rule;
 use crate::waits_for::WaitsFor;
+use client_script::Rule;
 use mdb_datum::Text;
 use mdb_schema::Query;
 use mem_txn::pass_laws::{moves_are_touches, trees_are_complete};
@@ -92,7 +92,7 @@ impl Watching {
                 self.watches.keep(alloc, name, held)?;
                 Ok(Reply::Answered(answer))
             }
-            Err(error) => refused(question_rule(error)),
+            Err(error) => refused(Rule::of_question(error)),
         }
     }
 

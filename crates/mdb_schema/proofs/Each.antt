@@ -1,7 +1,8 @@
 -- A walk over a list by place, where the first that breaks a rule ends it.
-use Rattle.std.proofs.Common.{◌≡◌, ℕ, ◌+◌, List, [], ◌∷◌, ◌++◌, drop, ap, sym, ◌∙◌, refl, append_assoc, Some}
+use Rattle.std.proofs.Common.{◌≡◌, ◌≤◌, length, ℕ, ◌+◌, List, [], ◌∷◌, ◌++◌, drop, ap, sym, ◌∙◌, refl, append_assoc, Some}
 use Rattle.std.specs.Prelude.{Result, Ok, Err}
 use Rattle.std.specs.List.{slice_get}
+use Rattle.std.proofs.lemmas.List.{drop_all, append-nil}
 use Rattle.mdb_datum.proofs.ListPlaces.{drop_at}
 use Rattle.mdb_schema.specs.Broken.{◌>>=◌, each, Checked, Broken}
 use Rattle.mdb_schema.specs.SchemaAnswer.{AnswersSchema}
@@ -42,3 +43,8 @@ named_refusal_at f done xs at x (schema_error.Broken r t i) there walked told = 
 pub each_pushed : {A B E : Type 0} (f : A → Result B E) (done more : List B) (xs : List A) (at : ℕ) (x : A) (y : B) → Some x ≡ slice_get xs at → f x ≡ Ok y → each f xs ≡ behind done (each f (drop at xs)) → more ≡ done ++ y ∷ [] → each f xs ≡ behind more (each f (drop (at + 1) xs))
 each_pushed f done more xs at x y there found walked pushed =
     walked ∙ each_more f done xs at x y there found ∙ ap (λ ys. behind ys (each f (drop (at + 1) xs))) (sym pushed)
+
+-- all have been walked
+pub each_done : {A B E : Type 0} (f : A → Result B E) (done : List B) (xs : List A) (at : ℕ) → length xs ≤ at → each f xs ≡ behind done (each f (drop at xs)) → each f xs ≡ Ok done
+each_done f done xs at long walked =
+    walked ∙ ap (λ l. behind done (each f l)) (drop_all at xs long) ∙ ap Ok (append-nil done)

@@ -55,6 +55,12 @@ abbrev pub argument : Argued → Asked Bytes
 argument (Ok k) = Ok k
 argument (Err e) = Err (bad_argument e)
 
+-- what a question's arguments make, by themselves or in the prefix form, as its name of the index
+-- says
+abbrev pub argued_by : IndexSchema → Query → Argued
+argued_by i q =
+    if is_prefix_name q.index then pre i.indexer q.args else arg i.indexer q.args
+
 -- the key of a question's arguments, empty where there is none
 abbrev pub key_asked : IndexSchema → Query → List Doc → Asked Bytes
 key_asked i q [] = Ok []

@@ -3,6 +3,7 @@ pub mod Broken
 pub mod Codes
 pub mod Edits
 pub mod Entries
+pub mod ErrorsTold
 pub mod Guarded
 pub mod History
 pub mod Keys
@@ -16,7 +17,6 @@ pub mod NetOfPairs
 pub mod Query
 pub mod QueryCodes
 pub mod Reading
-pub mod Refusals
 pub mod RuleWord
 pub mod Schema
 pub mod SchemaAnswer

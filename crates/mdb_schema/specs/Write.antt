@@ -1,7 +1,7 @@
 -- One write: the state after it with the row that was there, or the first rule that the request
 -- breaks. The tests stand in the order in which they are made: the table, then the `id` key, then
 -- the keys of each index, then what the other rows allow.
-use Rattle.std.specs.Prelude.{◌||◌, ◌&&◌, ℕ, List, [], ◌∷◌, Bool, true, false, not, slice_set, codes}
+use Rattle.std.specs.Prelude.{◌||◌, ◌&&◌, ℕ, List, [], ◌∷◌, Bool, true, false, map, not, slice_set, codes}
 use Rattle.std.specs.Prelude.{Option, Some, Result, Ok, Err}
 use Rattle.std.specs.List.{list_any, enumerate_from}
 use Rattle.std.specs.Str.{bytes_eq}
@@ -11,7 +11,7 @@ use Rattle.mdb_encode.specs.Bytes.{Bytes}
 use Rattle.mdb_encode.specs.KeyRefusal.{KeyRefusal}
 use Rattle.mdb_encode.specs.Keys.{Keyed, keys}
 use Rattle.mdb_schema.specs.Schema.{IndexSchema, TableSchema, DbSchema, index_place}
-use Rattle.mdb_schema.specs.State.{State, Table, table_at, id_keys, id_key, full_keys, row_at, with_row, without_row}
+use Rattle.mdb_schema.specs.State.{State, Table, table_at, id_keys, id_key, full_key, full_keys, row_at, with_row, without_row}
 use Rattle.mdb_schema.specs.Tests.{◌>>=◌, needed, passed, each}
 
 pub data Write : Type 0 where
@@ -71,6 +71,13 @@ abbrev pub takes : Fields → Placed → Tested (Unit {0})
 takes row (place, i) = do
   ks ← keys_at place (keys i.indexer row)
   passed (missing place) (i.allow_missing || has_key ks)
+
+-- the full keys of a row of an `id` key in an index, if the index takes the row
+abbrev pub full_keys_at : Bytes → Fields → Placed → Tested (List Bytes)
+full_keys_at id row (place, i) = do
+  ks ← keys_at place (keys i.indexer row)
+  enough ← passed (missing place) (i.allow_missing || has_key ks)
+  Ok (map (full_key i id) ks)
 
 -- a key is one of these
 abbrev pub is_among : List Bytes → Bytes → Bool

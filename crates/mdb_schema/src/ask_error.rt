@@ -1,7 +1,9 @@
 //! Why a question is refused.
 ghost use Rattle.std.specs.Prelude.{◌≡◌};
+ghost use Rattle.mdb_schema.specs.ErrorsTold.{argument_told};
 ghost use Rattle.mdb_schema.specs.declared.ask_error.AskError.TheVariants.{Memory};
 
+use mdb_encode::ArgError;
 use std::alloc::{AllocError, AllocFailed};
 
 /// Why a question is refused. The first cause in the order of `docs/FORMATS.md` is answered.
@@ -31,6 +33,23 @@ pub enum AskError {
     BadUuid,
     /// The key would have more than 1,024 bytes.
     TooLong,
+}
+
+impl AskError {
+    /// Why arguments make no key.
+    pub fn of_argument(error: ArgError) -> AskError
+        ensures { result ≡ argument_told error }
+    {
+        match error {
+            ArgError::Memory => AskError::Memory,
+            ArgError::ArgCount => AskError::ArgCount,
+            ArgError::ArgKind => AskError::ArgKind,
+            ArgError::OutOfRange => AskError::OutOfRange,
+            ArgError::BadUuid => AskError::BadUuid,
+            ArgError::TooLong => AskError::TooLong,
+            ArgError::NoPrefixForm => AskError::NoPrefixForm,
+        }
+    }
 }
 
 impl From<AllocError> for AskError {

@@ -21,6 +21,7 @@ mod kind_name;
 pub mod laws;
 mod names;
 mod query;
+pub mod question;
 mod read;
 mod rows;
 mod schema;

@@ -1,7 +1,9 @@
 //! Why a write is refused.
 ghost use Rattle.std.specs.Prelude.{◌≡◌};
+ghost use Rattle.mdb_schema.specs.ErrorsTold.{told_at};
 ghost use Rattle.mdb_schema.specs.declared.write_error.WriteError.TheVariants.{Memory};
 
+use mdb_encode::KeyError;
 use std::alloc::{AllocError, AllocFailed};
 
 /// Why a write is refused. The first cause in the order of `docs/FORMATS.md` is answered. An index
@@ -30,6 +32,22 @@ pub enum WriteError {
     NotFound,
     /// Fewer than 2^26 ids of watch cells are left.
     IdsSpent,
+}
+
+impl WriteError {
+    /// Why a row has no keys in the index at a place.
+    pub fn of_key(index: u32, error: KeyError) -> WriteError
+        ensures { result ≡ told_at index error }
+    {
+        match error {
+            KeyError::Memory => WriteError::Memory,
+            KeyError::WrongKind => WriteError::WrongKind { index },
+            KeyError::OutOfRange => WriteError::OutOfRange { index },
+            KeyError::BadUuid => WriteError::BadUuid { index },
+            KeyError::TooMany => WriteError::TooMany { index },
+            KeyError::TooLong => WriteError::TooLong { index },
+        }
+    }
 }
 
 impl From<AllocError> for WriteError {

@@ -10,6 +10,7 @@ use Rattle.mdb_schema.specs.Query.{Query}
 use Rattle.mdb_schema.specs.Schema.{IndexSchema, TableSchema}
 use Rattle.mdb_schema.specs.declared.answer.Answer.{Answer}
 use Rattle.mdb_schema.proofs.PassedTests.{goes_on}
+use Rattle.mdb_schema.proofs.LookupTests.{looked_there}
 use Rattle.radix_node.specs.Cells.{CellTree, plain_of}
 use Rattle.radix_node.specs.Nodes.{pairs_of}
 use Rattle.watch_word.specs.Logs.{Cell}
@@ -17,7 +18,6 @@ use Rattle.table_index.specs.Frozen.{AreFrozen}
 use Rattle.table_index.specs.Table.{TableChange, TableRows}
 use Rattle.table_index.specs.Watched.{HoldsEntries, HoldsRows, QuestionsHold, QuestionsHoldSince}
 use Rattle.table_index.specs.Written.{KeepsOthers}
-use Rattle.table_index.proofs.Lookups.{looked_there}
 use Rattle.table_index.proofs.WrittenRows.{keeps_others}
 use Rattle.mem_txn.specs.inner.Ended.{AreMade, EndsWith, IsMade}
 use Rattle.mem_txn.specs.inner.VersionTables.{unwritten}

@@ -16,6 +16,7 @@ pub mod KeptAlong
 pub mod ListLoops
 pub mod LooksTold
 pub mod MovesTouched
+pub mod NamedTables
 pub mod NextVersions
 pub mod OneHistory
 pub mod OneIdOneCell
@@ -36,6 +37,7 @@ pub mod TableFirst
 pub mod TablesFound
 pub mod Threads
 pub mod ToldAcross
+pub mod TxnWritten
 pub mod ValuesAlong
 pub mod WipesAnswered
 pub mod WritesAnswered

@@ -17,6 +17,7 @@ use Rattle.mdb_schema.specs.declared.ask.Ask.{Ask}
 use Rattle.mdb_schema.specs.declared.ask.Ask.TheVariants.{First, Last, Get, GetReverse, Lower, ReverseLower, Longest}
 use Rattle.mdb_schema.proofs.EntriesOfRows.{sorted-entries}
 use Rattle.mdb_schema.proofs.Membership.{no_tie, same_key}
+use Rattle.mdb_schema.proofs.LookupTests.{looked_there}
 use Rattle.radix_node.specs.Cells.{CellLeaf, CellTree, a_leaf, cells_of, leaves_of, pieces_of, plain_of}
 use Rattle.radix_node.specs.Nodes.{pairs_of}
 use Rattle.radix_node.specs.Pairs.{IsRising, find}
@@ -28,7 +29,6 @@ use Rattle.table_index.specs.Table.{TableRows}
 use Rattle.table_index.specs.Watched.{HoldsEntries, HoldsRows, is_for_one, looks_up, watch_in}
 use Rattle.table_index.specs.Written.{IsKeyOf, KeptBut}
 use Rattle.table_index.proofs.ExactRows.{first_exact, last_exact}
-use Rattle.table_index.proofs.Lookups.{looked_there}
 use Rattle.watch_word.specs.Logs.{Cell}
 use Rattle.mem_txn.specs.CellHistory.{CellHistory, MovesAreTouches, cell_at, state_after, trees_after}
 use Rattle.mem_txn.specs.Database.{cells_seen}

@@ -4,7 +4,7 @@ use Rattle.std.proofs.Common.{◌≡◌, ◌≤◌, ◌∙◌, ◌+◌, ◌*◌,
 use Rattle.std.specs.Prelude.{◌⊎◌, IfErr, IfOk, OnOk, option_to_list}
 use Rattle.mdb_datum.specs.Row.{Fields}
 use Rattle.mdb_schema.specs.Answer.{Asked, AskRefusal}
-use Rattle.mdb_schema.specs.Refusals.{ask_error}
+use Rattle.mdb_schema.specs.ErrorsTold.{ask_error}
 use Rattle.mdb_schema.specs.Schema.{TableSchema}
 use Rattle.mdb_schema.specs.Write.{Changed, Tested, put_row}
 use Rattle.mdb_schema.specs.declared.write_error.WriteError.{WriteError}

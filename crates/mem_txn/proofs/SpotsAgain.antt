@@ -5,10 +5,10 @@ use Rattle.mdb_schema.specs.Answer.{lookup_of}
 use Rattle.mdb_schema.specs.Query.{Query}
 use Rattle.mdb_schema.specs.Schema.{DbSchema, TableSchema, table_place}
 use Rattle.mdb_schema.specs.State.{State}
+use Rattle.mdb_schema.proofs.LookupTests.{looked_there}
 use Rattle.table_index.specs.Spot.{SpotOf}
 use Rattle.table_index.specs.Table.{TableRows}
 use Rattle.table_index.specs.Watched.{cell_of}
-use Rattle.table_index.proofs.Lookups.{looked_there}
 use Rattle.watch_word.specs.Logs.{Cell}
 use Rattle.mem_txn.specs.CellHistory.{question_cell}
 use Rattle.mem_txn.specs.AskedSpots.{IsAsked}

@@ -4,7 +4,7 @@ use Rattle.std.specs.Prelude.{if◌then◌else◌}
 use Rattle.std.proofs.lemmas.Option.{slice_get-map}
 use Rattle.mdb_schema.specs.Answer.{Asked, ask, ask_rows}
 use Rattle.mdb_schema.specs.Query.{Query}
-use Rattle.mdb_schema.specs.Refusals.{ask_error}
+use Rattle.mdb_schema.specs.ErrorsTold.{ask_error}
 use Rattle.mdb_schema.specs.Schema.{DbSchema, table_place}
 use Rattle.mdb_schema.specs.State.{State, Table}
 use Rattle.mdb_schema.specs.declared.answer.Answer.{Answer}

@@ -9,7 +9,7 @@ use Rattle.mdb_datum.specs.Row.{Fields}
 use Rattle.mdb_encode.specs.Bytes.{Bytes}
 use Rattle.mdb_schema.specs.Answer.{Asked, ask, ask_rows, unknown_table}
 use Rattle.mdb_schema.specs.Query.{Query}
-use Rattle.mdb_schema.specs.Refusals.{AnswersAsk}
+use Rattle.mdb_schema.specs.ErrorsTold.{AnswersAsk}
 use Rattle.mdb_schema.specs.Schema.{TableSchema, DbSchema, table_place}
 use Rattle.mdb_schema.specs.State.{State, Table, table_at}
 use Rattle.mdb_schema.specs.Tests.{◌>>=◌, needed}

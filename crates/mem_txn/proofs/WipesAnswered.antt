@@ -8,7 +8,7 @@ use Rattle.mdb_schema.specs.Answer.{Asked, AskRefusal, is_prefix_name, no_prefix
 use Rattle.mdb_schema.specs.History.{after_writes, writes_in}
 use Rattle.mdb_schema.specs.LawfulSchema.{IsLawfulTable}
 use Rattle.mdb_schema.specs.Query.{Query}
-use Rattle.mdb_schema.specs.Refusals.{ask_error}
+use Rattle.mdb_schema.specs.ErrorsTold.{ask_error}
 use Rattle.mdb_schema.specs.Schema.{TableSchema, DbSchema, table_place}
 use Rattle.mdb_schema.specs.State.{State, Table, table_at}
 use Rattle.mdb_schema.specs.Tests.{◌>>=◌, passed}

@@ -5,7 +5,7 @@ use Rattle.mdb_datum.specs.Row.{Fields}
 use Rattle.mdb_encode.specs.Bytes.{Bytes}
 use Rattle.mdb_schema.specs.Answer.{Asked}
 use Rattle.mdb_schema.specs.History.{Commit, after_writes, writes_in}
-use Rattle.mdb_schema.specs.Refusals.{AnswersAsk, ask_error, write_error}
+use Rattle.mdb_schema.specs.ErrorsTold.{AnswersAsk, ask_error, write_error}
 use Rattle.mdb_schema.specs.State.{State, Table, table_at}
 use Rattle.mdb_schema.specs.Write.{Write, Stepped, step, table_of}
 use Rattle.mdb_schema.specs.declared.answer.Answer.{Answer}

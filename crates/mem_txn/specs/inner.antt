@@ -6,6 +6,7 @@ pub mod Ended
 pub mod Firing
 pub mod HeldView
 pub mod Looks
+pub mod NamedTables
 pub mod Steps
 pub mod StoredChange
 pub mod Values

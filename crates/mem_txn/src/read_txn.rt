@@ -2,7 +2,7 @@
 ghost use Rattle.std.specs.Prelude.{◌≡◌, All, IfOk};
 ghost use Rattle.std.specs.Arc.{arc_value};
 ghost use Rattle.mdb_schema.specs.Answer.{ask};
-ghost use Rattle.mdb_schema.specs.Refusals.{AnswersAsk};
+ghost use Rattle.mdb_schema.specs.ErrorsTold.{AnswersAsk};
 ghost use Rattle.mem_txn.specs.Held.{AnswersHeld, IsHeldOf, tells_own};
 ghost use Rattle.mem_txn.specs.inner.Looks.{CellsAreOfBook};
 ghost use Rattle.mem_txn.specs.inner.VersionTables.{AreAllWithin};

@@ -1,7 +1,7 @@
 //! Snapshots of write transactions.
 ghost use Rattle.std.specs.Prelude.{◌≡◌};
 ghost use Rattle.mdb_schema.specs.Answer.{ask};
-ghost use Rattle.mdb_schema.specs.Refusals.{AnswersAsk};
+ghost use Rattle.mdb_schema.specs.ErrorsTold.{AnswersAsk};
 
 use crate::view::View;
 use mdb_schema::{Answer, AskError, Query};

@@ -1,10 +1,13 @@
 //! The state after a commit.
-ghost use Rattle.std.specs.Prelude.{◌≡◌, ◌≤◌, ◌+◌, ◌^◌, ◌++◌, ◌∷◌, [], All, IfOk, OnOk, Some, map};
+ghost use Rattle.std.specs.Prelude.{◌≡◌, ◌≤◌, ◌+◌, ◌^◌, ◌++◌, ◌∷◌, [], All, IfOk, OnOk, IfSome, IfNone};
+ghost use Rattle.std.specs.Prelude.{Some, None, map};
 ghost use Rattle.std.specs.Arc.{arc_value};
 ghost use Rattle.mdb_schema.specs.Answer.{ask};
-ghost use Rattle.mdb_schema.specs.Refusals.{AnswersAsk};
+ghost use Rattle.mdb_schema.specs.ErrorsTold.{AnswersAsk};
+ghost use Rattle.mdb_schema.specs.Schema.{table_place};
 ghost use Rattle.mdb_schema.specs.State.{empty_state};
 ghost use Rattle.mem_txn.specs.inner.EmptyTables.{AreEmpty, IsEmptyOf};
+ghost use Rattle.mem_txn.specs.inner.NamedTables.{IsTableOf};
 ghost use Rattle.mem_txn.specs.inner.Steps.{tables_with};
 ghost use Rattle.mem_txn.specs.inner.VersionTables.{AreAllWithin, schemas_of, state_of, trees_of};
 ghost use Rattle.table_index.specs.Table.{TableRows};
@@ -135,6 +138,20 @@ impl View {
         *self.tables.allocator()
     }
 
+    /// The table that a question is of, if there is one of its name.
+    fn table_of(&self, query: &Query) -> Option<&Table>
+        ensures none { IfNone result (table_place query.now.table self.now.view.schema ≡ None) }
+        ensures some { IfSome result (λ t. IsTableOf self.now query.now.table t.now) }
+    {
+        match self.schema.find(query.table().as_str()) {
+            Some(place) => {
+                let table: &Table = &self.tables[place];
+                Some(table)
+            }
+            None => None,
+        }
+    }
+
     /// What a question is answered, with its watch.
     pub(crate) fn ask_watch(&self, query: &Query) -> Result<Watched, AskError>
         ensures answers { let told = ask self.now.view.schema self.now.view.state query.now in
@@ -146,11 +163,8 @@ impl View {
             (table_in self.now.view.schema self.now.view.state self.now.trees query.now.table)
             query.now w.spot) }
     {
-        match self.schema.find(query.table().as_str()) {
-            Some(place) => {
-                let table = &self.tables[place];
-                table.ask_watch(query)
-            }
+        match self.table_of(query) {
+            Some(table) => table.ask_watch(query),
             None => Err(AskError::UnknownTable),
         }
     }
@@ -159,11 +173,8 @@ impl View {
     pub(crate) fn ask(&self, query: &Query) -> Result<Answer, AskError>
         ensures { AnswersAsk (ask self.now.view.schema self.now.view.state query.now) result }
     {
-        match self.schema.find(query.table().as_str()) {
-            Some(place) => {
-                let table = &self.tables[place];
-                table.ask(query)
-            }
+        match self.table_of(query) {
+            Some(table) => table.ask(query),
             None => Err(AskError::UnknownTable),
         }
     }
@@ -172,11 +183,8 @@ impl View {
     pub(crate) fn walk<'a>(&'a self, query: &Query) -> Result<Walk<'a>, AskError>
         ensures { WalksAsk (ask self.now.view.schema self.now.view.state query.now) result }
     {
-        match self.schema.find(query.table().as_str()) {
-            Some(place) => {
-                let table = &self.tables[place];
-                table.walk(query)
-            }
+        match self.table_of(query) {
+            Some(table) => table.walk(query),
             None => Err(AskError::UnknownTable),
         }
     }
@@ -187,11 +195,10 @@ impl View {
         ensures { question_cell self.now.view.schema self.now.view.state self.now.trees query.now
             ≡ Some (arc_value result.now) }
     {
-        let Some(place) = self.schema.find(query.table().as_str()) else {
-            unreachable!();
-        };
-        let table = &self.tables[place];
-        table.cell_at(spot)
+        match self.table_of(query) {
+            Some(table) => table.cell_at(spot),
+            None => unreachable!(),
+        }
     }
 }
 

@@ -7,42 +7,22 @@ use Rattle.mdb_datum.specs.Bytes.{Bytes}
 use Rattle.mdb_schema.specs.Guarded.{IsUnchanged}
 use Rattle.mdb_schema.specs.History.{History}
 use Rattle.mdb_schema.specs.Schema.{DbSchema}
-use Rattle.mdb_schema.specs.Tests.{◌>>=◌, needed}
 use Rattle.mdb_schema.specs.Watchable.{IsTouched}
 use Rattle.client_script.specs.Client as plain
-use Rattle.client_script.specs.Client.{Judged, no_write_open, watch_named}
-use Rattle.client_script.specs.Watching.{check_judged, told_number, watch_called}
+use Rattle.client_script.specs.Watching.{check_judged, told_number}
+use Rattle.client_script.specs.declared.rule.Rule.{Rule}
+use Rattle.client_script.specs.RuleName.{rule_name}
 use Rattle.client_script.specs.declared.command.Command.TheVariants as command
 use Rattle.client_script.specs.declared.command.WatchesCommand.TheVariants as watches_line
 use Rattle.run_check.specs.TextLines.{number_behind}
 use Rattle.run_check.specs.declared.client.Client.{Client}
-use Rattle.run_check.specs.declared.rule.Rule.{Rule}
 use Rattle.run_check.specs.declared.session.Sessions.{Sessions}
 use Rattle.run_check.specs.inner.ClientView.{known}
 use Rattle.run_check.specs.inner.Decided.{IsDecided}
-use Rattle.run_check.specs.inner.RuleName.{rule_name}
 use Rattle.run_check.specs.inner.SessionView.{IsDue, IsKnown, TellsMade}
 use Rattle.run_check.specs.inner.StoreView.{Begun}
 use Rattle.run_check.proofs.DecidedNumbers.{check_refused, check_undecided, fired_decided, its_number, quiet_decided}
 use Rattle.run_check.proofs.NumbersTold.{IsNoneSaid, IsNumberSaid, IsSaid, none_said, number_said, said_known, with_text}
-
--- ---- how a check is judged
-
-module _ (v : plain.Client) (name : Bytes) where
-  then_called : Judged (Unit {0}) → Judged plain.Watch
-  then_called j = j >>= (λ free. watch_called name v)
-
-  pub judged_open : (rule : Bytes) → Err rule ≡ no_write_open v.transaction → check_judged v name ≡ Err rule
-  unfolding then_called
-  judged_open rule is = sym (ap then_called is)
-
-  pub judged_unknown : (u : Unit {0}) → Ok u ≡ no_write_open v.transaction → watch_named name v.watching.watches ≡ None → check_judged v name ≡ Err (codes "unknown-name")
-  unfolding then_called
-  judged_unknown u free none = sym (ap then_called free) ∙ ap (needed (codes "unknown-name")) none
-
-  pub judged_found : (u : Unit {0}) (w : plain.Watch) → Ok u ≡ no_write_open v.transaction → watch_named name v.watching.watches ≡ Some w → check_judged v name ≡ Ok w
-  unfolding then_called
-  judged_found u w free named = sym (ap then_called free) ∙ ap (needed (codes "unknown-name")) named
 
 -- ---- what is told
 

@@ -57,28 +57,31 @@ ends_number [] [] = tt
 ends_number [] (t ∷ texts) = refl
 ends_number (c ∷ changed) texts = refl
 
+pub commit_read : (r : Reply) → ((n : ℕ) (changed : List Changed) (texts : List Bytes) → r ≡ committed n changed texts → n < 2 ^ 64) → number_behind (codes "commit @") (reply_text r) ≡ commit_of r
+commit_read (committed n changed texts) small = number_after (codes "commit @") (changed_lines changed ++ did_lines texts) n (small n changed texts refl) (ends_number changed texts)
+commit_read (read_at n) small = refl
+commit_read (write_at n) small = refl
+commit_read ended small = refl
+commit_read aborted small = refl
+commit_read inserted small = refl
+commit_read replaced small = refl
+commit_read deleted small = refl
+commit_read (wiped k) small = refl
+commit_read deferred small = refl
+commit_read (answered (One None)) small = refl
+commit_read (answered (One (Some row))) small = refl
+commit_read (answered (Many rows)) small = refl
+commit_read (snapshot_at n) small = refl
+commit_read (snapshot_within n) small = refl
+commit_read (quiet_at n) small = refl
+commit_read (fired_at n) small = refl
+commit_read (sized k) small = refl
+commit_read (woken_by name n) small = refl
+commit_read (stopped_at n) small = refl
+commit_read (refused rule) small = refl
+
 commit_number : (r : Reply) → IsSmall r → number_behind (codes "commit @") (reply_text r) ≡ commit_of r
-commit_number (committed n changed texts) small = number_after (codes "commit @") (changed_lines changed ++ did_lines texts) n small (ends_number changed texts)
-commit_number (read_at n) small = refl
-commit_number (write_at n) small = refl
-commit_number ended small = refl
-commit_number aborted small = refl
-commit_number inserted small = refl
-commit_number replaced small = refl
-commit_number deleted small = refl
-commit_number (wiped k) small = refl
-commit_number deferred small = refl
-commit_number (answered (One None)) small = refl
-commit_number (answered (One (Some row))) small = refl
-commit_number (answered (Many rows)) small = refl
-commit_number (snapshot_at n) small = refl
-commit_number (snapshot_within n) small = refl
-commit_number (quiet_at n) small = refl
-commit_number (fired_at n) small = refl
-commit_number (sized k) small = refl
-commit_number (woken_by name n) small = refl
-commit_number (stopped_at n) small = refl
-commit_number (refused rule) small = refl
+commit_number r small = commit_read r (λ n changed texts is. subst IsSmall is small)
 
 -- small replies have few rows
 few_rows : (r : Reply) → IsSmall r → HasFewRows r

@@ -39,9 +39,9 @@ mod IndexesShared
 mod IndexGrows
 mod IndexLooks
 mod IndexWrites
+mod JudgedCalls
 mod KeyRanges
 mod KeysChanged
-mod KeysTaken
 mod KeysWritten
 mod KeyTests
 mod KeyWrites
@@ -90,7 +90,6 @@ mod ReplyForms
 mod ReplyLines
 mod Rising
 mod RisingPairs
-mod RuleWords
 mod SameReplies
 mod SeenRows
 mod SeenSame

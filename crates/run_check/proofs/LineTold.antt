@@ -12,14 +12,14 @@ use Rattle.client_script.specs.Client as plain
 use Rattle.client_script.specs.Reply.{Reply, reply_text}
 use Rattle.client_script.specs.Turn.{Turn, outcome}
 use Rattle.client_script.specs.declared.command.Command.{Command}
+use Rattle.client_script.specs.declared.rule.Rule.{Rule}
+use Rattle.client_script.specs.RuleName.{rule_name}
 use Rattle.run_check.specs.declared.client.Client.{Client}
-use Rattle.run_check.specs.declared.rule.Rule.{Rule}
 use Rattle.run_check.specs.declared.session.Refused.{Refused}
 use Rattle.run_check.specs.declared.session.Refused.TheVariants as refusals
 use Rattle.run_check.specs.declared.session.Sessions.{Sessions}
 use Rattle.run_check.specs.inner.ClientView.{known}
 use Rattle.run_check.specs.inner.Decided.{IsDecided}
-use Rattle.run_check.specs.inner.RuleName.{rule_name}
 use Rattle.run_check.specs.inner.SessionView.{AnswersTold, IsDue, IsKnown, TellsLine, TellsMade, TellsTurn, TurnTold}
 use Rattle.run_check.specs.inner.StoreView.{Begun}
 use Rattle.run_check.proofs.DecidedTurns.{refused_decided}

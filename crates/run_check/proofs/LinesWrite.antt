@@ -5,18 +5,20 @@ use Rattle.mdb_datum.specs.Bytes.{Bytes}
 use Rattle.mdb_datum.specs.Row.{Fields}
 use Rattle.mdb_encode.specs.KeyRefusal.{wrong_kind, out_of_range, bad_uuid, too_many, too_long}
 use Rattle.mdb_schema.specs.History.{History}
-use Rattle.mdb_schema.specs.Refusals.{write_error}
+use Rattle.mdb_schema.specs.ErrorsTold.{write_error}
 use Rattle.mdb_schema.specs.Schema.{DbSchema, TableSchema, table_place}
 use Rattle.mdb_schema.specs.State.{State, Table, table_at}
 use Rattle.mdb_schema.specs.Tests.{◌>>=◌}
 use Rattle.mdb_schema.specs.Write.{Stepped, Write, WriteRefusal, bad_key, key_taken, missing, no_id, not_found, put, remove, table_of, unknown_table}
 use Rattle.mdb_schema.specs.declared.write_error.WriteError.{WriteError}
 use Rattle.mdb_schema.proofs.Tables.{table_at-some}
+use Rattle.mdb_schema.proofs.KnownTables.{IsOther, other_rule}
 use Rattle.client_script.specs.Reply.{Reply, deleted, inserted, replaced, reply_text}
 use Rattle.client_script.specs.Turn.{indexes_of, insert_reply, stepped}
+use Rattle.client_script.proofs.RuleNames.{rule_same}
 use Rattle.client_script.specs.declared.command.WriteCommand.TheVariants as write_lines
 use Rattle.run_check.specs.declared.client.Writing.{Writing}
-use Rattle.run_check.specs.declared.rule.Rule.TheVariants as rules
+use Rattle.client_script.specs.declared.rule.Rule.TheVariants as rules
 use Rattle.run_check.specs.declared.session.Refused.{Refused}
 use Rattle.run_check.specs.declared.session.Refused.TheVariants as refusals
 use Rattle.run_check.specs.declared.session.Sessions.{Sessions}
@@ -25,7 +27,6 @@ use Rattle.run_check.specs.inner.ClientView.{changed_of}
 use Rattle.run_check.specs.inner.StoreView.{Begun, StandsFor}
 use Rattle.run_check.specs.inner.WritingView.{AnswersStep, HasMore, IsWriting, TellsNone, TellsRow, TellsWrite, Told, refused_write, state_now, told_step, told_write}
 use Rattle.run_check.proofs.OwnWrites.{rows_there}
-use Rattle.run_check.proofs.RuleWords.{IsOther, other_rule, rule_same}
 
 -- ---- what was written
 

@@ -1,5 +1,5 @@
 -- A text that passes the four tests is legal.
-use Rattle.std.proofs.Common.{arith, ◌≡◌, refl, ap, ap₂, subst, sym, ◌∙◌, ℕ, ◌+◌, ◌^◌, ◌<◌, ◌≤◌, List, [], ◌∷◌, ◌++◌, length, map, Option, Some, None, Ok, codes, IsPermutation, append_assoc}
+use Rattle.std.proofs.Common.{arith, ◌≡◌, refl, ap, ap₂, subst, sym, ◌∙◌, ℕ, ◌+◌, ◌^◌, ◌<◌, ◌≤◌, List, [], ◌∷◌, ◌++◌, length, map, Option, Ok, codes, IsPermutation, append_assoc}
 use Rattle.std.specs.Bool.{⊤}
 use Rattle.std.specs.List.{enumerate_from}
 use Rattle.std.proofs.lemmas.List.{map-append}
@@ -7,17 +7,16 @@ use Rattle.mdb_datum.specs.Bytes.{Bytes}
 use Rattle.mdb_schema.proofs.Membership.{Contains-first}
 use Rattle.mdb_schema.specs.History.{History}
 use Rattle.mdb_schema.specs.Schema.{DbSchema}
-use Rattle.mdb_schema.specs.declared.answer.Answer.TheVariants.{One, Many}
 use Rattle.client_script.specs.Client.{Client, at_start}
 use Rattle.client_script.specs.Legal.{Legal, all_printed, callers, number_printed, printed}
-use Rattle.client_script.specs.Reply.{Reply, read_at, write_at, ended, committed, aborted, inserted, replaced, deleted, wiped, deferred, answered, snapshot_at, snapshot_within, quiet_at, fired_at, sized, woken_by, stopped_at, refused, changed_lines, did_lines, heading, lines_text, output_text, reply_text}
+use Rattle.client_script.specs.Reply.{Reply, read_at, write_at, ended, committed, aborted, inserted, replaced, deleted, wiped, deferred, answered, snapshot_at, snapshot_within, quiet_at, fired_at, sized, woken_by, stopped_at, refused, heading, lines_text, output_text, reply_text}
 use Rattle.client_script.specs.Session.{Runs, Sessions}
 use Rattle.client_script.specs.declared.line.Line.{Line}
 use Rattle.run_check.specs.Commits.{Committed, Working, all_commits, commit_in, commits_of, no_work, working_after}
 use Rattle.run_check.specs.FirstBad.{AreTold, Found, found_in}
 use Rattle.run_check.specs.Shape.{Printed}
 use Rattle.run_check.specs.TextLines.{number_behind}
-use Rattle.run_check.proofs.CommitsRead.{commit_of, ends_number}
+use Rattle.run_check.proofs.CommitsRead.{commit_of, commit_read}
 use Rattle.run_check.proofs.FoundTells.{IsFoundBy, found_callers, found_tells}
 use Rattle.run_check.proofs.Outcomes.{IfOk}
 use Rattle.run_check.proofs.RepliesRead.{AllPrinted, ArePrinted}
@@ -25,7 +24,6 @@ use Rattle.run_check.proofs.SameReplies.{PrintsSmall}
 use Rattle.run_check.proofs.TextHistory.{prints_small}
 use Rattle.run_check.proofs.TextsBack.{AreAsMany, line_with, lines_with, output_with, shape_back}
 use Rattle.run_check.proofs.ShapeCounts.{found_few}
-use Rattle.run_check.proofs.WrittenNumbers.{number_after}
 
 -- ---- the replies that are told
 
@@ -84,27 +82,7 @@ output_same schema H k (w ∷ ws) (s ∷ ss) (rs ∷ rss) (ps ∷ pss) (session,
 -- ---- and so are the commits
 
 commit_told_as : (r : Reply) → PrintsSmall r → number_behind (codes "commit @") (reply_text r) ≡ commit_of r
-commit_told_as (committed n changed texts) small = number_after (codes "commit @") (changed_lines changed ++ did_lines texts) n (small n (Contains-first n [])) (ends_number changed texts)
-commit_told_as (read_at n) small = refl
-commit_told_as (write_at n) small = refl
-commit_told_as ended small = refl
-commit_told_as aborted small = refl
-commit_told_as inserted small = refl
-commit_told_as replaced small = refl
-commit_told_as deleted small = refl
-commit_told_as (wiped k) small = refl
-commit_told_as deferred small = refl
-commit_told_as (answered (One None)) small = refl
-commit_told_as (answered (One (Some row))) small = refl
-commit_told_as (answered (Many rows)) small = refl
-commit_told_as (snapshot_at n) small = refl
-commit_told_as (snapshot_within n) small = refl
-commit_told_as (quiet_at n) small = refl
-commit_told_as (fired_at n) small = refl
-commit_told_as (sized k) small = refl
-commit_told_as (woken_by name n) small = refl
-commit_told_as (stopped_at n) small = refl
-commit_told_as (refused rule) small = refl
+commit_told_as r small = commit_read r (λ n changed texts is. subst PrintsSmall is small n (Contains-first n []))
 
 -- the number of each with its client
 abbrev pairs : List Committed → List (ℕ × ℕ)

@@ -18,12 +18,13 @@ use Rattle.mdb_schema.proofs.Membership.{Contains-slice_get}
 use Rattle.mdb_schema.proofs.PassedTests.{goes_on}
 use Rattle.mdb_schema.specs.declared.write_error.WriteError.{WriteError}
 use Rattle.mdb_schema.specs.declared.write_error.WriteError.TheVariants.{KeyTaken}
+use Rattle.mdb_schema.specs.ErrorsTold.{TellsRefusal}
+use Rattle.mdb_schema.proofs.IndexPlaces.{length_placed, placed_at}
 use Rattle.run_check.specs.declared.keys.RowKeys.{RowKeys}
 use Rattle.run_check.specs.declared.sight.Sight.{Sight}
 use Rattle.run_check.specs.inner.EditView.{AreOldKeys, AreSeen, IsAccepted, IsFirst, is_taken, is_taken_at, old_lists, seen_of}
 use Rattle.run_check.specs.inner.IndexView.{KeyVersions}
-use Rattle.run_check.specs.inner.KeyView.{AreKeysOf, TellsRefusal, row_tests}
-use Rattle.run_check.proofs.KeyTests.{length_placed, placed_at}
+use Rattle.run_check.specs.inner.KeyView.{AreKeysOf, row_tests}
 use Rattle.run_check.proofs.SeenRows.{as_many, at_map, keys_there, old_keys_there, seen_entries}
 
 -- ---- a list of tests

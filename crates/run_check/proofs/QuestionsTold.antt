@@ -4,13 +4,11 @@ use Rattle.std.specs.Prelude.{option_and_then, option_map, slice_get}
 use Rattle.std.specs.Result.{IsErrAnd}
 use Rattle.mdb_datum.specs.Bytes.{Bytes}
 use Rattle.mdb_datum.specs.Row.{Fields}
-use Rattle.mdb_encode.specs.ArgRefusal.{arg_count, arg_kind, arg_out_of_range, arg_bad_uuid, arg_too_long, no_prefix_form}
-use Rattle.mdb_schema.specs.Answer as asked
 use Rattle.mdb_schema.specs.Answer.{AskRefusal, Asked, Lookup, ask, ask_rows, answer, is_exact, lookup_of, unknown_table}
 use Rattle.mdb_schema.specs.Entries.{entries}
 use Rattle.mdb_schema.specs.History.{History, state_at}
 use Rattle.mdb_schema.specs.Query.{Query}
-use Rattle.mdb_schema.specs.Refusals.{ask_error}
+use Rattle.mdb_schema.specs.ErrorsTold.{ask_error}
 use Rattle.mdb_schema.specs.Schema.{DbSchema, TableSchema, table_place}
 use Rattle.mdb_schema.specs.State.{IsLawfulState, State, Table}
 use Rattle.mdb_schema.specs.Tests.{◌>>=◌, needed}
@@ -22,19 +20,19 @@ use Rattle.client_script.specs.Client as plain
 use Rattle.client_script.specs.Reply.{answered, answer_text}
 use Rattle.client_script.specs.Turn as turn
 use Rattle.client_script.specs.Turn.{Turn, question_turn}
+use Rattle.client_script.specs.RuleName.{rule_name}
+use Rattle.client_script.proofs.RuleNames.{question_same, rule_of_question}
 use Rattle.run_check.specs.declared.lookup.Lookup as code
-use Rattle.run_check.specs.declared.rule.Rule.TheVariants as rules
+use Rattle.client_script.specs.declared.rule.Rule.TheVariants as rules
 use Rattle.run_check.specs.declared.session.Refused.{Refused}
 use Rattle.run_check.specs.declared.session.Refused.TheVariants as refusals
 use Rattle.run_check.specs.declared.sight.Sight.{Sight}
-use Rattle.run_check.specs.inner.AskedView.{question_refused}
+use Rattle.run_check.specs.inner.AskedView.{question_refused, refused_by_rule}
 use Rattle.run_check.specs.inner.ClientView.{sight_known}
 use Rattle.run_check.specs.inner.LookupView.{IsLookup, TellsNoLookup, looked_up}
-use Rattle.run_check.specs.inner.RuleName.{rule_name}
 use Rattle.run_check.specs.inner.SessionView.{TellsReply, TellsTurn}
 use Rattle.run_check.specs.inner.StoreView.{Begun, first_writes, state_seen}
 use Rattle.run_check.proofs.GuardedAnswers.{rows_at}
-use Rattle.run_check.proofs.RuleWords.{question_same}
 
 -- ---- a question that is refused
 
@@ -66,16 +64,7 @@ module _ (schema : DbSchema) (s : State) (lawful : IsLawfulState schema s) (q : 
 
 -- a refusal is told by its rule
 pub refused_by : (why : AskRefusal) → question_refused (ask_error why) ≡ refusals.By (rules.Question (ask_error why))
-refused_by asked.unknown_table = refl
-refused_by asked.no_prefix_name = refl
-refused_by asked.unknown_index = refl
-refused_by asked.not_unique = refl
-refused_by (asked.bad_argument arg_count) = refl
-refused_by (asked.bad_argument arg_kind) = refl
-refused_by (asked.bad_argument arg_out_of_range) = refl
-refused_by (asked.bad_argument arg_bad_uuid) = refl
-refused_by (asked.bad_argument arg_too_long) = refl
-refused_by (asked.bad_argument no_prefix_form) = refl
+refused_by why = ap refused_by_rule (rule_of_question why)
 
 -- ---- a question of what is seen
 

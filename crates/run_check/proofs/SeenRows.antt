@@ -22,11 +22,12 @@ use Rattle.mdb_schema.proofs.RowsById.{row_at-some}
 use Rattle.mdb_schema.proofs.WriteTests.{each_takes-from}
 use Rattle.mdb_schema.specs.declared.write_error.WriteError.{WriteError}
 use Rattle.mdb_schema.specs.declared.write_error.WriteError.TheVariants.{Memory}
+use Rattle.mdb_schema.specs.ErrorsTold.{TellsRefusal}
 use Rattle.run_check.specs.declared.keys.RowKeys.{RowKeys}
 use Rattle.run_check.specs.declared.sight.Sight.{Sight}
 use Rattle.run_check.specs.inner.EditView.{AnswersOldKeys, AreOldKeys, AreSeen, is_taken, is_taken_at, keys_in, old_lists, seen_of}
 use Rattle.run_check.specs.inner.IndexView.{KeyVersions}
-use Rattle.run_check.specs.inner.KeyView.{AreKeysOf, TellsRefusal, row_tests}
+use Rattle.run_check.specs.inner.KeyView.{AreKeysOf, row_tests}
 
 -- what stands at a place of a list of maps
 pub at_map : {A B : Type 0} (f : A → B) (xs : List A) (at : ℕ) (x : A) (d : B) → slice_get xs at ≡ Some x → unwrap_or (slice_get (map f xs) at) d ≡ f x

@@ -10,17 +10,17 @@ use Rattle.mdb_schema.specs.Tests.{◌>>=◌}
 use Rattle.client_script.specs.Client as plain
 use Rattle.client_script.specs.Client.{Judged}
 use Rattle.client_script.specs.Turn.{Turn, question_turn}
+use Rattle.client_script.specs.declared.rule.Rule.{Rule}
+use Rattle.client_script.specs.RuleName.{rule_name}
 use Rattle.run_check.specs.declared.client.Client.{Client}
 use Rattle.run_check.specs.declared.client.Open.{Open}
 use Rattle.run_check.specs.declared.client.Open.TheVariants as opens
-use Rattle.run_check.specs.declared.rule.Rule.{Rule}
 use Rattle.run_check.specs.declared.session.Refused.{Refused}
 use Rattle.run_check.specs.declared.session.Refused.TheVariants as refusals
 use Rattle.run_check.specs.declared.session.Sessions.{Sessions}
 use Rattle.run_check.specs.declared.sight.Sight.{Sight}
 use Rattle.run_check.specs.declared.store.Store.{Store}
 use Rattle.run_check.specs.inner.ClientView.{IsOpenSight, sight_known}
-use Rattle.run_check.specs.inner.RuleName.{rule_name}
 use Rattle.run_check.specs.inner.SessionView.{AreKnown, IsSound, TellsTurn}
 use Rattle.run_check.specs.inner.StoreView.{Begun, IsSightOf, StandsFor}
 

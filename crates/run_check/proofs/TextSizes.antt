@@ -5,9 +5,10 @@ use Rattle.mdb_datum.specs.Bytes.{Bytes}
 use Rattle.mdb_datum.specs.Row.{Fields}
 use Rattle.mdb_datum.specs.Written.{row_text}
 use Rattle.mdb_schema.specs.declared.answer.Answer.TheVariants.{Many}
-use Rattle.client_script.specs.Legal.{all_printed, number_printed, printed}
-use Rattle.client_script.specs.Reply.{Reply, read_at, write_at, ended, committed, aborted, inserted, replaced, deleted, wiped, deferred, answered, snapshot_at, snapshot_within, quiet_at, fired_at, sized, woken_by, stopped_at, refused, heading, line_text, lines_text, output_text, reply_text, row_lines}
+use Rattle.client_script.specs.Legal.{all_printed, printed}
+use Rattle.client_script.specs.Reply.{Reply, answered, heading, line_text, lines_text, output_text, reply_text, row_lines}
 use Rattle.client_script.specs.declared.line.Line.{Line}
+use Rattle.client_script.proofs.PrintedCounts.{printed_few}
 use Rattle.run_check.proofs.FewWritten.{replies_in}
 use Rattle.run_check.proofs.OutputCut.{AreReplies, HaveReplies}
 
@@ -52,36 +53,6 @@ output_short n k (w ∷ ws) (s ∷ ss) (rs ∷ rss) named clean le =
     let a = first.1 in
     let b = rest.1 in
     ((first.0, rest.0), omega (arith, whole, body, a, b))
-
--- each prints one commit at most
-at_most_one : (r : Reply) → length (number_printed r) ≤ 1
-at_most_one (committed n changed texts) = omega arith
-at_most_one (read_at n) = omega arith
-at_most_one (write_at n) = omega arith
-at_most_one ended = omega arith
-at_most_one aborted = omega arith
-at_most_one inserted = omega arith
-at_most_one replaced = omega arith
-at_most_one deleted = omega arith
-at_most_one (wiped k) = omega arith
-at_most_one deferred = omega arith
-at_most_one (answered a) = omega arith
-at_most_one (snapshot_at n) = omega arith
-at_most_one (snapshot_within n) = omega arith
-at_most_one (quiet_at n) = omega arith
-at_most_one (fired_at n) = omega arith
-at_most_one (sized k) = omega arith
-at_most_one (woken_by name n) = omega arith
-at_most_one (stopped_at n) = omega arith
-at_most_one (refused rule) = omega arith
-
-printed_few : (rs : List Reply) → length (printed rs) ≤ length rs
-printed_few [] = omega arith
-printed_few (r ∷ rs) =
-    let both = length-append (number_printed r) (printed rs) in
-    let one = at_most_one r in
-    let rest = printed_few rs in
-    omega (arith, both, one, rest)
 
 pub all_printed_few : (k : ℕ) (rss : List (List Reply)) → length (all_printed k rss) ≤ replies_in rss
 all_printed_few k [] = omega arith

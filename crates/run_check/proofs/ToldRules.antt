@@ -1,5 +1,5 @@
 -- The rules that a line breaks: those that the order of the lines decides, and others.
-use Rattle.std.proofs.Common.{◌≡◌, refl, ap, subst, sym, ◌∙◌, List, ◌++◌, Bool, true, false, ◌||◌, Option, Some, None, Ok, Err, codes}
+use Rattle.std.proofs.Common.{◌≡◌, refl, ap, subst, sym, ◌∙◌, ℕ, List, ◌++◌, Bool, true, false, ◌||◌, Option, Some, None, Ok, Err, codes}
 use Rattle.std.specs.Bool.{⊤}
 use Rattle.std.specs.Str.{bytes_eq}
 use Rattle.std.proofs.lemmas.Bool.{or_left, or_right}
@@ -7,12 +7,12 @@ use Rattle.mdb_datum.specs.Bytes.{Bytes}
 use Rattle.mdb_encode.specs.ArgRefusal.{ArgRefusal, arg_count, arg_kind, arg_out_of_range, arg_bad_uuid, arg_too_long, no_prefix_form}
 use Rattle.mdb_encode.specs.KeyRefusal.{KeyRefusal, wrong_kind, out_of_range, bad_uuid, too_many, too_long}
 use Rattle.mdb_schema.specs.Answer as asks
-use Rattle.mdb_schema.specs.Answer.{Asked, ask}
+use Rattle.mdb_schema.specs.Answer.{Asked}
 use Rattle.mdb_schema.specs.Schema.{IndexSchema}
 use Rattle.mdb_schema.specs.Tests.{◌>>=◌, needed, passed}
 use Rattle.mdb_schema.specs.Write as writes
-use Rattle.mdb_schema.specs.Write.{Write, Stepped, put, remove, step}
-use Rattle.client_script.specs.Client.{Client, Judged, Transaction, closed, no_write_open, none_open, read_open, reading, some_open, write_open, writing}
+use Rattle.mdb_schema.specs.Write.{Stepped}
+use Rattle.client_script.specs.Client.{Client, Judged, Transaction, Writing, closed, no_write_open, none_open, read_open, reading, some_open, write_open, writing}
 use Rattle.client_script.specs.RefusedWord.{argument_word, index_part, key_word, question_word, write_word}
 use Rattle.client_script.specs.Reply.{Reply, refused}
 use Rattle.client_script.specs.Turn.{Turn, asked, outcome, stepped}
@@ -47,60 +47,33 @@ Matches None (Err rule) = ⊥
 Matches (Some need) (Ok a) = ⊥
 Matches (Some need) (Err rule) = need ≡ rule
 
+-- what agrees is one of three pairs
+by_mode : (P : Mode → Transaction → Type 0) → P Idle closed → ((n : ℕ) → P Reads (reading n)) → ((t : Writing) → P Writes (writing t))
+    → (mode : Mode) (t : Transaction) → Agrees mode t → P mode t
+by_mode P idle reads writes Idle closed same = idle
+by_mode P idle reads writes Idle (reading n) same = absurd same
+by_mode P idle reads writes Idle (writing t) same = absurd same
+by_mode P idle reads writes Reads closed same = absurd same
+by_mode P idle reads writes Reads (reading n) same = reads n
+by_mode P idle reads writes Reads (writing t) same = absurd same
+by_mode P idle reads writes Writes closed same = absurd same
+by_mode P idle reads writes Writes (reading n) same = absurd same
+by_mode P idle reads writes Writes (writing t) same = writes t
+
 pub nothing_matches : (mode : Mode) (t : Transaction) → Agrees mode t → Matches (needs_nothing mode) (none_open t)
-nothing_matches Idle closed same = tt
-nothing_matches Idle (reading n) same = absurd same
-nothing_matches Idle (writing t) same = absurd same
-nothing_matches Reads closed same = absurd same
-nothing_matches Reads (reading n) same = refl
-nothing_matches Reads (writing t) same = absurd same
-nothing_matches Writes closed same = absurd same
-nothing_matches Writes (reading n) same = absurd same
-nothing_matches Writes (writing t) same = refl
+nothing_matches = by_mode (λ m t. Matches (needs_nothing m) (none_open t)) tt (λ n. refl) (λ t. refl)
 
 pub any_matches : (mode : Mode) (t : Transaction) → Agrees mode t → Matches (needs_any mode) (some_open t)
-any_matches Idle closed same = refl
-any_matches Idle (reading n) same = absurd same
-any_matches Idle (writing t) same = absurd same
-any_matches Reads closed same = absurd same
-any_matches Reads (reading n) same = tt
-any_matches Reads (writing t) same = absurd same
-any_matches Writes closed same = absurd same
-any_matches Writes (reading n) same = absurd same
-any_matches Writes (writing t) same = tt
+any_matches = by_mode (λ m t. Matches (needs_any m) (some_open t)) refl (λ n. tt) (λ t. tt)
 
 pub reads_match : (mode : Mode) (t : Transaction) → Agrees mode t → Matches (needs_reads mode) (read_open t)
-reads_match Idle closed same = refl
-reads_match Idle (reading n) same = absurd same
-reads_match Idle (writing t) same = absurd same
-reads_match Reads closed same = absurd same
-reads_match Reads (reading n) same = tt
-reads_match Reads (writing t) same = absurd same
-reads_match Writes closed same = absurd same
-reads_match Writes (reading n) same = absurd same
-reads_match Writes (writing t) same = refl
+reads_match = by_mode (λ m t. Matches (needs_reads m) (read_open t)) refl (λ n. tt) (λ t. refl)
 
 pub writes_match : (mode : Mode) (t : Transaction) → Agrees mode t → Matches (needs_writes mode) (write_open t)
-writes_match Idle closed same = refl
-writes_match Idle (reading n) same = absurd same
-writes_match Idle (writing t) same = absurd same
-writes_match Reads closed same = absurd same
-writes_match Reads (reading n) same = refl
-writes_match Reads (writing t) same = absurd same
-writes_match Writes closed same = absurd same
-writes_match Writes (reading n) same = absurd same
-writes_match Writes (writing t) same = tt
+writes_match = by_mode (λ m t. Matches (needs_writes m) (write_open t)) refl (λ n. refl) (λ t. tt)
 
 pub no_writes_match : (mode : Mode) (t : Transaction) → Agrees mode t → Matches (needs_no_writes mode) (no_write_open t)
-no_writes_match Idle closed same = tt
-no_writes_match Idle (reading n) same = absurd same
-no_writes_match Idle (writing t) same = absurd same
-no_writes_match Reads closed same = absurd same
-no_writes_match Reads (reading n) same = tt
-no_writes_match Reads (writing t) same = absurd same
-no_writes_match Writes closed same = absurd same
-no_writes_match Writes (reading n) same = absurd same
-no_writes_match Writes (writing t) same = refl
+no_writes_match = by_mode (λ m t. Matches (needs_no_writes m) (no_write_open t)) tt (λ n. tt) (λ t. refl)
 
 -- ---- rules that the order doesn't decide
 

@@ -11,15 +11,15 @@ use Rattle.client_script.specs.Client.{write_open}
 use Rattle.client_script.specs.Reply.{Reply, reply_text}
 use Rattle.client_script.specs.Session.{IsCommit}
 use Rattle.client_script.specs.Turn.{Turn, after_commit, commit_reply, outcome, transaction_turn}
+use Rattle.client_script.specs.declared.rule.Rule.{Rule}
+use Rattle.client_script.specs.RuleName.{rule_name}
 use Rattle.client_script.specs.declared.command.TransactionCommand.TheVariants as transaction_line
 use Rattle.run_check.specs.declared.client.Client.{Client}
-use Rattle.run_check.specs.declared.rule.Rule.{Rule}
 use Rattle.run_check.specs.declared.session.Refused.{Refused}
 use Rattle.run_check.specs.declared.session.Refused.TheVariants as refusals
 use Rattle.run_check.specs.declared.session.Sessions.{Sessions}
 use Rattle.run_check.specs.inner.ClientView.{known}
 use Rattle.run_check.specs.inner.Decided.{IsDecided}
-use Rattle.run_check.specs.inner.RuleName.{rule_name}
 use Rattle.run_check.specs.inner.SessionView.{IsDue, IsKnown, TellsLine, TellsText, TellsTurn}
 use Rattle.run_check.specs.inner.StoreView.{Begun}
 use Rattle.run_check.proofs.CommitsDecided.{commit_decided}

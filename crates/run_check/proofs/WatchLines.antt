@@ -6,15 +6,12 @@ use Rattle.std.specs.Result.{IsErrAnd}
 use Rattle.mdb_datum.specs.Bytes.{Bytes}
 use Rattle.mdb_schema.specs.History.{History}
 use Rattle.mdb_schema.specs.Schema.{DbSchema}
-use Rattle.mdb_schema.specs.Tests.{◌>>=◌, needed}
 use Rattle.client_script.specs.Client as plain
-use Rattle.client_script.specs.Client.{Judged, no_write_open, set_named, watch_named}
-use Rattle.client_script.specs.Turn.{set_called}
-use Rattle.client_script.specs.Watching.{limit_judged, limited, set_for, set_or_new, until_judged, wait_judged, watch_called}
+use Rattle.client_script.specs.Watching.{limited, set_for, set_or_new}
 use Rattle.client_script.specs.declared.command.Command.{Command}
+use Rattle.client_script.specs.declared.rule.Rule.{Rule}
+use Rattle.client_script.specs.RuleName.{rule_name}
 use Rattle.run_check.specs.declared.client.Client.{Client}
-use Rattle.run_check.specs.declared.rule.Rule.{Rule}
-use Rattle.run_check.specs.declared.rule.Rule.TheVariants as rules
 use Rattle.run_check.specs.declared.session.Refused.{Refused}
 use Rattle.run_check.specs.declared.session.Refused.TheVariants as refusals
 use Rattle.run_check.specs.declared.session.Sessions.{Sessions}
@@ -22,7 +19,6 @@ use Rattle.run_check.specs.declared.watching.Set.{Set}
 use Rattle.run_check.specs.inner.ClientView.{known, set_known, watch_known, watches_known}
 use Rattle.run_check.specs.inner.Decided.{IsDecided}
 use Rattle.run_check.specs.inner.NamedView.{place_in, value_named}
-use Rattle.run_check.specs.inner.RuleName.{rule_name}
 use Rattle.run_check.specs.inner.SessionView.{IsDoubleTold, IsKnown, IsMemberTold, IsNoSize, IsSound, TellsLine, TellsMade, TellsSize}
 use Rattle.run_check.specs.inner.StoreView.{Begun}
 use Rattle.run_check.specs.inner.WatchView.{member_count}
@@ -41,63 +37,6 @@ refused_line schema H client c text before s v rule (Err e) is told =
 pub breaks_line : (schema : DbSchema) (H : History) (txns : List Begun) (client : ℕ) (c : Command) (text : Bytes) (s : Sessions) (v : Client) (rule : Rule) (r : Result (Unit {0}) Refused) → IsKnown schema H txns s v → IsErrAnd r (λ e. e ≡ refusals.By rule) → IsDecided schema H client (known txns v) c text (codes "refused " ++ rule_name schema rule) (known txns v) → TellsLine schema H client c text (known txns v) s v r
 breaks_line schema H txns client c text s v rule r knows is decided =
     refused_line schema H client c text (known txns v) s v rule r is (record { txns = txns; decided = decided; keeps = λ e. knows })
-
-pub unknown_name : {A : Type 0} (schema : DbSchema) (j : Judged A) (rule : Rule) → rule ≡ rules.UnknownName → j ≡ Err (codes "unknown-name") → j ≡ Err (rule_name schema rule)
-unknown_name {A} schema j rule is broken =
-    let by : Rule → Judged A = λ r. Err (rule_name schema r) in
-    broken ∙ sym (ap by is)
-
--- ---- how lines are judged
-
-module _ (v : plain.Client) where
-  abbrev Waits : Bytes → Judged (Unit {0}) → Judged plain.WatchSet
-  Waits set j = j >>= (λ free. set_called set v)
-
-  pub wait_open : (set rule : Bytes) → Err rule ≡ no_write_open v.transaction → wait_judged v set ≡ Err rule
-  wait_open set rule is = sym (ap (Waits set) is)
-
-  pub wait_unknown : (set : Bytes) (u : Unit {0}) → Ok u ≡ no_write_open v.transaction → set_named set v.watching.sets ≡ None → wait_judged v set ≡ Err (codes "unknown-name")
-  wait_unknown set u free none = sym (ap (Waits set) free) ∙ ap (needed (codes "unknown-name")) none
-
-  pub wait_found : (set : Bytes) (u : Unit {0}) (s : plain.WatchSet) → Ok u ≡ no_write_open v.transaction → set_named set v.watching.sets ≡ Some s → wait_judged v set ≡ Ok s
-  wait_found set u s free named = sym (ap (Waits set) free) ∙ ap (needed (codes "unknown-name")) named
-
-  abbrev Until : Bytes → Judged plain.WatchSet → Judged (plain.WatchSet × plain.Watch)
-  Until until j = j >>= (λ s. watch_called until v >>= (λ w. Ok (s, w)))
-
-  pub until_breaks : (set until rule : Bytes) → wait_judged v set ≡ Err rule → until_judged v set until ≡ Err rule
-  until_breaks set until rule is = ap (Until until) is
-
-  abbrev With : plain.WatchSet → Option plain.Watch → Judged (plain.WatchSet × plain.Watch)
-  With s o = needed (codes "unknown-name") o >>= (λ w. Ok (s, w))
-
-  pub until_unknown : (set until : Bytes) (s : plain.WatchSet) → wait_judged v set ≡ Ok s → watch_named until v.watching.watches ≡ None → until_judged v set until ≡ Err (codes "unknown-name")
-  until_unknown set until s is none = ap (Until until) is ∙ ap (With s) none
-
-  pub until_found : (set until : Bytes) (s : plain.WatchSet) (w : plain.Watch) → wait_judged v set ≡ Ok s → watch_named until v.watching.watches ≡ Some w → until_judged v set until ≡ Ok (s, w)
-  until_found set until s w is named = ap (Until until) is ∙ ap (With s) named
-
-  pub called_unknown : (name : Bytes) → watch_named name v.watching.watches ≡ None → watch_called name v ≡ Err (codes "unknown-name")
-  called_unknown name none = ap (needed (codes "unknown-name")) none
-
-  pub called_found : (name : Bytes) (w : plain.Watch) → watch_named name v.watching.watches ≡ Some w → watch_called name v ≡ Ok w
-  called_found name w named = ap (needed (codes "unknown-name")) named
-
-  module _ (set : Bytes) (limit : ℕ) (name other : Bytes) where
-    abbrev Both : Judged plain.Watch → Judged plain.Watch
-    Both j = j >>= (λ w. watch_called other v >>= (λ o. Ok (limited set limit w o v)))
-
-    abbrev Second : plain.Watch → Judged plain.Watch → Judged plain.Watch
-    Second w j = j >>= (λ o. Ok (limited set limit w o v))
-
-    pub limit_unknown : (rule : Bytes) → watch_called name v ≡ Err rule → limit_judged v set limit name other ≡ Err rule
-    limit_unknown rule is = ap Both is
-
-    pub other_unknown : (w : plain.Watch) (rule : Bytes) → watch_called name v ≡ Ok w → watch_called other v ≡ Err rule → limit_judged v set limit name other ≡ Err rule
-    other_unknown w rule is none = ap Both is ∙ ap (Second w) none
-
-    pub limit_found : (w o : plain.Watch) → watch_called name v ≡ Ok w → watch_called other v ≡ Ok o → limit_judged v set limit name other ≡ Ok (limited set limit w o v)
-    limit_found w o is found = ap Both is ∙ ap (Second w) found
 
 -- ---- how many members a set has
 

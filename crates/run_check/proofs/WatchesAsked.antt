@@ -10,7 +10,7 @@ use Rattle.mdb_schema.specs.Answer.{AskRefusal, Asked, answer, ask, ask_rows, ba
 use Rattle.mdb_schema.specs.Entries.{entries}
 use Rattle.mdb_schema.specs.History.{History, after_writes, state_at}
 use Rattle.mdb_schema.specs.Query.{Query}
-use Rattle.mdb_schema.specs.Refusals.{ask_error}
+use Rattle.mdb_schema.specs.ErrorsTold.{ask_error}
 use Rattle.mdb_schema.specs.Schema.{DbSchema, TableSchema, table_place}
 use Rattle.mdb_schema.specs.State.{IsLawfulState, State, Table}
 use Rattle.mdb_schema.specs.Tests.{◌>>=◌, needed, passed}
@@ -22,14 +22,16 @@ use Rattle.mdb_schema.specs.declared.ask.Ask.TheVariants.{First, Last, Get, GetR
 use Rattle.mdb_schema.specs.declared.ask_error.AskError.{AskError}
 use Rattle.mdb_schema.proofs.LawfulStates.{state_at_lawful, writes_keep}
 use Rattle.client_script.specs.Client as plain
-use Rattle.client_script.specs.Client.{Judged, watch_named}
+use Rattle.client_script.specs.Client.{Judged}
 use Rattle.client_script.specs.RefusedWord.{question_word}
 use Rattle.client_script.specs.Reply.{answered}
 use Rattle.client_script.specs.Turn.{Turn, asked_watched, watch_turn, with_watch}
+use Rattle.client_script.specs.declared.rule.Rule.{Rule}
+use Rattle.client_script.specs.RuleName.{rule_name}
+use Rattle.client_script.proofs.RuleNames.{question_same}
 use Rattle.run_check.specs.declared.client.Client.{Client}
 use Rattle.run_check.specs.declared.lookup.Lookup as code
-use Rattle.run_check.specs.declared.rule.Rule.{Rule}
-use Rattle.run_check.specs.declared.rule.Rule.TheVariants as rules
+use Rattle.client_script.specs.declared.rule.Rule.TheVariants as rules
 use Rattle.run_check.specs.declared.session.Refused.{Refused}
 use Rattle.run_check.specs.declared.session.Refused.TheVariants as refusals
 use Rattle.run_check.specs.declared.session.Sessions.{Sessions}
@@ -43,13 +45,11 @@ use Rattle.run_check.specs.inner.AskedView.{question_refused}
 use Rattle.run_check.specs.inner.EditView.{seen_of}
 use Rattle.run_check.specs.inner.LookupView.{IsLookup, TellsNoLookup, looked_up}
 use Rattle.run_check.specs.inner.NamedView.{place_in}
-use Rattle.run_check.specs.inner.RuleName.{rule_name}
 use Rattle.run_check.specs.inner.SessionView.{IsKnown, IsSoundWatch, TurnTold}
 use Rattle.run_check.specs.inner.StoreView.{Begun, IsSightOf, StandsFor, first_writes, state_seen}
 use Rattle.run_check.proofs.GuardedAnswers.{rows_at}
 use Rattle.run_check.proofs.AnswerSeen.{answer_is, index_there}
 use Rattle.run_check.proofs.QuestionsTold.{ask_refused, refused_by}
-use Rattle.run_check.proofs.RuleWords.{question_same}
 use Rattle.run_check.proofs.WatchesKept.{IsOther, lookup_other, other_then, watch_there}
 
 -- ---- rules, in their order

@@ -25,9 +25,10 @@ use Rattle.mdb_schema.proofs.Membership.{Contains-slice_get}
 use Rattle.mdb_schema.proofs.Tables.{IsTableAt, rows_lawful, table_at-some}
 use Rattle.mdb_schema.proofs.WipeLaws.{listed_rows, listed_rows-within}
 use Rattle.client_script.specs.Reply.{wiped}
+use Rattle.client_script.proofs.RuleNames.{question_same}
 use Rattle.run_check.specs.declared.client.Writing.{Writing}
 use Rattle.run_check.specs.declared.lookup.Lookup as code
-use Rattle.run_check.specs.declared.rule.Rule.TheVariants as rules
+use Rattle.client_script.specs.declared.rule.Rule.TheVariants as rules
 use Rattle.run_check.specs.declared.session.Refused.{Refused}
 use Rattle.run_check.specs.declared.session.Refused.TheVariants as refusals
 use Rattle.run_check.specs.declared.session.Sessions.{Sessions}
@@ -46,7 +47,6 @@ use Rattle.run_check.proofs.OwnSteps.{has_none}
 use Rattle.run_check.proofs.OwnWipes.{has_writes}
 use Rattle.run_check.proofs.OwnWrites.{carried_sight, now_lawful, rows_there}
 use Rattle.run_check.proofs.QuestionsTold.{refused_by}
-use Rattle.run_check.proofs.RuleWords.{question_same}
 
 abbrev pub getting : Query → Query
 getting q = record q { ask = Get }

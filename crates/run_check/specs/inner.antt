@@ -16,7 +16,6 @@ pub mod KeyView
 pub mod LookupView
 pub mod NamedView
 pub mod PlacesOfNames
-pub mod RuleName
 pub mod SessionView
 pub mod SlotView
 pub mod StoreView

@@ -8,15 +8,15 @@ ghost use Rattle.std.specs.Result.{result_map_both};
 ghost use Rattle.mdb_schema.specs.Schema.{DbSchema};
 ghost use Rattle.client_script.specs.Client.{at_start, no_write_open, some_open, write_open};
 ghost use Rattle.client_script.specs.Turn.{snapshot_called};
+ghost use Rattle.client_script.specs.RuleName.{rule_name};
 ghost use Rattle.run_check.specs.declared.client.Open.TheVariants as opens;
 ghost use Rattle.run_check.specs.inner.ClientView.{IsOpenSight, changed_of, is_closed, known, sight_known};
-ghost use Rattle.run_check.specs.inner.RuleName.{rule_name};
 ghost use Rattle.run_check.specs.inner.StoreView.{Begun};
 
 use crate::names::Named;
-use crate::rule::Rule;
 use crate::sight::{Own, Sight};
 use crate::watching::Watching;
+use client_script::Rule;
 use mdb_datum::Text;
 use std::alloc::{AllocError, Global};
 use std::collections::BTreeSet;

@@ -10,8 +10,9 @@ ghost use Rattle.run_check.specs.inner.EditView.{AreReady, AreReplaced, AreSeen,
 ghost use Rattle.run_check.specs.inner.EditView.{IsFirst, IsIn, IsOut, IsReplaced, is_taken};
 ghost use Rattle.run_check.specs.inner.EditView.{is_taken_at, keys_in, old_lists, seen_of};
 ghost use Rattle.run_check.specs.inner.IndexView.{KeyVersions, MayWrite, pairs_seen};
-ghost use Rattle.run_check.specs.inner.KeyView.{TellsRefusal, bytes_of};
+ghost use Rattle.run_check.specs.inner.KeyView.{bytes_of};
 ghost use Rattle.mdb_schema.specs.Edits.{stale_keys};
+ghost use Rattle.mdb_schema.specs.ErrorsTold.{TellsRefusal};
 
 use crate::index::{Index, Keys};
 use crate::keys::{FullKeys, RowKeys, id_key, id_place, row_keys, told_place};

@@ -6,12 +6,11 @@ ghost use Rattle.mdb_encode.specs.Keys.{keys};
 ghost use Rattle.mdb_schema.specs.LawfulSchema.{IsLawfulTable};
 ghost use Rattle.mdb_schema.specs.Schema.{index_place};
 ghost use Rattle.mdb_schema.specs.Tests.{each, needed};
-ghost use Rattle.mdb_schema.specs.Write.{Placed, id_of, indexes_of, keys_at, no_id};
-ghost use Rattle.run_check.specs.inner.KeyView.{AnswersBy, AnswersRowKeys, bytes_of, full_keys_at};
-ghost use Rattle.run_check.specs.inner.KeyView.{keys_of, lists_of, told_at};
+ghost use Rattle.mdb_schema.specs.Write.{Placed, full_keys_at, id_of, indexes_of, keys_at, no_id};
+ghost use Rattle.run_check.specs.inner.KeyView.{AnswersBy, AnswersRowKeys, bytes_of, keys_of, lists_of};
 
 use mdb_datum::Row;
-use mdb_encode::{Key, KeyError, Keys, keys_of};
+use mdb_encode::{Key, Keys, keys_of};
 use mdb_schema::{IndexDef, TableDef, WriteError};
 use std::alloc::{AllocError, Global};
 
@@ -49,27 +48,13 @@ pub(crate) fn id_place(def: &TableDef) -> usize
     place
 }
 
-/// Why a row has no keys in the index at a place.
-fn key_refusal(place: u32, error: KeyError) -> WriteError
-    ensures { result ≡ told_at place error }
-{
-    match error {
-        KeyError::Memory => WriteError::Memory,
-        KeyError::WrongKind => WriteError::WrongKind { index: place },
-        KeyError::OutOfRange => WriteError::OutOfRange { index: place },
-        KeyError::BadUuid => WriteError::BadUuid { index: place },
-        KeyError::TooMany => WriteError::TooMany { index: place },
-        KeyError::TooLong => WriteError::TooLong { index: place },
-    }
-}
-
 /// The keys of a row in the index at a place, without what makes them full.
 fn keys_at(alloc: Global, place: u32, index: &IndexDef, row: &Row) -> Result<Keys, WriteError>
     ensures { AnswersBy (λ ks. ks) (keys_at place (keys index.now.indexer row.now)) result }
 {
     match keys_of(alloc, index.kind(), row) {
         Ok(keys) => Ok(keys),
-        Err(error) => Err(key_refusal(place, error)),
+        Err(error) => Err(WriteError::of_key(place, error)),
     }
 }
 

@@ -14,6 +14,7 @@
 mod answer;
 mod bad;
 mod behind;
+mod called;
 mod changes;
 mod check;
 mod client;
@@ -33,7 +34,6 @@ mod names;
 mod output;
 mod place;
 mod reply;
-mod rule;
 mod same;
 mod session;
 mod shape;

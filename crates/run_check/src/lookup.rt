@@ -1,12 +1,12 @@
 //! Where a question looks.
-ghost use Rattle.std.specs.Prelude.{◌≡◌, ◌||◌, MatchResult, not};
+ghost use Rattle.std.specs.Prelude.{◌≡◌, MatchResult};
 ghost use Rattle.mdb_encode.specs.KeyAnswers.{AnswersKey};
-ghost use Rattle.mdb_schema.specs.Answer.{has_argument, is_exact, is_prefix_name, key_asked, lookup_of};
-ghost use Rattle.mdb_schema.specs.Answer.{may_ask, may_name, needs_argument, own_name};
+ghost use Rattle.mdb_schema.specs.Answer.{argued_by, is_exact, is_prefix_name, key_asked, lookup_of};
 ghost use Rattle.run_check.specs.inner.LookupView.{AnswersAskedKey, AnswersLookup, IsLookup};
-ghost use Rattle.run_check.specs.inner.LookupView.{TellsNoLookup, argued_by, argument_told};
+ghost use Rattle.run_check.specs.inner.LookupView.{TellsNoLookup};
 
 use mdb_encode::{ArgError, Key, arg_key, prefix_key};
+use mdb_schema::question::{self, has_argument, has_enough, may_ask, may_name, own_name};
 use mdb_schema::{Ask, AskError, IndexDef, Query, Schema, TableDef};
 use std::alloc::Global;
 
@@ -20,65 +20,11 @@ pub(crate) struct Lookup {
     pub(crate) key: Vec<u8>,
 }
 
-/// Whether a name of an index ends in `_prefix`.
-fn ends_in_prefix(name: &str) -> bool
-    ensures { result ≡ is_prefix_name name.now }
-{
-    name.as_bytes().ends_with(b"_prefix")
-}
-
-/// The index's own name, in a question's name of it.
-fn own_name(name: &str) -> &str
-    ensures { result.now ≡ own_name name.now }
-{
-    match name.strip_suffix("_prefix") {
-        Some(own) => own,
-        None => name,
-    }
-}
-
-/// Whether a question's index has a name with `_prefix` at its end.
+/// Whether a question's name of an index ends in `_prefix`.
 pub(crate) fn is_prefix_name(query: &Query) -> bool
     ensures { result ≡ is_prefix_name query.now.index }
 {
-    ends_in_prefix(query.index().as_str())
-}
-
-/// Whether a question has an argument.
-fn has_argument(query: &Query) -> bool
-    ensures { result ≡ has_argument query.now }
-{
-    query.args().len() > 0
-}
-
-/// Whether a question of these words may name an index as it does.
-fn may_name(ask: Ask, query: &Query) -> bool
-    ensures { result ≡ may_name ask query.now }
-{
-    match ask {
-        Ask::Longest => is_prefix_name(query),
-        _ => true,
-    }
-}
-
-/// Whether a question of these words may be asked of an index.
-fn may_ask(ask: Ask, index: &IndexDef) -> bool
-    ensures { result ≡ may_ask ask index.now }
-{
-    match ask {
-        Ask::Longest => index.unique(),
-        _ => true,
-    }
-}
-
-/// Whether a question has an argument where its words need one.
-fn has_enough(ask: Ask, query: &Query) -> bool
-    ensures { result ≡ (not (needs_argument ask) || has_argument query.now) }
-{
-    match ask {
-        Ask::Longest | Ask::ReverseLower => has_argument(query),
-        _ => true,
-    }
+    question::is_prefix_name(query.index().as_str())
 }
 
 /// Whether a question asks for the entry of a very key, and not for those that begin with it.
@@ -154,7 +100,7 @@ fn key_asked(alloc: Global, index: &IndexDef, query: &Query) -> Result<Vec<u8>, 
     }
     match key_made(alloc, index, query) {
         Ok(key) => Ok(key.bytes().to_vec(alloc)?),
-        Err(error) => Err(argument_refusal(error)),
+        Err(error) => Err(AskError::of_argument(error)),
     }
 }
 
@@ -167,20 +113,5 @@ fn key_made(alloc: Global, index: &IndexDef, query: &Query) -> Result<Key, ArgEr
         prefix_key(alloc, index.kind(), query.args())
     } else {
         arg_key(alloc, index.kind(), query.args())
-    }
-}
-
-/// Why arguments make no key.
-fn argument_refusal(error: ArgError) -> AskError
-    ensures { result ≡ argument_told error }
-{
-    match error {
-        ArgError::Memory => AskError::Memory,
-        ArgError::ArgCount => AskError::ArgCount,
-        ArgError::ArgKind => AskError::ArgKind,
-        ArgError::OutOfRange => AskError::OutOfRange,
-        ArgError::BadUuid => AskError::BadUuid,
-        ArgError::TooLong => AskError::TooLong,
-        ArgError::NoPrefixForm => AskError::NoPrefixForm,
     }
 }

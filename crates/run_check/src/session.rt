@@ -5,7 +5,7 @@ ghost use Rattle.mdb_schema.specs.History.{History};
 ghost use Rattle.mdb_schema.specs.Schema.{DbSchema, table_place};
 ghost use Rattle.run_check.specs.FirstBad.{Found};
 ghost use Rattle.run_check.specs.Views.{printed_of};
-ghost use Rattle.run_check.specs.declared.rule.Rule.TheVariants as rules;
+ghost use Rattle.client_script.specs.declared.rule.Rule.TheVariants as rules;
 ghost use Rattle.run_check.specs.declared.session.Refused.TheVariants as refusals;
 ghost use Rattle.run_check.specs.inner.AskedView.{question_refused};
 ghost use Rattle.run_check.specs.inner.CheckView.{CanCheck, ClientChecked, IsHeard, IsReady};
@@ -24,11 +24,10 @@ use crate::client::Client;
 use crate::commits::Committed;
 use crate::decimal::number_behind;
 use crate::reply::write_numbered;
-use crate::rule::Rule;
 use crate::shape::Printed;
 use crate::stop::Stop;
 use crate::store::Store;
-use client_script::{Command, Script};
+use client_script::{Command, Rule, Script};
 use mdb_datum::Text;
 use mdb_schema::{AskError, Schema, TableDef};
 use std::alloc::{AllocError, Global};
@@ -80,9 +79,9 @@ impl From<AskError> for Refused {
 
     /// The rule of a question, or want of memory.
     fn from(error: AskError) -> Self {
-        match error {
-            AskError::Memory => Refused::Memory,
-            error => Refused::By(Rule::Question(error)),
+        match Rule::of_question(error) {
+            Some(rule) => Refused::By(rule),
+            None => Refused::Memory,
         }
     }
 }

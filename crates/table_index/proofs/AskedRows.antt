@@ -6,7 +6,7 @@ use Rattle.mdb_datum.specs.Row.{Fields, Pair}
 use Rattle.mdb_schema.specs.Answer.{Asked, Lookup, answer, ask_rows, is_exact, lookup_of}
 use Rattle.mdb_schema.specs.Entries.{entries}
 use Rattle.mdb_schema.specs.Query.{Query}
-use Rattle.mdb_schema.specs.Refusals.{AnswersAsk, ask_error}
+use Rattle.mdb_schema.specs.ErrorsTold.{AnswersAsk, ask_error}
 use Rattle.mdb_schema.specs.Schema.{IndexSchema, TableSchema}
 use Rattle.mdb_schema.specs.Tests.{◌>>=◌}
 use Rattle.mdb_schema.specs.declared.answer.Answer.{Answer}

@@ -9,23 +9,17 @@ pub mod EditSteps
 pub mod ExactRows
 pub mod FreeTold
 pub mod FrozenLists
-pub mod FullKeys
 pub mod RowsOfTrees
-pub mod IdRead
 pub mod KeyLoops
-pub mod KeysTold
 pub mod ListedKeys
-pub mod Lookups
 pub mod NetSteps
 pub mod NewTrees
 pub mod OneByOne
 mod OnlyIdKey
-pub mod OwnNames
 pub mod PiecesTaken
 pub mod PutSteps
 pub mod Removals
 pub mod RowCounts
-pub mod RowKeys
 pub mod SeparateTrees
 pub mod SharedPairs
 pub mod SharedPieces

@@ -9,16 +9,16 @@ use Rattle.mdb_schema.specs.LawfulSchema.{IsLawfulTable}
 use Rattle.mdb_schema.specs.Schema.{IndexSchema, TableSchema, index_place}
 use Rattle.mdb_schema.specs.State.{id_key, full_keys}
 use Rattle.mdb_schema.specs.Tests.{each}
-use Rattle.mdb_schema.specs.Write.{Tested, id_of, indexes_of}
+use Rattle.mdb_schema.specs.Write.{Tested, id_of, indexes_of, full_keys_at}
 use Rattle.mdb_schema.proofs.IdKeys.{id_index, id_of-key, id_of-taken}
 use Rattle.mdb_schema.specs.declared.write_error.WriteError.{WriteError}
+use Rattle.mdb_schema.specs.ErrorsTold.{TellsRefusal}
+use Rattle.mdb_schema.proofs.FullKeys.{found_keys, keys_of_taken}
 use Rattle.radix_node.specs.Pairs.{find}
 use Rattle.radix_txn.specs.Txn.{Txn, txn_pairs}
 use Rattle.table_index.specs.inner.IndexTrees.{AreSound}
-use Rattle.table_index.specs.inner.Keys.{TellsRefusal, full_keys_at}
 use Rattle.table_index.specs.inner.TreeEdits.{is_memory, without_each}
 use Rattle.table_index.specs.inner.Wipes.{holds, holds_at, is_there, IsMoved, IsOut, IsStored, IsTaking}
-use Rattle.table_index.proofs.FullKeys.{found_keys, keys_of_taken}
 
 -- ---- what the tree of the index `id` tells
 

@@ -9,7 +9,7 @@ use Rattle.mdb_schema.specs.LawfulSchema.{IsLawfulTable}
 use Rattle.mdb_schema.specs.Schema.{IndexSchema, TableSchema}
 use Rattle.mdb_schema.specs.State.{id_key, full_keys, row_at, with_row, AreLawfulRows}
 use Rattle.mdb_schema.specs.Tests.{◌>>=◌, each}
-use Rattle.mdb_schema.specs.Write.{Tested, Changed, id_of, indexes_of, key_taken, takes, leaves_free, put_row}
+use Rattle.mdb_schema.specs.Write.{Tested, Changed, id_of, indexes_of, key_taken, takes, leaves_free, put_row, full_keys_at}
 use Rattle.mdb_schema.specs.Edits.{full_keys_of}
 use Rattle.mdb_schema.proofs.EntriesAfter.{entries-put_row}
 use Rattle.mdb_schema.proofs.IdKeys.{id_of-key}
@@ -17,15 +17,15 @@ use Rattle.mdb_schema.proofs.LawfulRows.{put_keeps}
 use Rattle.mdb_schema.proofs.PassedTests.{goes_on}
 use Rattle.mdb_schema.specs.declared.write_error.WriteError.{WriteError}
 use Rattle.mdb_schema.specs.declared.write_error.WriteError.TheVariants.{IdsSpent}
+use Rattle.mdb_schema.specs.ErrorsTold.{TellsRefusal}
+use Rattle.mdb_schema.proofs.FullKeys.{found_keys}
+use Rattle.mdb_schema.proofs.KeysTold.{takes_each, takes_told}
 use Rattle.radix_txn.specs.Txn.{Txn, txn_pairs}
 use Rattle.table_index.specs.Table.{AreSpent}
 use Rattle.table_index.specs.inner.IndexTrees.{AreSound, AreTrees, Hold, nodes_of, rows_held}
-use Rattle.table_index.specs.inner.Keys.{TellsRefusal, full_keys_at}
 use Rattle.table_index.specs.inner.PutKeys.{IsAccepted, first_taken, keys_of_each}
 use Rattle.table_index.specs.inner.TreeEdits.{NewAndOld, IsPut, IsRefused, edited_each, replaced_each, replaced_in}
 use Rattle.table_index.proofs.FreeTold.{TellsFree, free_told, zip_of_maps}
-use Rattle.table_index.proofs.FullKeys.{found_keys}
-use Rattle.table_index.proofs.KeysTold.{takes_each, takes_told}
 use Rattle.table_index.proofs.StoredRows.{pairs_of-nodes, same_count, tree_entries}
 use Rattle.table_index.proofs.WriteResults.{edited_entries, told_on, written}
 

@@ -6,7 +6,7 @@ use Rattle.mdb_schema.specs.LawfulSchema.{IsLawfulTable}
 use Rattle.mdb_schema.specs.Schema.{TableSchema}
 use Rattle.mdb_schema.specs.State.{row_at, without_row}
 use Rattle.mdb_schema.specs.Tests.{◌>>=◌, needed, each}
-use Rattle.mdb_schema.specs.Write.{Tested, Changed, not_found, id_of, indexes_of, remove_row}
+use Rattle.mdb_schema.specs.Write.{Tested, Changed, not_found, id_of, indexes_of, remove_row, full_keys_at}
 use Rattle.mdb_schema.specs.declared.write_error.WriteError.{WriteError}
 use Rattle.mdb_schema.specs.declared.write_error.WriteError.TheVariants.{Memory, IdsSpent}
 use Rattle.mdb_schema.proofs.LawfulRows.{remove_keeps}
@@ -14,7 +14,6 @@ use Rattle.mdb_schema.proofs.PassedTests.{goes_on}
 use Rattle.radix_txn.specs.Txn.{Txn, txn_pairs}
 use Rattle.table_index.specs.Table.{AreLeft, AreSpent}
 use Rattle.table_index.specs.inner.IndexTrees.{AreSound, AreTrees, nodes_of, rows_held}
-use Rattle.table_index.specs.inner.Keys.{full_keys_at}
 use Rattle.table_index.specs.inner.TreeEdits.{without_each, IsRefused, IsWritten}
 use Rattle.table_index.proofs.Removals.{Hold-removed}
 use Rattle.table_index.proofs.StoredRows.{keys_are}

@@ -11,20 +11,20 @@ use Rattle.mdb_schema.specs.LawfulSchema.{IsLawfulTable}
 use Rattle.mdb_schema.specs.Schema.{IndexSchema, TableSchema, index_place}
 use Rattle.mdb_schema.specs.State.{id_key, row_at}
 use Rattle.mdb_schema.specs.Tests.{each}
-use Rattle.mdb_schema.specs.Write.{id_of, indexes_of}
+use Rattle.mdb_schema.specs.Write.{id_of, indexes_of, full_keys_at}
 use Rattle.mdb_schema.proofs.EntryEdits.{entry_at}
 use Rattle.mdb_schema.proofs.IdEntries.{row_at-entries}
 use Rattle.mdb_schema.proofs.IdKeys.{IdIndex, id_index, id_of-taken}
 use Rattle.mdb_schema.proofs.RowsById.{row_at-some}
 use Rattle.mdb_schema.specs.declared.write_error.WriteError.{WriteError}
 use Rattle.mdb_schema.specs.declared.write_error.WriteError.TheVariants.{Memory}
+use Rattle.mdb_schema.specs.ErrorsTold.{TellsRefusal}
+use Rattle.mdb_schema.proofs.FullKeys.{found_keys, keys_of_taken}
+use Rattle.mdb_schema.proofs.IndexPlaces.{place_within}
 use Rattle.radix_node.specs.Nodes.{pairs_of}
 use Rattle.radix_txn.specs.Txn.{Txn, txn_pairs}
 use Rattle.table_index.specs.inner.IndexTrees.{AreTrees, nodes_of, rows_held}
-use Rattle.table_index.specs.inner.Keys.{TellsRefusal, full_keys_at}
 use Rattle.table_index.specs.inner.PutKeys.{keys_of_each}
-use Rattle.table_index.proofs.FullKeys.{found_keys, keys_of_taken}
-use Rattle.table_index.proofs.IdRead.{place_within}
 
 -- the pairs of transactions are those of their nodes
 pub pairs_of-nodes : (txns : List Txn) → map pairs_of (nodes_of txns) ≡ map txn_pairs txns
@@ -91,6 +91,3 @@ module _ (t : TableSchema) (txns : List Txn) (table : IsLawfulTable t) (trees : 
 
     pub keys_are : (kss : List (List Bytes)) → each (full_keys_at id old) (indexes_of t) ≡ Ok kss → kss ≡ keys_of_each t (Some old)
     keys_are kss e = found_keys t old kss (subst (λ (k : Bytes). each (full_keys_at k old) (indexes_of t) ≡ Ok kss) (sym own.1) e)
-
-pub no_name : (t : TableSchema) → IsLawfulTable t → index_place (codes "id") t.indexes ≡ None → ⊥
-no_name t table none = let at = id_index t table in let placed = at.placed in cc

@@ -5,7 +5,7 @@ use Rattle.mdb_datum.specs.Bytes.{Bytes}
 use Rattle.mdb_datum.specs.Pairs.{first_item, last_item, longest_pair, prefixes_of}
 use Rattle.mdb_datum.specs.Row.{Fields, Pair}
 use Rattle.mdb_schema.specs.Answer.{Asked, answer, picked}
-use Rattle.mdb_schema.specs.Refusals.{AnswersAsk, ask_error}
+use Rattle.mdb_schema.specs.ErrorsTold.{AnswersAsk, ask_error}
 use Rattle.mdb_schema.specs.declared.answer.Answer.{Answer}
 use Rattle.mdb_schema.specs.declared.answer.Answer.TheVariants.{One}
 use Rattle.mdb_schema.specs.declared.ask.Ask.{Ask}

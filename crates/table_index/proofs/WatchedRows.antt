@@ -2,7 +2,7 @@
 use Rattle.std.proofs.Common.{◌≡◌, ◌∙◌, ℕ, List, Bool, true, Some, option_map, slice_get, Result, Ok, Err, IfOk, MatchResult, sym, ap, subst}
 use Rattle.mdb_schema.specs.Answer.{Asked, Lookup, lookup_of}
 use Rattle.mdb_schema.specs.Query.{Query}
-use Rattle.mdb_schema.specs.Refusals.{AnswersAsk, ask_error}
+use Rattle.mdb_schema.specs.ErrorsTold.{AnswersAsk, ask_error}
 use Rattle.mdb_schema.specs.Schema.{TableSchema}
 use Rattle.mdb_schema.specs.declared.answer.Answer.{Answer}
 use Rattle.mdb_schema.specs.declared.ask.Ask.{Ask}

@@ -19,6 +19,7 @@ use Rattle.mdb_schema.specs.declared.ask.Ask.{Ask}
 use Rattle.mdb_schema.specs.declared.ask.Ask.TheVariants.{First, Last, Get, GetReverse, Lower, ReverseLower, Longest}
 use Rattle.mdb_schema.proofs.EntriesOfRows.{sorted-entries}
 use Rattle.mdb_schema.proofs.PassedTests.{goes_on}
+use Rattle.mdb_schema.proofs.LookupTests.{looked_there}
 use Rattle.radix_node.specs.Cells.{CellTree, plain_of}
 use Rattle.radix_node.specs.Nodes.{pairs_of}
 use Rattle.radix_node.specs.Pairs.{IsRising, find}
@@ -33,7 +34,6 @@ use Rattle.table_index.proofs.AskedRows.{pairs_there, place_there}
 use Rattle.table_index.proofs.ExactRows.{first_exact, last_exact}
 use Rattle.table_index.proofs.FrozenLists.{frozen_at}
 use Rattle.table_index.proofs.RowsOfTrees.{AreTrees-from, rows_held-rows}
-use Rattle.table_index.proofs.Lookups.{looked_there}
 
 -- ---- the answer from pairs that are the same where the question looks
 

@@ -9,7 +9,7 @@ use Rattle.mdb_schema.specs.Answer.{Asked, AskRefusal, Lookup, lookup_of}
 use Rattle.mdb_schema.specs.Answer.{unknown_table, no_prefix_name, unknown_index, not_unique, bad_argument}
 use Rattle.mdb_schema.specs.Entries.{entries}
 use Rattle.mdb_schema.specs.Query.{Query}
-use Rattle.mdb_schema.specs.Refusals.{ask_error}
+use Rattle.mdb_schema.specs.ErrorsTold.{ask_error}
 use Rattle.mdb_schema.specs.Schema.{IndexSchema, TableSchema}
 use Rattle.mdb_schema.specs.Tests.{◌>>=◌}
 use Rattle.mdb_schema.specs.Wipe.{once, wiped_rows}

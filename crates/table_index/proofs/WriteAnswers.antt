@@ -2,7 +2,7 @@
 use Rattle.std.proofs.Common.{◌≡◌, ◌∙◌, ℕ, List, Bool, false, Some, Ok, Err, refl, sym, ap, subst, inl, inr}
 use Rattle.mdb_datum.specs.Row.{Fields}
 use Rattle.mdb_encode.specs.KeyRefusal.{wrong_kind, out_of_range, bad_uuid, too_many, too_long}
-use Rattle.mdb_schema.specs.Refusals.{write_error}
+use Rattle.mdb_schema.specs.ErrorsTold.{write_error}
 use Rattle.mdb_schema.specs.Schema.{TableSchema}
 use Rattle.mdb_schema.specs.Write.{Tested, Changed, WriteRefusal, unknown_table, no_id, bad_key, missing, key_taken, not_found}
 use Rattle.mdb_schema.specs.declared.write_error.WriteError.{WriteError}

@@ -8,9 +8,9 @@ use Rattle.mdb_schema.specs.Tests.{◌>>=◌}
 use Rattle.mdb_schema.specs.Write.{Tested, Changed}
 use Rattle.mdb_schema.proofs.Membership.{Contains-first, Contains-later}
 use Rattle.mdb_schema.specs.declared.write_error.WriteError.{WriteError}
+use Rattle.mdb_schema.specs.ErrorsTold.{TellsRefusal}
 use Rattle.radix_txn.specs.Txn.{Txn}
 use Rattle.table_index.specs.inner.IndexTrees.{AreSound, Hold, nodes_of}
-use Rattle.table_index.specs.inner.Keys.{TellsRefusal}
 use Rattle.table_index.specs.inner.TreeEdits.{IsWritten, edited_each}
 use Rattle.table_index.proofs.RowsOfTrees.{AreTrees-from, rows_held-rows}
 

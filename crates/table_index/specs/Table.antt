@@ -2,7 +2,7 @@
 use Rattle.std.specs.Prelude.{◌≡◌, ◌⊎◌, ◌+◌, ◌*◌, ◌^◌, ◌≤◌, ◌<◌, ℕ, Bool, true, All, List, [], ◌∷◌, ⊤, length, slice_get, Some, is_some, Result, Ok, Err, IsOkUnless, MatchResult}
 use Rattle.mdb_datum.specs.Row.{Fields}
 use Rattle.mdb_schema.specs.Answer.{Asked}
-use Rattle.mdb_schema.specs.Refusals.{ask_error, write_error}
+use Rattle.mdb_schema.specs.ErrorsTold.{ask_error, write_error}
 use Rattle.mdb_schema.specs.Schema.{TableSchema}
 use Rattle.mdb_schema.specs.Wipe.{without_rows}
 use Rattle.mdb_schema.specs.Write.{Tested, Changed, WriteRefusal}

@@ -6,7 +6,7 @@ use Rattle.mdb_encode.specs.Bytes.{Bytes}
 use Rattle.mdb_schema.specs.Answer.{Asked, Lookup, ask_rows, lookup_of}
 use Rattle.mdb_schema.specs.Entries.{entries}
 use Rattle.mdb_schema.specs.Query.{Query}
-use Rattle.mdb_schema.specs.Refusals.{ask_error}
+use Rattle.mdb_schema.specs.ErrorsTold.{ask_error}
 use Rattle.mdb_schema.specs.State.{AreLawfulRows}
 pub use Rattle.mdb_schema.specs.Watchable.{is_for_one, is_watchable, looks_up}
 use Rattle.mdb_schema.specs.declared.answer.Answer.{Answer}

@@ -1,7 +1,7 @@
 //! Questions of a table.
 ghost use Rattle.std.specs.Prelude.{◌≡◌, false, MatchResult};
 ghost use Rattle.mdb_schema.specs.Answer.{answer, ask_rows, is_exact};
-ghost use Rattle.mdb_schema.specs.Refusals.{AnswersAsk};
+ghost use Rattle.mdb_schema.specs.ErrorsTold.{AnswersAsk};
 ghost use Rattle.mdb_schema.specs.declared.ask_error.AskError.TheVariants.{Memory};
 ghost use Rattle.radix_node.specs.Cells.{plain_of};
 ghost use Rattle.radix_node.specs.Nodes.{pairs_of};
@@ -9,10 +9,10 @@ ghost use Rattle.table_index.specs.inner.IndexTrees.{AreTrees, nodes_of, rows_he
 
 use crate::answer::answer_of;
 use crate::lookup::{Target, lookup};
-use crate::question::{has_argument, is_prefix_name};
 use crate::table::Table;
 use crate::table_txn::TableTxn;
 use crate::walk::walk_at;
+use mdb_schema::question::{has_argument, is_prefix_name};
 use mdb_schema::{Answer, AskError, IndexDef, Query, TableDef};
 use radix_node::Tree;
 use radix_txn::TreeTxn;

@@ -24,7 +24,6 @@ mod net_walk;
 mod notices;
 mod pieces;
 mod put;
-mod question;
 mod question_key;
 mod refusal;
 mod remove;

@@ -4,9 +4,9 @@ ghost use Rattle.mdb_schema.specs.Answer.{lookup_of};
 ghost use Rattle.table_index.specs.inner.Keys.{IsShort};
 ghost use Rattle.table_index.specs.inner.Lookups.{AnswersLookup, key_or_empty};
 
-use crate::question::{has_enough, may_ask, may_name, own_name};
 use crate::question_key::key_asked;
 use mdb_encode::Key;
+use mdb_schema::question::{has_enough, may_ask, may_name, own_name};
 use mdb_schema::{Ask, AskError, IndexDef, Query, TableDef};
 use std::alloc::Global;
 use std::marker::Model;

@@ -1,30 +1,14 @@
 //! The key of a question's arguments.
 ghost use Rattle.std.specs.Prelude.{◌≡◌, IfOk};
 ghost use Rattle.mdb_encode.specs.KeyAnswers.{AnswersKey};
-ghost use Rattle.mdb_schema.specs.Answer.{key_asked};
+ghost use Rattle.mdb_schema.specs.Answer.{argued_by, key_asked};
 ghost use Rattle.table_index.specs.inner.Keys.{IsShort};
 ghost use Rattle.table_index.specs.inner.Lookups.{AnswersAskedKey, key_or_empty};
-ghost use Rattle.table_index.specs.inner.Lookups.{argued_by, argument_told};
 
-use crate::question::{has_argument, is_prefix_name};
 use mdb_encode::{ArgError, Key, arg_key, prefix_key};
+use mdb_schema::question::{has_argument, is_prefix_name};
 use mdb_schema::{AskError, IndexDef, Query};
 use std::alloc::Global;
-
-/// Why arguments make no key.
-fn ask_error(error: ArgError) -> AskError
-    ensures { result ≡ argument_told error }
-{
-    match error {
-        ArgError::Memory => AskError::Memory,
-        ArgError::ArgCount => AskError::ArgCount,
-        ArgError::ArgKind => AskError::ArgKind,
-        ArgError::OutOfRange => AskError::OutOfRange,
-        ArgError::BadUuid => AskError::BadUuid,
-        ArgError::TooLong => AskError::TooLong,
-        ArgError::NoPrefixForm => AskError::NoPrefixForm,
-    }
-}
 
 /// The key that a question's arguments make in an index, exact or in the prefix form, as its name
 /// of the index says.
@@ -53,6 +37,6 @@ pub(crate) fn key_asked(
     }
     match key_made(alloc, index, query) {
         Ok(key) => Ok(Some(key)),
-        Err(error) => Err(ask_error(error)),
+        Err(error) => Err(AskError::of_argument(error)),
     }
 }

@@ -7,13 +7,13 @@ ghost use Rattle.mdb_schema.specs.Tests.{each};
 ghost use Rattle.mdb_encode.specs.Bytes.{Bytes};
 ghost use Rattle.mdb_schema.specs.Write.{id_of, indexes_of, remove_row};
 ghost use Rattle.mdb_schema.specs.declared.write_error.WriteError.TheVariants.{Memory, NotFound};
+ghost use Rattle.mdb_schema.specs.Write.{full_keys_at};
 ghost use Rattle.radix_txn.specs.Txn.{txn_pairs};
 ghost use Rattle.table_index.specs.Drawn.{HasDrawnCells, MayBeWritten};
 ghost use Rattle.table_index.specs.Table.{AnswersRemove, AreLeft};
 ghost use Rattle.table_index.specs.Written.{Writes};
 ghost use Rattle.table_index.specs.inner.Drawn.{AreReady, HaveDrawn};
 ghost use Rattle.table_index.specs.inner.IndexTrees.{AreSound, AreTrees, nodes_of, rows_held};
-ghost use Rattle.table_index.specs.inner.Keys.{full_keys_at};
 ghost use Rattle.table_index.specs.inner.TreeEdits.{IsRefused, IsWritten, without_each};
 ghost use Rattle.table_index.specs.inner.Writes.{TreesWrote, IsAt, WroteRows};
 

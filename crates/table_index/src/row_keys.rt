@@ -6,13 +6,13 @@ ghost use Rattle.mdb_datum.specs.Row.{Fields};
 ghost use Rattle.mdb_encode.specs.Keys.{keys};
 ghost use Rattle.mdb_schema.specs.Schema.{index_place};
 ghost use Rattle.mdb_schema.specs.Tests.{each, needed};
-ghost use Rattle.mdb_schema.specs.Write.{Placed, id_of, indexes_of, keys_at, no_id};
-ghost use Rattle.table_index.specs.inner.Keys.{IsTestedResult, IsShort, full_keys_at, told_at};
+ghost use Rattle.mdb_schema.specs.Write.{Placed, full_keys_at, id_of, indexes_of, keys_at, no_id};
+ghost use Rattle.table_index.specs.inner.Keys.{IsTestedResult, IsShort};
 
 use crate::full_key::{FullKeys, RowKeys};
 use crate::id_key::IdKey;
 use mdb_datum::Row;
-use mdb_encode::{KeyError, Keys, keys_of};
+use mdb_encode::{Keys, keys_of};
 use mdb_schema::{IndexDef, TableDef, WriteError};
 use std::alloc::Global;
 
@@ -39,20 +39,6 @@ pub(crate) fn id_place(def: &TableDef) -> usize
     place
 }
 
-/// Why a row has no keys in the index at a place.
-fn write_error(place: u32, error: KeyError) -> WriteError
-    ensures { result ≡ told_at place error }
-{
-    match error {
-        KeyError::Memory => WriteError::Memory,
-        KeyError::WrongKind => WriteError::WrongKind { index: place },
-        KeyError::OutOfRange => WriteError::OutOfRange { index: place },
-        KeyError::BadUuid => WriteError::BadUuid { index: place },
-        KeyError::TooMany => WriteError::TooMany { index: place },
-        KeyError::TooLong => WriteError::TooLong { index: place },
-    }
-}
-
 /// The keys of a row in the index at a place.
 fn keys_in(alloc: Global, place: u32, index: &IndexDef, row: &Row) -> Result<Keys, WriteError>
     ensures answers { IsTestedResult (keys_at place (keys index.now.indexer row.now)) result }
@@ -61,7 +47,7 @@ fn keys_in(alloc: Global, place: u32, index: &IndexDef, row: &Row) -> Result<Key
 {
     match keys_of(alloc, index.kind(), row) {
         Ok(found) => Ok(found),
-        Err(error) => Err(write_error(place, error)),
+        Err(error) => Err(WriteError::of_key(place, error)),
     }
 }
 

@@ -9,9 +9,9 @@ ghost use Rattle.table_index.specs.declared.wipe_error.WipeError.TheVariants.{Re
 ghost use Rattle.table_index.specs.inner.Wipes.{AnswersTarget, wipe_error};
 
 use crate::lookup::{Target, lookup};
-use crate::question::is_prefix_name;
 use crate::table::Table;
 use crate::wipe_error::WipeError;
+use mdb_schema::question::is_prefix_name;
 use mdb_schema::{Ask, AskError, Query, TableDef};
 use std::alloc::Global;
 

@@ -1,15 +1,11 @@
 -- Questions of a read state, as they are written.
-use Rattle.std.specs.Prelude.{◌≡◌, ℕ, Result, Ok, Err, MatchResult, length, ⊤}
+use Rattle.std.specs.Prelude.{Ok, Err, ⊤}
 use Rattle.client_script.specs.RefusedWord.{question_word}
 use Rattle.client_script.specs.Reply.{Reply, answered, refused}
 use Rattle.mdb_schema.specs.Answer.{Asked}
-use Rattle.mdb_schema.specs.Refusals.{ask_error}
 use Rattle.mdb_schema.specs.declared.answer.Answer.{Answer}
 use Rattle.mdb_schema.specs.declared.ask.Ask.{Ask}
 use Rattle.mdb_schema.specs.declared.ask.Ask.TheVariants.{Get, GetReverse, Lower, ReverseLower}
-use Rattle.mdb_schema.specs.declared.ask_error.AskError.{AskError}
-use Rattle.mdb_schema.specs.declared.ask_error.AskError.TheVariants.{Memory}
-use Rattle.table_index.specs.Walks.{answer_rows}
 
 -- the reply to a question: the answer, or the rule that it breaks
 abbrev pub asked_reply : Asked Answer → Reply
@@ -23,8 +19,3 @@ IsListed GetReverse = ⊤
 IsListed Lower = ⊤
 IsListed ReverseLower = ⊤
 IsListed a = ⊥
-
--- how many rows answer a question, or its refusal
-abbrev pub CountsAsk : Asked Answer → Result ℕ AskError → Type 0
-CountsAsk (Ok a) result = MatchResult result (λ n. n ≡ length (answer_rows a)) (λ e. e ≡ Memory)
-CountsAsk (Err why) result = result ≡ Err (ask_error why)

@@ -2,8 +2,6 @@
 use Rattle.std.specs.Prelude.{ℕ, Option, Some, None}
 use Rattle.mdb_datum.specs.Bytes.{Bytes}
 use Rattle.mdb_schema.specs.Schema.{DbSchema, table_place}
-use Rattle.mdb_schema.specs.declared.ask_error.AskError.{AskError}
-use Rattle.mdb_schema.specs.declared.ask_error.AskError.TheVariants as ask_errors
 use Rattle.mdb_schema.specs.declared.write_error.WriteError.{WriteError}
 use Rattle.mdb_schema.specs.declared.write_error.WriteError.TheVariants as write_errors
 use Rattle.mem_txn.specs.declared.txn_error.TxnAskError.{TxnAskError}
@@ -13,12 +11,9 @@ use Rattle.mem_txn.specs.declared.txn_error.TxnWriteError.TheVariants as write_r
 use Rattle.mem_txn.specs.declared.txn_error.TxnWipeError.{TxnWipeError}
 use Rattle.mem_txn.specs.declared.txn_error.TxnWipeError.TheVariants as wipe_refused
 use Rattle.table_index.specs.declared.wipe_error.WipeError.TheVariants as wipe_errors
-use Rattle.client_session.specs.declared.rule.Rule.{Rule}
-use Rattle.client_session.specs.declared.rule.Rule.TheVariants as rules
-
-abbrev pub question_rule : AskError → Option Rule
-question_rule ask_errors.Memory = None
-question_rule e = Some (rules.Question e)
+use Rattle.client_script.specs.declared.rule.Rule.{Rule}
+use Rattle.client_script.specs.declared.rule.Rule.TheVariants as rules
+use Rattle.client_script.specs.RuleName.{question_rule}
 
 abbrev pub txn_question_rule : TxnAskError → Option Rule
 txn_question_rule ask_refused.Spoiled = None

@@ -5,10 +5,10 @@ use Rattle.mdb_schema.specs.Schema.{DbSchema}
 use Rattle.mem_txn.specs.Transactions.{deferred_items}
 use Rattle.client_script.specs.Reply as said
 use Rattle.client_script.specs.Turn.{changed_row}
+use Rattle.client_script.specs.RuleName.{rule_name}
 use Rattle.client_session.specs.declared.reply.Reply.{Reply}
 use Rattle.client_session.specs.declared.reply.Reply.TheVariants as reply
 use Rattle.client_session.specs.inner.Asking.{asked_reply}
-use Rattle.client_session.specs.inner.RuleName.{rule_name}
 
 abbrev pub reply_of : DbSchema → Reply → said.Reply
 reply_of schema (reply.ReadAt n) = said.read_at n

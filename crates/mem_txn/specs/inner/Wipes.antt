@@ -5,7 +5,7 @@ use Rattle.mdb_datum.specs.Row.{Fields}
 use Rattle.mdb_encode.specs.Bytes.{Bytes}
 use Rattle.mdb_schema.specs.Answer.{Asked, AskRefusal}
 use Rattle.mdb_schema.specs.Query.{Query}
-use Rattle.mdb_schema.specs.Refusals.{ask_error}
+use Rattle.mdb_schema.specs.ErrorsTold.{ask_error}
 use Rattle.mdb_schema.specs.Schema.{DbSchema, TableSchema}
 use Rattle.mdb_schema.specs.State.{State}
 use Rattle.mdb_schema.specs.Wipe.{removals, wipe, wipe_by_prefix, wiped_rows, wiped_rows_by_prefix, without_rows}

@@ -8,7 +8,7 @@ use Rattle.mdb_datum.specs.Bytes.{Bytes, byte_order}
 use Rattle.mdb_datum.specs.Row.{Fields, Pair}
 use Rattle.mdb_schema.specs.Edits.{put_all, stale_keys, without_all}
 use Rattle.mdb_schema.specs.Entries.{entries}
-use Rattle.mdb_schema.specs.Refusals.{write_error}
+use Rattle.mdb_schema.specs.ErrorsTold.{write_error}
 use Rattle.mdb_schema.specs.Schema.{IndexSchema, TableSchema}
 use Rattle.mdb_schema.specs.State.{AreLawfulRows, full_keys, id_key}
 use Rattle.mdb_schema.specs.Write.{Changed, Tested, WriteRefusal, is_among, put_row, remove_row}

@@ -1,19 +1,15 @@
 -- The keys of a row as the code holds them, and what it answers where it makes them.
-use Rattle.std.specs.Prelude.{◌≡◌, ◌||◌, ◌⊎◌, ℕ, List, map, Result, Ok, Err}
+use Rattle.std.specs.Prelude.{◌≡◌, ℕ, List, map, Result, Ok, Err}
 use Rattle.std.specs.declared.alloc.Global.{Global}
 use Rattle.std.specs.declared.vec.Vec.{Vec}
 use Rattle.mdb_datum.specs.Bytes.{Bytes}
 use Rattle.mdb_datum.specs.Row.{Fields}
-use Rattle.mdb_encode.specs.Keys.{keys}
-use Rattle.mdb_encode.specs.declared.error.KeyError.{KeyError}
-use Rattle.mdb_encode.specs.declared.error.KeyError.TheVariants as key_errors
-use Rattle.mdb_schema.specs.Refusals.{write_error}
+use Rattle.mdb_schema.specs.ErrorsTold.{TellsRefusal}
 use Rattle.mdb_schema.specs.Schema.{IndexSchema, TableSchema}
-use Rattle.mdb_schema.specs.State.{full_key, full_keys}
-use Rattle.mdb_schema.specs.Tests.{◌>>=◌, passed, each}
-use Rattle.mdb_schema.specs.Write.{Tested, Placed, WriteRefusal, has_key, id_of, indexes_of, keys_at, missing, takes}
+use Rattle.mdb_schema.specs.State.{full_keys}
+use Rattle.mdb_schema.specs.Tests.{◌>>=◌, each}
+use Rattle.mdb_schema.specs.Write.{Tested, id_of, indexes_of, takes}
 use Rattle.mdb_schema.specs.declared.write_error.WriteError.{WriteError}
-use Rattle.mdb_schema.specs.declared.write_error.WriteError.TheVariants as write_errors
 use Rattle.run_check.specs.declared.keys.RowKeys as row_keys
 
 -- ---- keys as plain data
@@ -29,31 +25,10 @@ lists_of all = map keys_of all.items
 
 -- ---- answers
 
--- the error tells the refusal, or want of memory
-abbrev pub TellsRefusal : {A : Type 0} → Tested A → WriteError → Type 0
-TellsRefusal told e =
-    (e ≡ write_errors.Memory) ⊎ ((why : WriteRefusal) × (told ≡ Err why) × (e ≡ write_error why))
-
 -- the answer, seen so, is what the definition gives, or an error that tells why it isn't
 abbrev pub AnswersBy : {A B : Type 0} → (A → B) → Tested B → Result A WriteError → Type 0
 AnswersBy view told (Ok x) = told ≡ Ok (view x)
 AnswersBy view told (Err e) = TellsRefusal told e
-
--- the error of a row that has no keys in the index at a place
-abbrev pub told_at : ℕ → KeyError → WriteError
-told_at place key_errors.Memory = write_errors.Memory
-told_at place key_errors.WrongKind = write_errors.WrongKind place
-told_at place key_errors.OutOfRange = write_errors.OutOfRange place
-told_at place key_errors.BadUuid = write_errors.BadUuid place
-told_at place key_errors.TooMany = write_errors.TooMany place
-told_at place key_errors.TooLong = write_errors.TooLong place
-
--- the full keys of a row of an `id` key in an index, if the index takes the row
-abbrev pub full_keys_at : Bytes → Fields → Placed → Tested (List Bytes)
-full_keys_at id row (place, i) = do
-  ks ← keys_at place (keys i.indexer row)
-  enough ← passed (missing place) (i.allow_missing || has_key ks)
-  Ok (map (full_key i id) ks)
 
 -- ---- all keys of a row
 

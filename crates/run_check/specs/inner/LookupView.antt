@@ -1,15 +1,12 @@
 -- Where a question looks, as the code holds it, and what it answers where it looks that up.
-use Rattle.std.specs.Prelude.{◌≡◌, ◌⊎◌, ℕ, if◌then◌else◌, Some, slice_get, Result, Ok, Err, MatchResult}
+use Rattle.std.specs.Prelude.{◌≡◌, ◌⊎◌, ℕ, Some, slice_get, Result, Ok, Err}
 use Rattle.std.specs.declared.alloc.Global.{Global}
 use Rattle.std.specs.declared.vec.Vec.{Vec}
 use Rattle.mdb_datum.specs.Bytes.{Bytes}
-use Rattle.mdb_encode.specs.Arguments.{Argued, arg, pre}
-use Rattle.mdb_encode.specs.declared.error.ArgError.{ArgError}
-use Rattle.mdb_encode.specs.declared.error.ArgError.TheVariants as arg_errors
-use Rattle.mdb_schema.specs.Answer.{Asked, AskRefusal, Lookup, is_exact, is_prefix_name, lookup_of, unknown_table}
+use Rattle.mdb_schema.specs.Answer.{Asked, AskRefusal, Lookup, is_exact, lookup_of, unknown_table}
+use Rattle.mdb_schema.specs.ErrorsTold.{AnswersPart, ask_error}
 use Rattle.mdb_schema.specs.Query.{Query}
-use Rattle.mdb_schema.specs.Refusals.{ask_error}
-use Rattle.mdb_schema.specs.Schema.{DbSchema, IndexSchema, TableSchema, table_place}
+use Rattle.mdb_schema.specs.Schema.{DbSchema, TableSchema, table_place}
 use Rattle.mdb_schema.specs.Tests.{◌>>=◌, needed}
 use Rattle.mdb_schema.specs.declared.ask_error.AskError.{AskError}
 use Rattle.mdb_schema.specs.declared.ask_error.AskError.TheVariants as ask_errors
@@ -17,25 +14,9 @@ use Rattle.run_check.specs.declared.lookup.Lookup as code
 
 -- ---- the key
 
--- the key of a question's arguments, exact or in the prefix form, as its name of the index says
-abbrev pub argued_by : IndexSchema → Query → Argued
-argued_by i q =
-    if is_prefix_name q.index then pre i.indexer q.args else arg i.indexer q.args
-
--- the error of arguments that make no key
-abbrev pub argument_told : ArgError → AskError
-argument_told arg_errors.Memory = ask_errors.Memory
-argument_told arg_errors.ArgCount = ask_errors.ArgCount
-argument_told arg_errors.ArgKind = ask_errors.ArgKind
-argument_told arg_errors.OutOfRange = ask_errors.OutOfRange
-argument_told arg_errors.BadUuid = ask_errors.BadUuid
-argument_told arg_errors.TooLong = ask_errors.TooLong
-argument_told arg_errors.NoPrefixForm = ask_errors.NoPrefixForm
-
 -- the key of a question, or want of memory; a refusal is always told
 abbrev pub AnswersAskedKey : Asked Bytes → Result (Vec ℕ Global) AskError → Type 0
-AnswersAskedKey (Ok k) result = MatchResult result (λ key. key.items ≡ k) (λ e. e ≡ ask_errors.Memory)
-AnswersAskedKey (Err r) result = result ≡ Err (ask_error r)
+AnswersAskedKey = AnswersPart (λ k key. key.items ≡ k)
 
 -- ---- in a table
 
@@ -48,9 +29,7 @@ pub record IsLookupIn (schema_place : ℕ) (q : Query) (at : Lookup) (l : code.L
 
 -- where a question looks, or want of memory; a refusal is always told
 abbrev pub AnswersLookup : ℕ → Query → Asked Lookup → Result code.Lookup AskError → Type 0
-AnswersLookup table q (Ok at) result =
-    MatchResult result (IsLookupIn table q at) (λ e. e ≡ ask_errors.Memory)
-AnswersLookup table q (Err r) result = result ≡ Err (ask_error r)
+AnswersLookup table q = AnswersPart (IsLookupIn table q)
 
 -- ---- in a schema
 

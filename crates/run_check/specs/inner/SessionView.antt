@@ -17,6 +17,7 @@ use Rattle.client_script.specs.declared.command.Command.{Command}
 use Rattle.client_script.specs.declared.command.WatchesCommand.{WatchesCommand}
 use Rattle.client_script.specs.declared.command.WatchesCommand.TheVariants as watches_line
 use Rattle.client_script.specs.declared.command.WriteCommand.{WriteCommand}
+use Rattle.client_script.specs.RuleName.{rule_name}
 use Rattle.run_check.specs.FirstBad.{IsTold}
 use Rattle.run_check.specs.TextLines.{number_behind}
 use Rattle.run_check.specs.declared.client.Client as client
@@ -33,7 +34,6 @@ use Rattle.run_check.specs.declared.watching.Watch as watch
 use Rattle.run_check.specs.inner.ClientView.{changed_of, known}
 use Rattle.run_check.specs.inner.Decided.{AreNamed, IsDecided, NamesTell}
 use Rattle.run_check.specs.inner.LookupView.{IsLookup}
-use Rattle.run_check.specs.inner.RuleName.{rule_name}
 use Rattle.run_check.specs.inner.StoreView.{Begun, IsSightOf, StandsFor}
 use Rattle.run_check.specs.inner.WritingView.{IsCarried}
 

@@ -7,7 +7,7 @@ use Rattle.mdb_datum.specs.Row.{Fields}
 use Rattle.mdb_schema.specs.Answer.{Asked}
 use Rattle.mdb_schema.specs.History.{History, state_at}
 use Rattle.mdb_schema.specs.LawfulSchema.{IsLawfulSchema}
-use Rattle.mdb_schema.specs.Refusals.{write_error}
+use Rattle.mdb_schema.specs.ErrorsTold.{write_error}
 use Rattle.mdb_schema.specs.Schema.{DbSchema}
 use Rattle.mdb_schema.specs.State.{State}
 use Rattle.mdb_schema.specs.Tests.{◌>>=◌}
@@ -19,16 +19,16 @@ use Rattle.client_script.specs.Client.{Judged}
 use Rattle.client_script.specs.Reply.{Reply, deleted, reply_text, wiped}
 use Rattle.client_script.specs.Turn.{asked, indexes_of, insert_reply, stepped}
 use Rattle.client_script.specs.declared.command.WriteCommand.{WriteCommand}
+use Rattle.client_script.specs.RuleName.{rule_name}
 use Rattle.client_script.specs.declared.command.WriteCommand.TheVariants as write_lines
 use Rattle.run_check.specs.declared.client.Writing.{Writing}
-use Rattle.run_check.specs.declared.rule.Rule.TheVariants as rules
+use Rattle.client_script.specs.declared.rule.Rule.TheVariants as rules
 use Rattle.run_check.specs.declared.session.Refused.{Refused}
 use Rattle.run_check.specs.declared.session.Refused.TheVariants as refusals
 use Rattle.run_check.specs.declared.session.Sessions.{Sessions}
 use Rattle.run_check.specs.declared.sight.Own.{Own}
 use Rattle.run_check.specs.inner.ChangeView.{AreTracked, CoverChanges}
 use Rattle.run_check.specs.inner.ClientView.{changed_of}
-use Rattle.run_check.specs.inner.RuleName.{rule_name}
 use Rattle.run_check.specs.inner.StoreView.{Begun, StandsFor, state_seen}
 
 -- ---- an open transaction

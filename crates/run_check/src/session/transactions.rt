@@ -3,9 +3,9 @@ ghost use Rattle.std.specs.Prelude.{◌≡◌, ◌≢◌, ◌≤◌, ◌^◌, �
 ghost use Rattle.mdb_schema.specs.History.{History};
 ghost use Rattle.mdb_schema.specs.Schema.{DbSchema};
 ghost use Rattle.client_script.specs.Turn.{defer_turn, transaction_turn};
+ghost use Rattle.client_script.specs.declared.rule.Rule.{Rule};
 ghost use Rattle.client_script.specs.declared.command.Command.TheVariants as commands;
 ghost use Rattle.client_script.specs.declared.command.TransactionCommand.TheVariants as transaction_lines;
-ghost use Rattle.run_check.specs.declared.rule.Rule.{Rule};
 ghost use Rattle.run_check.specs.declared.session.Refused.TheVariants as refusals;
 ghost use Rattle.run_check.specs.inner.ClientView.{begun_then, known};
 ghost use Rattle.run_check.specs.inner.SessionView.{AreKnown, IsDue, IsKnown, TellsLine, TellsText, TellsTurn};
@@ -14,9 +14,8 @@ ghost use Rattle.run_check.specs.inner.StoreView.{Begun};
 use crate::changes::write_changes;
 use crate::client::{Client, Open, Writing};
 use crate::reply::{write_deferred, write_numbered};
-use crate::rule::Rule;
 use crate::session::{Refused, Sessions};
-use client_script::TransactionCommand;
+use client_script::{Rule, TransactionCommand};
 use mdb_datum::Text;
 use std::alloc::AllocError;
 

@@ -1,28 +1,23 @@
 //! Lines of watches.
-ghost use Rattle.std.specs.Prelude.{◌≡◌, ◌<◌, ◌≤◌, ◌+◌, [], Decides, IfErr, IfOk, List, None, OnOk, Some};
-ghost use Rattle.std.specs.Prelude.{if◌then◌else◌, length, nat_lt, slice_get};
+ghost use Rattle.std.specs.Prelude.{◌≡◌, ◌<◌, ◌≤◌, ◌+◌, [], Decides, IfOk, List, OnOk, Some};
+ghost use Rattle.std.specs.Prelude.{if◌then◌else◌, length, slice_get};
 ghost use Rattle.mdb_schema.specs.Guarded.{IsUnchanged};
 ghost use Rattle.mdb_schema.specs.History.{History, IsMadeBy};
 ghost use Rattle.mdb_schema.specs.Schema.{DbSchema};
 ghost use Rattle.mdb_schema.specs.Watchable.{HasFound, IsTouched};
 ghost use Rattle.client_script.specs.Client as plain;
-ghost use Rattle.client_script.specs.Client.{set_named, watch_named};
 ghost use Rattle.client_script.specs.declared.command.Command.TheVariants as commands;
 ghost use Rattle.client_script.specs.declared.command.WatchesCommand.TheVariants as watches_lines;
 ghost use Rattle.run_check.specs.declared.client.Client.{Client};
-ghost use Rattle.run_check.specs.declared.rule.Rule.TheVariants as rules;
-ghost use Rattle.run_check.specs.inner.CalledView.{IsSetAt, IsWatchAt};
-ghost use Rattle.run_check.specs.inner.ClientView.{known, watches_known, watching_known};
+ghost use Rattle.run_check.specs.inner.ClientView.{known, watches_known};
 ghost use Rattle.run_check.specs.inner.GuardView.{IsWatchedAt};
-ghost use Rattle.run_check.specs.inner.NamedView.{value_named};
 ghost use Rattle.run_check.specs.inner.SessionView.{AreKnown, IsDue, IsKnown, IsSoundWatch, TellsLine, TellsSize};
 ghost use Rattle.run_check.specs.inner.StoreView.{Begun, indexes_at};
-ghost use Rattle.run_check.specs.inner.WatchView.{member_count};
 
+use crate::called::{awaited_both, awaited_set, limited_watch, looked_watch, watch_place};
 use crate::client::Client;
 use crate::decimal::number_behind;
 use crate::reply::write_numbered;
-use crate::rule::Rule;
 use crate::session::{Refused, Sessions};
 use crate::watching::Watch;
 use client_script::WatchesCommand;
@@ -57,21 +52,16 @@ impl<'a> Sessions<'a> {
                 name,
                 other,
             } => {
-                let first = watch_place(knows, name)?;
-                let second = watch_place(knows, other)?;
-                let place = limited_place(knows, set, *limit, first, second);
+                let place = limited_watch(knows, set, *limit, name, other)?;
                 self.add(knows, set, place, text)
             }
             WatchesCommand::Wait { set } => {
-                knows.no_writing()?;
-                let set = set_place(knows, set)?;
+                let set = awaited_set(knows, set)?;
                 self.wait(client, knows, set, None, text)
             }
             WatchesCommand::WaitUntil { set, until } => {
-                knows.no_writing()?;
-                let set = set_place(knows, set)?;
-                let until = watch_place(knows, until)?;
-                self.wait(client, knows, set, Some(until), text)
+                let both = awaited_both(knows, set, until)?;
+                self.wait(client, knows, both.0, Some(both.1), text)
             }
         }
     }
@@ -121,8 +111,7 @@ impl<'a> Sessions<'a> {
             → TellsLine schema H (client + 1) (commands.Watches (watches_lines.Check name.now)) text.now
             (known txns knows.old) self.new knows.new result }
     {
-        knows.no_writing()?;
-        let place = watch_place(knows, name)?;
+        let place = looked_watch(knows, name)?;
         if let Some(number) = self.say_number(knows, b"quiet @", text)? {
             let quiet = self.place_is_quiet(client, knows, place, number)?;
             self.keep_if(quiet);
@@ -230,42 +219,5 @@ impl<'a> Sessions<'a> {
             (IsTouched schema H watch.now.query.now watch.now.number commits) }
     {
         watch.has_fired(self.store.table(watch.at.table), commits)
-    }
-}
-
-/// The place of the watch of a name.
-fn watch_place(knows: &Client<'_>, name: &Text) -> Result<usize, Rule>
-    ensures found { IfOk result (λ place. IsWatchAt name.now knows.now.watching place) }
-    ensures none { IfErr result (λ rule. (rule ≡ rules.UnknownName)
-        × (watch_named name.now (watches_known knows.now.watching) ≡ None)) }
-{
-    match knows.watching.watches.place(name) {
-        Some(place) => Ok(place),
-        None => Err(Rule::UnknownName),
-    }
-}
-
-/// The place of the one watch while the set of a name has fewer members than the limit, else that of
-/// the other.
-fn limited_place(knows: &Client<'_>, set: &Text, limit: u32, first: usize, second: usize) -> usize
-    ensures { result ≡ (if nat_lt (member_count (value_named set.now knows.now.watching.sets.names
-        knows.now.watching.sets.values.items)) limit then first else second) }
-{
-    if knows.watching.size(set) < limit as usize {
-        first
-    } else {
-        second
-    }
-}
-
-/// The place of the set of a name.
-fn set_place(knows: &Client<'_>, name: &Text) -> Result<usize, Rule>
-    ensures found { IfOk result (λ place. IsSetAt name.now knows.now.watching place) }
-    ensures none { IfErr result (λ rule. (rule ≡ rules.UnknownName)
-        × (set_named name.now (watching_known knows.now.watching).sets ≡ None)) }
-{
-    match knows.watching.sets.place(name) {
-        Some(place) => Ok(place),
-        None => Err(Rule::UnknownName),
     }
 }

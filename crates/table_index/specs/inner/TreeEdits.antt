@@ -3,7 +3,7 @@ use Rattle.std.specs.Prelude.{◌≡◌, ◌⊎◌, ℕ, Bool, true, false, List
 use Rattle.std.specs.List.{zip}
 use Rattle.mdb_datum.specs.Row.{Fields, Pair}
 use Rattle.mdb_encode.specs.Bytes.{Bytes}
-use Rattle.mdb_schema.specs.Refusals.{write_error}
+use Rattle.mdb_schema.specs.ErrorsTold.{write_error}
 use Rattle.mdb_schema.specs.Schema.{TableSchema}
 use Rattle.mdb_schema.specs.Write.{Tested, Changed, WriteRefusal}
 use Rattle.mdb_schema.specs.Edits.{put_all, stale_keys, without_all}

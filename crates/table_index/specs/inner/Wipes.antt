@@ -7,7 +7,7 @@ use Rattle.mdb_datum.specs.Row.{Fields, Pair}
 use Rattle.mdb_encode.specs.Bytes.{Bytes}
 use Rattle.mdb_schema.specs.Answer.{Asked, AskRefusal, Lookup}
 use Rattle.mdb_schema.specs.Entries.{entries}
-use Rattle.mdb_schema.specs.Refusals.{ask_error}
+use Rattle.mdb_schema.specs.ErrorsTold.{ask_error}
 use Rattle.mdb_schema.specs.Schema.{IndexSchema, TableSchema, index_place}
 use Rattle.mdb_schema.specs.State.{full_keys, id_key, Takes}
 use Rattle.mdb_schema.specs.Wipe.{once, without_rows}

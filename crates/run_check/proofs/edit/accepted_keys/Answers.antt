@@ -5,8 +5,8 @@ use Rattle.mdb_datum.specs.Bytes.{Bytes}
 use Rattle.mdb_schema.specs.State.{row_at}
 use Rattle.mdb_schema.specs.Write.{put_row}
 use Rattle.mdb_schema.specs.declared.write_error.WriteError.TheVariants.{KeyTaken}
+use Rattle.mdb_schema.specs.ErrorsTold.{TellsRefusal}
 use Rattle.run_check.specs.inner.EditView.{AreOldKeys, IsFirst, is_taken_at, old_lists}
-use Rattle.run_check.specs.inner.KeyView.{TellsRefusal}
 use Rattle.run_check.proofs.PutAnswers.{accepted, key_is_taken}
 use Rattle.run_check.proofs.edit.accepted_keys.Goals as goal
 

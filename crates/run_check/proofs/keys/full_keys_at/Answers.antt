@@ -1,6 +1,7 @@
 use Rattle.std.proofs.Common.{ℕ, sym, subst}
-use Rattle.run_check.specs.inner.KeyView.{AnswersBy, full_keys_at, keys_of}
-use Rattle.run_check.proofs.KeyTests.{placed_at}
+use Rattle.mdb_schema.specs.Write.{full_keys_at}
+use Rattle.mdb_schema.proofs.IndexPlaces.{placed_at}
+use Rattle.run_check.specs.inner.KeyView.{AnswersBy, keys_of}
 use Rattle.run_check.proofs.keys.full_keys_at.Goals as goal
 
 pub returns : goal.returns

@@ -1,6 +1,6 @@
 use Rattle.std.proofs.Common.{◌≡◌, ◌∙◌, ◌||◌, Ok, true, sym, ap, inr, refl}
 use Rattle.mdb_schema.specs.Write.{has_key, missing}
-use Rattle.run_check.proofs.KeyTests.{ended_keys, enough_here, has_enough, may_miss, missing_here}
+use Rattle.mdb_schema.proofs.FullKeys.{ended_keys, enough_here, has_enough, may_miss, missing_here}
 use Rattle.run_check.proofs.keys.full_keys_in.Goals as goal
 use Rattle.run_check.proofs.keys.full_keys_in.Goals.{else-not-allow_missing-via-then-not-allow_missing+else-len-eq0, else-not-allow_missing-via-else-not-allow_missing}
 

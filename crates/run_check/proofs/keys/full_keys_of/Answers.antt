@@ -1,13 +1,16 @@
 use Rattle.std.proofs.Common.{◌≤◌, length, arith}
-use Rattle.mdb_schema.specs.Write.{indexes_of}
-use Rattle.run_check.specs.inner.KeyView.{full_keys_at, lists_of}
-use Rattle.run_check.proofs.KeyTests.{each_done, length_placed, list_pushed, refused_at}
+use Rattle.mdb_schema.specs.Write.{indexes_of, full_keys_at}
+use Rattle.mdb_schema.proofs.Each.{each_done}
+use Rattle.mdb_schema.proofs.IndexPlaces.{length_placed}
+use Rattle.mdb_schema.proofs.RefusalsTold.{told_at_place}
+use Rattle.run_check.specs.inner.KeyView.{lists_of}
+use Rattle.run_check.proofs.KeyTests.{list_pushed}
 use Rattle.run_check.proofs.keys.full_keys_of.Goals as goal
 
 pub returns-in-Err : goal.returns-in-Err
 returns-in-Err c =
     let there = c.in-Err.ensures in
-    refused_at (full_keys_at c.args.id.now c.args.row.now) (lists_of c.loop-at.found) (indexes_of c.args.def.now) c.loop-at.at there.0 c.in-Err.error there.1 c.loop-at.invariant there.2
+    told_at_place (full_keys_at c.args.id.now c.args.row.now) (lists_of c.loop-at.found) (indexes_of c.args.def.now) c.loop-at.at there.0 c.in-Err.error there.1 c.loop-at.invariant there.2
 
 pub loop-at-preserved : goal.loop-at-preserved
 loop-at-preserved c =

@@ -1,8 +1,8 @@
 use Rattle.std.proofs.Common.{◌≡◌, drop}
 use Rattle.mdb_schema.specs.Tests.{each}
-use Rattle.mdb_schema.specs.Write.{indexes_of}
+use Rattle.mdb_schema.specs.Write.{indexes_of, full_keys_at}
 use Rattle.mdb_schema.proofs.Each.{behind}
-use Rattle.run_check.specs.inner.KeyView.{full_keys_at, lists_of}
+use Rattle.run_check.specs.inner.KeyView.{lists_of}
 use Rattle.run_check.proofs.keys.full_keys_of.Given as goal
 
 abbrev pub invariant-loop-at : goal.invariant-loop-at

@@ -1,8 +1,11 @@
 use Rattle.std.proofs.Common.{◌∙◌, ℕ, sym, ap, subst, rules}
+use Rattle.mdb_datum.specs.Bytes.{Bytes}
 use Rattle.mdb_encode.specs.Keys.{keys}
-use Rattle.mdb_schema.specs.Write.{id_of, keys_at}
-use Rattle.run_check.specs.inner.KeyView.{TellsRefusal, bytes_of}
-use Rattle.run_check.proofs.KeyTests.{handed_on, id_refused, id_by_first}
+use Rattle.mdb_schema.specs.Write.{Tested, id_of, keys_at}
+use Rattle.mdb_schema.specs.ErrorsTold.{TellsRefusal}
+use Rattle.mdb_schema.proofs.IdRead.{id_refused, id_first}
+use Rattle.run_check.specs.inner.KeyView.{AnswersBy, bytes_of}
+use Rattle.run_check.proofs.KeyTests.{handed_on}
 use Rattle.run_check.proofs.keys.id_key.Goals as goal
 
 pub returns-in_err-keys : goal.returns-in_err-keys
@@ -14,5 +17,7 @@ returns-in_err-keys c =
 
 pub returns : goal.returns
 returns c =
-    id_by_first c.args.def.now c.args.row.now c.id_place-place.result (sym c.id_place-place.ensures.placed) c.in-Some.index.now (sym c.in-Some.ensures.found) c.in_ok-keys.keys c.first_key.result
-    (ap (λ (p : ℕ). keys_at p (keys c.in-Some.index.now.indexer c.args.row.now)) (sym c.told_place.ensures) ∙ c.in_ok-keys.ensures) c.first_key.ensures
+    subst (λ (r : Tested Bytes). AnswersBy bytes_of r c.first_key.result)
+    (sym (id_first c.args.def.now c.args.row.now c.id_place-place.result (sym c.id_place-place.ensures.placed) c.in-Some.index.now (sym c.in-Some.ensures.found) c.in_ok-keys.keys
+    (ap (λ (p : ℕ). keys_at p (keys c.in-Some.index.now.indexer c.args.row.now)) (sym c.told_place.ensures) ∙ c.in_ok-keys.ensures)))
+    c.first_key.ensures

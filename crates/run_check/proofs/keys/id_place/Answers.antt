@@ -1,5 +1,5 @@
 use Rattle.std.proofs.Common.{◌∙◌, codes, sym}
-use Rattle.run_check.proofs.KeyTests.{no_id_index, place_within}
+use Rattle.mdb_schema.proofs.IndexPlaces.{no_id_index, place_within}
 use Rattle.run_check.proofs.keys.id_place.Goals as goal
 
 pub unreachable-requires : goal.unreachable-requires

@@ -1,10 +1,12 @@
 use Rattle.std.proofs.Common.{◌≡◌, ◌∙◌, Ok, sym, ap, subst, rules}
 use Rattle.mdb_datum.specs.Bytes.{Bytes}
 use Rattle.mdb_schema.specs.Tests.{each}
-use Rattle.mdb_schema.specs.Write.{indexes_of}
-use Rattle.run_check.specs.inner.KeyView.{TellsRefusal, full_keys_at, lists_of}
+use Rattle.mdb_schema.specs.Write.{indexes_of, full_keys_at}
+use Rattle.mdb_schema.specs.ErrorsTold.{TellsRefusal}
+use Rattle.mdb_schema.proofs.FullKeys.{found_keys_of}
+use Rattle.mdb_schema.proofs.KeysTold.{takes_each, takes_told}
+use Rattle.run_check.specs.inner.KeyView.{lists_of}
 use Rattle.run_check.proofs.KeyTests.{keys_handed_on, rule_of_index}
-use Rattle.run_check.proofs.KeysTaken.{found_keys, takes_each, takes_told}
 use Rattle.run_check.proofs.keys.row_keys.Goals as goal
 
 pub returns-in_err-indexes : goal.returns-in_err-indexes
@@ -29,5 +31,5 @@ returns c =
       known = c.in_ok-id.ensures;
       taken = taken.0;
       passes = taken.1;
-      indexes = found_keys t row id (lists_of c.in_ok-indexes.indexes) c.in_ok-id.ensures read;
+      indexes = found_keys_of t row id (lists_of c.in_ok-indexes.indexes) c.in_ok-id.ensures read;
     }

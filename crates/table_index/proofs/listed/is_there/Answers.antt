@@ -6,7 +6,7 @@ use Rattle.std.proofs.lemmas.Option.{slice_get-map, slice_get_read}
 use Rattle.mdb_encode.specs.Bytes.{Bytes}
 use Rattle.radix_node.specs.Pairs.{find}
 use Rattle.radix_txn.specs.Txn.{Txn, txn_pairs}
-use Rattle.table_index.proofs.IdRead.{place_within}
+use Rattle.mdb_schema.proofs.IndexPlaces.{place_within}
 use Rattle.table_index.proofs.ListedKeys.{is_some-copied, there_told}
 use Rattle.table_index.proofs.listed.is_there.Goals as goal
 

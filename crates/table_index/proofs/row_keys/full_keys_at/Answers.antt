@@ -1,7 +1,8 @@
 use Rattle.std.proofs.Common.{ℕ, sym, subst}
 use Rattle.mdb_schema.proofs.Membership.{Contains-slice_get}
-use Rattle.table_index.specs.inner.Keys.{IsTestedResult, full_keys_at}
-use Rattle.table_index.proofs.IdRead.{placed_at}
+use Rattle.mdb_schema.specs.Write.{full_keys_at}
+use Rattle.mdb_schema.proofs.IndexPlaces.{placed_at}
+use Rattle.table_index.specs.inner.Keys.{IsTestedResult}
 use Rattle.table_index.proofs.OnlyIdKey.{only_id_key}
 use Rattle.table_index.proofs.row_keys.full_keys_at.Goals as goal
 

@@ -1,6 +1,6 @@
 use Rattle.std.proofs.Common.{◌∙◌, sym, inr, refl}
 use Rattle.mdb_schema.specs.Write.{missing}
-use Rattle.table_index.proofs.IdRead.{missing_here}
+use Rattle.mdb_schema.proofs.FullKeys.{missing_here}
 use Rattle.table_index.proofs.row_keys.full_keys_by.Goals as goal
 
 pub returns-then-len-eq0 : goal.returns-then-len-eq0

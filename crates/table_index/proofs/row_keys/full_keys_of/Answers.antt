@@ -1,15 +1,14 @@
 use Rattle.std.proofs.Common.{◌∙◌, ◌≤◌, length, Ok, sym, ap, arith}
-use Rattle.mdb_schema.specs.Write.{indexes_of}
-use Rattle.mdb_schema.proofs.Each.{each_pushed}
-use Rattle.table_index.specs.inner.Keys.{full_keys_at}
-use Rattle.table_index.proofs.KeyLoops.{each_done, length_placed}
-use Rattle.table_index.proofs.RowKeys.{refused_at}
+use Rattle.mdb_schema.specs.Write.{indexes_of, full_keys_at}
+use Rattle.mdb_schema.proofs.Each.{each_pushed, each_done}
+use Rattle.mdb_schema.proofs.IndexPlaces.{length_placed}
+use Rattle.mdb_schema.proofs.RefusalsTold.{told_at_place}
 use Rattle.table_index.proofs.row_keys.full_keys_of.Goals as goal
 
 pub returns-in-Err : goal.returns-in-Err
 returns-in-Err c =
     let there = c.in-Err.ensures in
-    refused_at (full_keys_at c.args.id.now c.args.row.now) c.loop-at.found.items (indexes_of c.args.def.now) c.loop-at.at there.0 c.in-Err.error there.1 c.loop-at.invariant there.2
+    told_at_place (full_keys_at c.args.id.now c.args.row.now) c.loop-at.found.items (indexes_of c.args.def.now) c.loop-at.at there.0 c.in-Err.error there.1 c.loop-at.invariant there.2
 
 pub loop-at-preserved : goal.loop-at-preserved
 loop-at-preserved c =

@@ -1,8 +1,7 @@
 use Rattle.std.proofs.Common.{◌≡◌, drop}
 use Rattle.mdb_schema.specs.Tests.{each}
-use Rattle.mdb_schema.specs.Write.{indexes_of}
+use Rattle.mdb_schema.specs.Write.{indexes_of, full_keys_at}
 use Rattle.mdb_schema.proofs.Each.{behind}
-use Rattle.table_index.specs.inner.Keys.{full_keys_at}
 use Rattle.table_index.proofs.row_keys.full_keys_of.Given as goal
 
 abbrev pub invariant-loop-at : goal.invariant-loop-at

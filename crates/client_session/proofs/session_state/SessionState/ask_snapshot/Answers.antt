@@ -4,7 +4,7 @@ use Rattle.client_session.proofs.StateTurns.{snapshot_answered, snapshot_refused
 use Rattle.client_session.proofs.session_state.SessionState.ask_snapshot.Goals as goal
 
 pub returns-in-Err : goal.returns-in-Err
-returns-in-Err c = snapshot_refused c.args.self.now c.args.name.now c.args.query.now (snapshot_view c.in-Some.kept.now) c.in-Err.error c.question_rule.result c.refused.result c.requires.stands (search (rules)) c.in-Err.ensures c.question_rule.ensures c.refused.ensures
+returns-in-Err c = snapshot_refused c.args.self.now c.args.name.now c.args.query.now (snapshot_view c.in-Some.kept.now) c.in-Err.error c.of_question.result c.refused.result c.requires.stands (search (rules)) c.in-Err.ensures c.of_question.ensures c.refused.ensures
 
 pub returns-in-Ok : goal.returns-in-Ok
 returns-in-Ok c = snapshot_answered c.args.self.now c.args.name.now c.args.query.now (snapshot_view c.in-Some.kept.now) c.in-Ok.answer c.requires.stands (search (rules)) c.in-Ok.ensures

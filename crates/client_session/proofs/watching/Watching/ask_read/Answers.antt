@@ -9,6 +9,6 @@ returns-in_ok-keep-in-Ok c p v s knows holds read =
 
 pub returns-in-Err : goal.returns-in-Err
 returns-in-Err c =
-    refused_so c.question_rule.result c.refused.result _ c.refused.ensures
+    refused_so c.of_question.result c.refused.result _ c.refused.ensures
     (λ rule is p v s knows holds read.
-    watch_refused p v s c.args.name.now c.args.query.now c.args.self.now knows holds c.requires.free c.args.txn.now read c.in-Err.error rule c.in-Err.ensures.answers (sym c.question_rule.ensures ∙ is))
+    watch_refused p v s c.args.name.now c.args.query.now c.args.self.now knows holds c.requires.free c.args.txn.now read c.in-Err.error rule c.in-Err.ensures.answers (sym c.of_question.ensures ∙ is))

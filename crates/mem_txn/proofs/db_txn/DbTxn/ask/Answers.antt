@@ -1,6 +1,6 @@
 use Rattle.std.proofs.Common.{◌≡◌, Bool, Some, Result, Ok, Err, sym, subst}
 use Rattle.mdb_schema.specs.Answer.{Asked, ask}
-use Rattle.mdb_schema.specs.Refusals.{AnswersAsk}
+use Rattle.mdb_schema.specs.ErrorsTold.{AnswersAsk}
 use Rattle.mdb_schema.specs.Schema.{table_place}
 use Rattle.mdb_schema.specs.declared.answer.Answer.{Answer}
 use Rattle.mdb_schema.specs.declared.ask_error.AskError.{AskError}

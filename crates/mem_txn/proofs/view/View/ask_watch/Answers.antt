@@ -1,74 +1,11 @@
-use Rattle.std.proofs.Common.{◌≡◌, ◌∙◌, ◌<◌, length, map, slice_get, Some, IfOk, option_map, refl, sym, ap, subst, rules, arith}
-use Rattle.std.specs.Arc.{arc_value}
-use Rattle.std.proofs.lemmas.List.{length-map}
-use Rattle.std.proofs.lemmas.Option.{slice_get-map, slice_get_read}
-use Rattle.mdb_schema.specs.Answer.{ask, ask_rows}
-use Rattle.mdb_schema.specs.Schema.{table_place}
-use Rattle.table_index.specs.Watched.{AnswersWatch, is_watchable}
-use Rattle.mem_txn.specs.CellHistory.{question_cell, table_in}
-use Rattle.mem_txn.specs.Held.{IsLookedUp, tells_own}
-use Rattle.mem_txn.specs.inner.VersionTables.{state_of}
-use Rattle.mem_txn.specs.inner.Versions.{ViewWithTrees}
-use Rattle.mem_txn.proofs.SpotsFound.{looked_there, spotted, watch_answers}
-use Rattle.mem_txn.proofs.TablesFound.{found_within}
+use Rattle.mem_txn.proofs.NamedTables.{named_cell, named_spot, named_watch}
 use Rattle.mem_txn.proofs.view.View.ask_watch.Goals as goal
 
-pub index-table-requires : goal.index-table-requires
-index-table-requires c =
-    let shared = map arc_value c.self.inside.tables.items in
-    let found : table_place c.args.query.now.table (arc_value c.self.inside.schema) ≡ Some c.in-Some.place = cc in
-    let less = found_within shared (arc_value c.self.inside.schema) (state_of shared) c.self.invariant.schemas refl c.args.query.now.table c.in-Some.place found in
-    let count = length-map c.self.inside.tables.items arc_value in
-    let within : c.in-Some.place < length c.self.inside.tables.items = omega (arith, less, count) in
-    search rules
-
 pub returns-in-Some-clause-answers : goal.returns-in-Some-clause-answers
-returns-in-Some-clause-answers c =
-    let items = c.self.inside.tables.items in
-    let shared = map arc_value items in
-    let schema = arc_value c.self.inside.schema in
-    let q = c.args.query.now in
-    let place = c.in-Some.place in
-    let found : table_place q.table schema ≡ Some place = cc in
-    let less = found_within shared schema (state_of shared) c.self.invariant.schemas refl q.table place found in
-    let count = length-map items arc_value in
-    let within : place < length items = omega (arith, less, count) in
-    let there : slice_get items place ≡ Some c.index-table.result.now = slice_get_read items (length items) place c.index-table.result.now refl within c.index-table.ensures in
-    let table = c.deref-in-Some.result.now in
-    let shown : slice_get shared place ≡ Some table = slice_get-map arc_value items place ∙ ap (option_map arc_value) there ∙ ap Some (sym c.deref-in-Some.ensures) in
-    subst (λ (v : ViewWithTrees). AnswersWatch (tells_own (ask v.view.schema v.view.state q) (is_watchable q.ask)) (ask v.view.schema v.view.state q) c.ask_watch.result) c.self.view_is
-    (watch_answers shared schema (state_of shared) c.self.invariant.schemas refl q place found table shown c.ask_watch.result c.ask_watch.ensures.answers)
+returns-in-Some-clause-answers c = named_watch c.args.self.now c.args.query.now c.in-Some.table.now c.in-Some.ensures.some c.ask_watch.result c.ask_watch.ensures.answers
 
 pub returns-in-Some-clause-cell : goal.returns-in-Some-clause-cell
-returns-in-Some-clause-cell c =
-    let items = c.self.inside.tables.items in
-    let shared = map arc_value items in
-    let schema = arc_value c.self.inside.schema in
-    let q = c.args.query.now in
-    let place = c.in-Some.place in
-    let found : table_place q.table schema ≡ Some place = cc in
-    let less = found_within shared schema (state_of shared) c.self.invariant.schemas refl q.table place found in
-    let count = length-map items arc_value in
-    let within : place < length items = omega (arith, less, count) in
-    let there : slice_get items place ≡ Some c.index-table.result.now = slice_get_read items (length items) place c.index-table.result.now refl within c.index-table.ensures in
-    let table = c.deref-in-Some.result.now in
-    let shown : slice_get shared place ≡ Some table = slice_get-map arc_value items place ∙ ap (option_map arc_value) there ∙ ap Some (sym c.deref-in-Some.ensures) in
-    subst (λ (v : ViewWithTrees). IfOk c.ask_watch.result (λ w. let spot = w.spot in question_cell v.view.schema v.view.state v.trees q ≡ Some spot.watch)) c.self.view_is
-    (spotted shared schema (state_of shared) c.self.invariant.schemas refl q place found table shown (ask_rows table.schema table.rows q) c.ask_watch.result c.ask_watch.ensures.answers c.ask_watch.ensures.spot)
+returns-in-Some-clause-cell c = named_cell c.args.self.now c.args.query.now c.in-Some.table.now c.in-Some.ensures.some c.ask_watch.result c.ask_watch.ensures.answers c.ask_watch.ensures.spot
 
 pub returns-in-Some-clause-looked : goal.returns-in-Some-clause-looked
-returns-in-Some-clause-looked c =
-    let items = c.self.inside.tables.items in
-    let shared = map arc_value items in
-    let schema = arc_value c.self.inside.schema in
-    let q = c.args.query.now in
-    let place = c.in-Some.place in
-    let found : table_place q.table schema ≡ Some place = cc in
-    let less = found_within shared schema (state_of shared) c.self.invariant.schemas refl q.table place found in
-    let count = length-map items arc_value in
-    let within : place < length items = omega (arith, less, count) in
-    let there : slice_get items place ≡ Some c.index-table.result.now = slice_get_read items (length items) place c.index-table.result.now refl within c.index-table.ensures in
-    let table = c.deref-in-Some.result.now in
-    let shown : slice_get shared place ≡ Some table = slice_get-map arc_value items place ∙ ap (option_map arc_value) there ∙ ap Some (sym c.deref-in-Some.ensures) in
-    subst (λ (v : ViewWithTrees). IfOk c.ask_watch.result (λ w. IsLookedUp (table_in v.view.schema v.view.state v.trees q.table) q w.spot)) c.self.view_is
-    (looked_there shared schema (state_of shared) c.self.invariant.schemas refl q place found table shown c.ask_watch.result c.ask_watch.ensures.spot)
+returns-in-Some-clause-looked c = named_spot c.args.self.now c.args.query.now c.in-Some.table.now c.in-Some.ensures.some c.ask_watch.result c.ask_watch.ensures.spot

@@ -3,8 +3,8 @@ use Rattle.client_script.specs.Client as plain
 use Rattle.client_script.specs.Client.{Judged}
 use Rattle.client_script.specs.Turn.{Turn, name_turn, watch_turn}
 use Rattle.client_script.specs.declared.command.NameCommand.{NameCommand}
+use Rattle.client_script.specs.RuleName.{rule_name}
 use Rattle.run_check.specs.inner.ClientView.{known}
-use Rattle.run_check.specs.inner.RuleName.{rule_name}
 use Rattle.run_check.specs.inner.SessionView.{TurnTold}
 use Rattle.run_check.proofs.LineTold.{turn_told_or_refused}
 use Rattle.run_check.proofs.SightsSeen.{open_sight}

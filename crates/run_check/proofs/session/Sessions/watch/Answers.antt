@@ -6,7 +6,7 @@ use Rattle.mdb_schema.specs.Watchable.{is_watchable}
 use Rattle.client_script.specs.Client as plain
 use Rattle.client_script.specs.Reply.{answered}
 use Rattle.run_check.specs.declared.client.Client.{Client}
-use Rattle.run_check.specs.declared.rule.Rule.TheVariants as rules
+use Rattle.client_script.specs.declared.rule.Rule.TheVariants as rules
 use Rattle.run_check.specs.declared.session.Refused.TheVariants as refusals
 use Rattle.run_check.specs.inner.ClientView.{known}
 use Rattle.run_check.specs.inner.LookupView.{IsLookup, TellsNoLookup}

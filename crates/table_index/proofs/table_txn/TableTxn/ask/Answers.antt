@@ -1,6 +1,6 @@
 use Rattle.std.proofs.Common.{◌≡◌, ◌∙◌, List, false, sym, ap, subst}
 use Rattle.mdb_schema.specs.Answer.{ask_rows}
-use Rattle.mdb_schema.specs.Refusals.{AnswersAsk}
+use Rattle.mdb_schema.specs.ErrorsTold.{AnswersAsk}
 use Rattle.radix_txn.specs.Txn.{Txn}
 use Rattle.table_index.specs.Table.{TableChange}
 use Rattle.table_index.specs.inner.IndexTrees.{AreTrees, nodes_of, rows_held}

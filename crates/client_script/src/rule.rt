@@ -1,8 +1,9 @@
-//! The rules that a line may break, and their names as they are printed.
-ghost use Rattle.std.specs.Prelude.{◌≡◌, ◌++◌, OnOk, codes, option_map};
+//! The rules that a line of a session may break, and their names as they are printed.
+ghost use Rattle.std.specs.Prelude.{◌≡◌, ◌++◌, OnOk, codes, length, option_map, take};
 ghost use Rattle.mdb_schema.specs.Schema.{DbSchema};
-ghost use Rattle.run_check.specs.inner.RuleName.{IsOwnRule, index_at, index_part_at, question_name};
-ghost use Rattle.run_check.specs.inner.RuleName.{rule_name, write_name, write_place};
+ghost use Rattle.client_script.specs.RuleName.{IsOwnRule, index_at, index_part_at};
+ghost use Rattle.client_script.specs.RuleName.{question_name, question_rule, rule_name};
+ghost use Rattle.client_script.specs.RuleName.{write_name, write_place};
 
 use mdb_datum::Text;
 use mdb_schema::{AskError, Schema, WriteError};
@@ -10,9 +11,13 @@ use std::alloc::AllocError;
 
 /// Why a line is refused.
 #[derive(Clone, Copy, Debug, PartialEq, Eq)]
-pub(crate) enum Rule {
+pub enum Rule {
     /// A transaction is open already.
     TransactionOpen,
+    /// There are as many commits as can be counted.
+    CommitsSpent,
+    /// There are too few ids of watch cells for the rows that a line writes.
+    IdsSpent,
     /// No transaction is open.
     NoTransaction,
     /// The open transaction is a write transaction.
@@ -34,10 +39,21 @@ pub(crate) enum Rule {
 }
 
 impl Rule {
+    /// The rule of a question, if it isn't for want of memory.
+    pub fn of_question(error: AskError) -> Option<Rule>
+        ensures { result ≡ question_rule error }
+    {
+        match error {
+            AskError::Memory => None,
+            error => Some(Rule::Question(error)),
+        }
+    }
+
     /// Adds `refused`, the rule's name, and that of the index where the rule has one.
-    pub(crate) fn write(self, schema: &Schema, out: &mut Vec<u8>) -> Result<(), AllocError>
-        ensures { OnOk result (out.new.items
+    pub fn write(self, schema: &Schema, out: &mut Vec<u8>) -> Result<(), AllocError>
+        ensures text { OnOk result (out.new.items
             ≡ out.old.items ++ (codes "refused " ++ rule_name schema.now self)) }
+        ensures before { take (length out.old.items) out.new.items ≡ out.old.items }
     {
         out.extend_from_slice(b"refused ")?;
         self.write_name(schema, out)
@@ -45,7 +61,8 @@ impl Rule {
 
     /// Adds the rule's name, and that of the index where the rule has one.
     fn write_name(self, schema: &Schema, out: &mut Vec<u8>) -> Result<(), AllocError>
-        ensures { OnOk result (out.new.items ≡ out.old.items ++ rule_name schema.now self) }
+        ensures text { OnOk result (out.new.items ≡ out.old.items ++ rule_name schema.now self) }
+        ensures before { take (length out.old.items) out.new.items ≡ out.old.items }
     {
         match self {
             Rule::Question(error) => out.extend_from_slice(question_name(error)),
@@ -61,6 +78,8 @@ impl Rule {
     {
         match self {
             Rule::TransactionOpen => b"transaction-open",
+            Rule::CommitsSpent => b"commits-spent",
+            Rule::IdsSpent => b"ids-spent",
             Rule::NoTransaction => b"no-transaction",
             Rule::WriteOpen => b"write-open",
             Rule::ReadOnly => b"read-only",
@@ -74,7 +93,7 @@ impl Rule {
 }
 
 /// The name of a question's rule.
-fn question_name(error: AskError) -> &'static [u8]
+pub fn question_name(error: AskError) -> &'static [u8]
     ensures { result.now ≡ question_name error }
 {
     match error {
@@ -143,8 +162,9 @@ fn write_row_rule(
     error: WriteError,
     out: &mut Vec<u8>,
 ) -> Result<(), AllocError>
-    ensures { OnOk result (out.new.items ≡ out.old.items
+    ensures text { OnOk result (out.new.items ≡ out.old.items
         ++ (write_name error ++ index_part_at schema.now table (write_place error))) }
+    ensures before { take (length out.old.items) out.new.items ≡ out.old.items }
 {
     out.extend_from_slice(write_name(error))?;
     let Some(index) = write_place(error) else {

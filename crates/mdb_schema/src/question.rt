@@ -1,19 +1,22 @@
-//! What a question says of itself, before a table is looked at.
+//! What a question says of itself: the tests of its words, before the keys of an index are looked
+//! at.
 ghost use Rattle.std.specs.Prelude.{◌≡◌, ◌||◌, not};
 ghost use Rattle.mdb_schema.specs.Answer.{has_argument, may_ask, may_name, needs_argument};
 ghost use Rattle.mdb_schema.specs.Answer.{is_prefix_name, own_name};
 
-use mdb_schema::{Ask, IndexDef, Query};
+use crate::ask::Ask;
+use crate::index_def::IndexDef;
+use crate::query::Query;
 
 /// Whether a question's name of an index ends in `_prefix`.
-pub(crate) fn is_prefix_name(name: &str) -> bool
+pub fn is_prefix_name(name: &str) -> bool
     ensures { result ≡ is_prefix_name name.now }
 {
     name.as_bytes().ends_with(b"_prefix")
 }
 
 /// The index's own name, in a question's name of it.
-pub(crate) fn own_name(name: &str) -> &str
+pub fn own_name(name: &str) -> &str
     ensures { result.now ≡ own_name name.now }
 {
     match name.strip_suffix("_prefix") {
@@ -23,14 +26,14 @@ pub(crate) fn own_name(name: &str) -> &str
 }
 
 /// Whether a question has an argument.
-pub(crate) fn has_argument(query: &Query) -> bool
+pub fn has_argument(query: &Query) -> bool
     ensures { result ≡ has_argument query.now }
 {
     query.args().len() > 0
 }
 
 /// Whether a question of these words may name an index as it does.
-pub(crate) fn may_name(ask: Ask, query: &Query) -> bool
+pub fn may_name(ask: Ask, query: &Query) -> bool
     ensures { result ≡ may_name ask query.now }
 {
     match ask {
@@ -40,7 +43,7 @@ pub(crate) fn may_name(ask: Ask, query: &Query) -> bool
 }
 
 /// Whether a question of these words may be asked of an index.
-pub(crate) fn may_ask(ask: Ask, index: &IndexDef) -> bool
+pub fn may_ask(ask: Ask, index: &IndexDef) -> bool
     ensures { result ≡ may_ask ask index.now }
 {
     match ask {
@@ -50,7 +53,7 @@ pub(crate) fn may_ask(ask: Ask, index: &IndexDef) -> bool
 }
 
 /// Whether a question has an argument where its words need one.
-pub(crate) fn has_enough(ask: Ask, query: &Query) -> bool
+pub fn has_enough(ask: Ask, query: &Query) -> bool
     ensures { result ≡ (not (needs_argument ask) || has_argument query.now) }
 {
     match ask {

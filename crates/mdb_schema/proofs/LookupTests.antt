@@ -1,20 +1,15 @@
--- Where a question looks, test by test, and what its refusals tell.
-use Rattle.std.proofs.Common.{◌≡◌, ◌∙◌, ℕ, List, [], ◌∷◌, Bool, true, false, not, Option, Some, None, Ok, Err, slice_get, refl, sym, ap, subst}
+-- Where a question looks, test by test.
+use Rattle.std.proofs.Common.{◌≡◌, ◌∙◌, ℕ, List, [], ◌∷◌, Bool, true, false, not, Option, Some, None, Ok, Err, slice_get, refl, sym, ap}
 use Rattle.std.specs.Prelude.{◌||◌}
 use Rattle.mdb_datum.specs.Doc.{Doc}
 use Rattle.mdb_encode.specs.ArgRefusal.{arg_count}
 use Rattle.mdb_encode.specs.Bytes.{Bytes}
 use Rattle.mdb_schema.specs.Answer.{Asked, Lookup, no_prefix_name, unknown_index, not_unique, bad_argument, own_name, may_name, may_ask, needs_argument, has_argument, key_asked, lookup_of}
 use Rattle.mdb_schema.specs.Query.{Query}
-use Rattle.mdb_schema.specs.Refusals.{ask_error}
 use Rattle.mdb_schema.specs.Schema.{IndexSchema, TableSchema, index_place}
 use Rattle.mdb_schema.specs.Tests.{◌>>=◌, needed, passed}
 use Rattle.mdb_schema.specs.declared.ask.Ask.{Ask}
 use Rattle.mdb_schema.specs.declared.ask.Ask.TheVariants.{First, Last, Get, GetReverse, Lower, ReverseLower, Longest}
-use Rattle.mdb_schema.specs.declared.ask_error.AskError.{AskError}
-use Rattle.table_index.specs.inner.Lookups.{AnswersAskedKey, AnswersLookup, key_or_empty}
-
--- ---- the tests in their order
 
 -- what is asked by the same name and arguments
 same_may : (a b : Ask) (q : Query) → may_name a (record q { ask = b }) ≡ may_name a q
@@ -30,12 +25,13 @@ same_key : (i : IndexSchema) (b : Ask) (q : Query) (ds : List Doc) → key_asked
 same_key i b q [] = refl
 same_key i b q (d ∷ ds) = refl
 
+-- with the key the look-up is whole
+abbrev pub by_key : ℕ → IndexSchema → Asked Bytes → Asked Lookup
+by_key place i k = k >>= (λ key. Ok (record { place = place; index = i; key = key }))
+
 module _ (t : TableSchema) (a : Ask) (asked : Query) where
   abbrev q : Query
   q = record asked { ask = a }
-
-  abbrev by_key : ℕ → IndexSchema → Asked Bytes → Asked Lookup
-  by_key place i k = k >>= (λ key. Ok (record { place = place; index = i; key = key }))
 
   abbrev by_enough : ℕ → IndexSchema → Bool → Asked Lookup
   by_enough place i b = passed (bad_argument arg_count) b >>= (λ enough. by_key place i (key_asked i q q.args))
@@ -57,22 +53,6 @@ module _ (t : TableSchema) (a : Ask) (asked : Query) where
       → may_ask q.ask i ≡ true → (not (needs_argument q.ask) || has_argument q) ≡ true → lookup_of t q ≡ by_key place i (key_asked i asked asked.args)
   all_passed place i named placed there able enough =
       ap by_name (same_may a a asked ∙ named) ∙ ap by_place placed ∙ ap (by_index place) there ∙ ap (by_able place i) able ∙ ap (by_enough place i) enough ∙ ap (by_key place i) (same_key i a asked asked.args)
-
-  -- the refusal of a key is that of the question
-  by_refused : (place : ℕ) (i : IndexSchema) (k : Asked Bytes) (e : AskError) → AnswersAskedKey k (Err e) → AnswersLookup (by_key place i k) (Err e)
-  by_refused place i (Ok k) e memory = memory
-  by_refused place i (Err why) e told = let same : e ≡ ask_error why = cc in ap Err same
-
-  by_found : (place : ℕ) (i : IndexSchema) (k : Asked Bytes) (found : Option Bytes) → AnswersAskedKey k (Ok found) → AnswersLookup (by_key place i k) (Ok (record { place = place; index = i; key = key_or_empty found }))
-  by_found place i (Ok k) found same = ap (λ (key : Bytes). record { place = place; index = i; key = key }) same
-  by_found place i (Err why) found told = cc
-
-  pub key_refused : (place : ℕ) (i : IndexSchema) (e : AskError) → lookup_of t q ≡ by_key place i (key_asked i asked asked.args) → AnswersAskedKey (key_asked i asked asked.args) (Err e) → AnswersLookup (lookup_of t q) (Err e)
-  key_refused place i e walked told = subst (λ (r : Asked Lookup). AnswersLookup r (Err e)) (sym walked) (by_refused place i (key_asked i asked asked.args) e told)
-
-  pub key_found : (place : ℕ) (i : IndexSchema) (found : Option Bytes) → lookup_of t q ≡ by_key place i (key_asked i asked asked.args) → AnswersAskedKey (key_asked i asked asked.args) (Ok found)
-      → AnswersLookup (lookup_of t q) (Ok (record { place = place; index = i; key = key_or_empty found }))
-  key_found place i found walked told = subst (λ (r : Asked Lookup). AnswersLookup r (Ok (record { place = place; index = i; key = key_or_empty found }))) (sym walked) (by_found place i (key_asked i asked asked.args) found told)
 
   -- ---- what is found there
 

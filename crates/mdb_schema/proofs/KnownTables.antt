@@ -1,25 +1,16 @@
--- The names of the rules of rows: a write to a table of the schema is never told that there is no
--- table.
-use Rattle.std.proofs.Common.{◌≡◌, refl, ap, subst, sym, ◌∙◌, ℕ, List, [], ◌∷◌, ◌++◌, Option, Some, None, Ok, Err, Bool, true, false, slice_get}
+-- A write to a table of the schema is never told that there is no table.
+use Rattle.std.proofs.Common.{◌≡◌, subst, ℕ, List, [], ◌∷◌, Option, Some, None, Ok, Err, Bool, true, false}
 use Rattle.std.specs.Bool.{⊤}
-use Rattle.std.specs.Prelude.{codes, option_and_then, option_map}
-use Rattle.mdb_datum.specs.Bytes.{Bytes}
+use Rattle.std.specs.Prelude.{codes}
 use Rattle.mdb_datum.specs.Pairs.{first_item}
 use Rattle.mdb_datum.specs.Row.{Fields}
-use Rattle.mdb_encode.specs.KeyRefusal.{wrong_kind, out_of_range, bad_uuid, too_many, too_long}
 use Rattle.mdb_encode.specs.Keys.{Keyed, keys}
-use Rattle.mdb_schema.specs.Refusals.{write_error}
-use Rattle.mdb_schema.specs.Schema.{DbSchema, TableSchema, IndexSchema, table_place, index_place}
+use Rattle.mdb_schema.specs.Schema.{DbSchema, TableSchema, index_place}
 use Rattle.mdb_schema.specs.State.{State, Table, table_at, row_at, id_keys}
 use Rattle.mdb_schema.specs.Tests.{◌>>=◌, needed, passed, each}
 use Rattle.mdb_schema.specs.Write.{WriteRefusal, unknown_table, no_id, bad_key, missing, key_taken, not_found, Tested, keys_at, id_of, takes, leaves_free, Placed, indexes_of, put_row, remove_row, Write, put, remove, step, Stepped, table_of}
-use Rattle.client_script.specs.RefusedWord.{write_word, index_part}
-use Rattle.client_script.specs.RefusedWord as said
-use Rattle.client_script.specs.Turn as turns
-use Rattle.client_session.specs.inner.RuleName.{write_name, write_place, index_part_at, index_at, name_part}
 
--- ---- the table is there
-
+-- another refusal than that there is no table
 abbrev pub IsOther : WriteRefusal → Type 0
 IsOther unknown_table = ⊥
 IsOther no_id = ⊤
@@ -73,29 +64,3 @@ known_step schema s (remove name row) t there = rw there (known_then (remove_row
 
 pub other_rule : (schema : DbSchema) (s : State) (w : Write) (t : Table) (why : WriteRefusal) → table_at schema s (table_of w) ≡ Some t → step schema s w ≡ Err why → IsOther why
 other_rule schema s w t why there refuses = subst (λ (r : Stepped). IsKnown r) refuses (known_step schema s w t there)
-
--- ---- the name of a rule
-
-one_index : (i : Option IndexSchema) → name_part (option_map (λ (x : IndexSchema). x.name) i) ≡ said.index_name_part i
-one_index None = refl
-one_index (Some i) = refl
-
-one_table : (t : Option TableSchema) (index : ℕ) → name_part (option_and_then (λ (t : TableSchema). option_map (λ (i : IndexSchema). i.name) (slice_get t.indexes index)) t) ≡ index_part (turns.indexes_in t) index
-one_table None index = refl
-one_table (Some t) index = one_index (slice_get t.indexes index)
-
--- the name of the table's index, by the table's place and by its name
-index_same : (schema : DbSchema) (table : Bytes) (place index : ℕ) → table_place table schema ≡ Some place → name_part (index_at schema place index) ≡ index_part (turns.indexes_of schema table) index
-index_same schema table place index there = one_table (slice_get schema place) index ∙ ap (λ (p : Option ℕ). index_part (turns.indexes_at schema p) index) (sym there)
-
-pub rule_same : (schema : DbSchema) (table : Bytes) (place : ℕ) (why : WriteRefusal) → IsOther why → table_place table schema ≡ Some place → write_name (write_error why) ++ index_part_at schema place (write_place (write_error why)) ≡ write_word (turns.indexes_of schema table) why
-rule_same schema table place unknown_table other there = absurd other
-rule_same schema table place no_id other there = refl
-rule_same schema table place (bad_key index wrong_kind) other there = ap (λ (b : Bytes). codes "wrong-kind" ++ b) (index_same schema table place index there)
-rule_same schema table place (bad_key index out_of_range) other there = ap (λ (b : Bytes). codes "out-of-range" ++ b) (index_same schema table place index there)
-rule_same schema table place (bad_key index bad_uuid) other there = ap (λ (b : Bytes). codes "bad-uuid" ++ b) (index_same schema table place index there)
-rule_same schema table place (bad_key index too_many) other there = ap (λ (b : Bytes). codes "too-many" ++ b) (index_same schema table place index there)
-rule_same schema table place (bad_key index too_long) other there = ap (λ (b : Bytes). codes "too-long" ++ b) (index_same schema table place index there)
-rule_same schema table place (missing index) other there = ap (λ (b : Bytes). codes "missing" ++ b) (index_same schema table place index there)
-rule_same schema table place (key_taken index) other there = ap (λ (b : Bytes). codes "key-taken" ++ b) (index_same schema table place index there)
-rule_same schema table place not_found other there = refl

@@ -1,4 +1,5 @@
--- The names of the rules that a line may break.
+-- The rules that a line may break, as a session holds them, and their names as they are printed.
+-- `RefusedWord.antt` has the names of the refusals that they tell.
 use Rattle.std.specs.Prelude.{◌++◌, ℕ, [], ◌∷◌, Option, Some, None, option_map, option_and_then, slice_get, codes, ⊤}
 use Rattle.mdb_datum.specs.Bytes.{Bytes}
 use Rattle.mdb_schema.specs.Schema.{DbSchema, TableSchema, IndexSchema}
@@ -6,8 +7,15 @@ use Rattle.mdb_schema.specs.declared.ask_error.AskError.{AskError}
 use Rattle.mdb_schema.specs.declared.ask_error.AskError.TheVariants as ask_errors
 use Rattle.mdb_schema.specs.declared.write_error.WriteError.{WriteError}
 use Rattle.mdb_schema.specs.declared.write_error.WriteError.TheVariants as write_errors
-use Rattle.run_check.specs.declared.rule.Rule.{Rule}
-use Rattle.run_check.specs.declared.rule.Rule.TheVariants as rules
+use Rattle.client_script.specs.declared.rule.Rule.{Rule}
+use Rattle.client_script.specs.declared.rule.Rule.TheVariants as rules
+
+-- the rule of a question; none for want of memory
+abbrev pub question_rule : AskError → Option Rule
+question_rule ask_errors.Memory = None
+question_rule e = Some (rules.Question e)
+
+-- ---- names
 
 abbrev pub question_name : AskError → Bytes
 question_name ask_errors.Memory = codes "memory"
@@ -67,6 +75,8 @@ index_part_at schema table (Some index) = name_part (index_at schema table index
 
 abbrev pub rule_name : DbSchema → Rule → Bytes
 rule_name schema rules.TransactionOpen = codes "transaction-open"
+rule_name schema rules.CommitsSpent = codes "commits-spent"
+rule_name schema rules.IdsSpent = codes "ids-spent"
 rule_name schema rules.NoTransaction = codes "no-transaction"
 rule_name schema rules.WriteOpen = codes "write-open"
 rule_name schema rules.ReadOnly = codes "read-only"
@@ -77,7 +87,7 @@ rule_name schema rules.UnknownTable = codes "unknown-table"
 rule_name schema (rules.Question e) = question_name e
 rule_name schema (rules.Row table e) = write_name e ++ index_part_at schema table (write_place e)
 
--- rules that are no question's or row's
+-- rules of the line itself, and no question's or row's
 abbrev pub IsOwnRule : Rule → Type 0
 IsOwnRule (rules.Question e) = ⊥
 IsOwnRule (rules.Row table e) = ⊥

@@ -6,11 +6,11 @@ use Rattle.mdb_encode.specs.Keys.{keys}
 use Rattle.mdb_schema.specs.Schema.{TableSchema}
 use Rattle.mdb_schema.specs.State.{full_key}
 use Rattle.mdb_schema.specs.Tests.{◌>>=◌, passed, each}
-use Rattle.mdb_schema.specs.Write.{Tested, Placed, WriteRefusal, indexes_of, missing, keys_at, has_key, takes}
+use Rattle.mdb_schema.specs.ErrorsTold.{TellsRefusal}
+use Rattle.mdb_schema.specs.Write.{Tested, Placed, WriteRefusal, full_keys_at, indexes_of, missing, keys_at, has_key, takes}
 use Rattle.mdb_schema.proofs.Chains.{passed_on, each_parts}
 use Rattle.mdb_schema.proofs.PassedTests.{goes_on}
 use Rattle.mdb_schema.specs.declared.write_error.WriteError.{WriteError}
-use Rattle.table_index.specs.inner.Keys.{TellsRefusal, full_keys_at}
 
 -- the same refusal of another value
 err_as : {A : Type 0} (v w : WriteRefusal) → v ≡ w → ◌≡◌ {A = Tested A} (Err v) (Err w)
