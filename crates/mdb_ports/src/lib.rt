@@ -34,6 +34,3 @@ pub use mem_files::MemFiles;
 pub use mem_sink::MemSink;
 pub use out_sink::OutSink;
 pub use sink::Sink;
-
-#[cfg(test)]
-mod tests;

@@ -14,10 +14,13 @@ use mdb_ports::Files;
 use run_check::{Verdict, check_output};
 use run_io::{Inputs, load, load_output, output_refusal, refusal_of};
 use std::alloc::{AllocError, Global};
+use std::sync::Wait;
+use std::thread::Threads;
 
 /// The output of the check of these files. The inputs are loaded first, then the output, and then it
 /// is checked. It takes memory for the files' bytes, the scripts and what the check keeps.
-pub fn checked<F: Files>(
+pub fn checked<R: Threads + Wait + Sync, F: Files>(
+    rt: &R,
     alloc: Global,
     named: &CheckedFiles,
     files: &mut F,
@@ -31,7 +34,13 @@ pub fn checked<F: Files>(
         → check_named words ≡ Some (checked_of named.now)
         → IsAnswer words seen output.status output.text.items) }
 {
-    match load(alloc, files, &named.inputs.schema, &named.inputs.clients) {
+    match load(
+        rt,
+        alloc,
+        files,
+        &named.inputs.schema,
+        &named.inputs.clients,
+    ) {
         Ok(inputs) => output_checked(alloc, named, &inputs, files),
         Err(error) => refusal_of(alloc, &named.inputs, error),
     }

@@ -64,7 +64,7 @@ fn answered<R: Threads + Wait + Sync, F: Files, G: Gate + Sync>(
     match command {
         Some(Command::Run(named)) => loaded(rt, alloc, &named, files, gate),
         Some(Command::Make(numbers)) => summed_up(rt, alloc, gate, &numbers),
-        Some(Command::Check(named)) => checked(alloc, &named, files),
+        Some(Command::Check(named)) => checked(rt, alloc, &named, files),
         None => usage(alloc),
     }
 }
@@ -99,7 +99,7 @@ fn loaded<R: Threads + Wait + Sync, F: Files, G: Gate + Sync>(
         IfOk result (λ output. (words : List Bytes) → run_named words ≡ Some (named_of named.now)
         → IsAnswer words seen output.status output.text.items) }
 {
-    match load(alloc, files, &named.schema, &named.clients) {
+    match load(rt, alloc, files, &named.schema, &named.clients) {
         Ok(inputs) => output_of(rt, alloc, gate, named.names(), inputs),
         Err(error) => refusal_of(alloc, named, error),
     }

@@ -1,15 +1,17 @@
 //! The top call over files and a sink in memory: worked sessions, each status with its text, and a
 //! failure at each call and each allocation.
-use super::*;
-use crate::tests::clients::{are_sixty_four, are_two_hundred};
+use crate::run::run;
 use mdb_datum::Text;
-use mdb_ports::{CallList, FileList, Gate, MemFiles, MemSink};
+use mdb_ports::{CallList, FileList, Gate, MemFiles, OpenGate};
+use std::alloc::{AllocError, Global};
 use std::sync::Wait;
 use std::test::Fail;
 use std::thread::Threads;
+use worked_runs::{
+    ANN, ANN_OUT, File, ONE_TABLE, Run, TWO_TABLES, Want, files_of, is_wanted, list, parted, sink,
+};
 
 mod arguments;
-mod catalogue;
 mod check;
 mod clients;
 mod held;
@@ -17,43 +19,9 @@ mod hostile;
 mod limits;
 mod made;
 mod sessions;
-mod tracked;
-mod watches;
-
-/// A text, and how often it stands.
-type Part = (&'static str, usize);
-
-/// A file's name, and the parts of its text.
-type File = (&'static str, &'static [Part]);
-
-/// What the output of a run has to be.
-#[derive(Clone, Copy)]
-enum Want {
-    /// This text under this status.
-    Ends(u8, &'static str),
-    /// Under status 6 the front of this text: so many pieces of 7 bytes.
-    Front(&'static str, u8),
-    /// Under status 0 so many lines, the last of which are these.
-    Lines(usize, &'static str),
-    /// One of these texts under status 0.
-    OneOf(&'static [&'static str]),
-    /// Nothing under status 4, or else one of these texts under 0.
-    AllOrNothing(&'static [&'static str]),
-    /// The answers of two clients of a hundred commits each.
-    TwoHundred,
-    /// The answers of sixty-four clients of a commit each.
-    SixtyFour,
-}
-
-/// A run: its words, its files, the call of the files and that of the sink that fail (counted from
-/// 1, and 0 for none), and its output.
-type Run = (&'static str, &'static [File], (u64, u64), Want);
 
 /// A schema, a script, and the status and the text of their run.
 type Row = (&'static str, &'static str, u8, &'static str);
-
-const SCHEMA: &str = r#"{"memdb":1,"tables":{"t":{"indexes":{
-"id":{"unique":true,"indexer":{"kind":"text","field":"name"}}}}}}"#;
 
 const DEFAULTS: &str = r#"{"memdb":1,"tables":{"t":{"indexes":{
 "id":{"unique":true,"allow_missing":false,
@@ -69,10 +37,6 @@ const TWO_INDEXES: &str = r#"{"memdb":1,"tables":{"t":{"indexes":{
 "id":{"unique":true,"indexer":{"kind":"text","field":"name"}},
 "x":{"indexer":{"kind":"text","field":"name"}}}}}}"#;
 
-const TWO_TABLES: &str = r#"{"memdb":1,"tables":{
-"t":{"indexes":{"id":{"unique":true,"indexer":{"kind":"text","field":"name"}}}},
-"u":{"indexes":{"id":{"unique":true,"indexer":{"kind":"text","field":"name"}}}}}}"#;
-
 const NO_ID: &str = r#"{"memdb":1,"tables":{"t":{"indexes":{
 "x":{"indexer":{"kind":"text","field":"a"}}}}}}"#;
 
@@ -83,6 +47,15 @@ const PREFIX_NAME: &str = r#"{"memdb":1,"tables":{"t":{"indexes":{
 "id":{"unique":true,"indexer":{"kind":"text","field":"a"}},
 "x_prefix":{"indexer":{"kind":"text","field":"a"}}}}}}"#;
 
+/// A schema of this version can't mark a table as tracked.
+const OF_VERSION_1: &str = r#"{"memdb":1,"tables":{
+"t":{"tracked":true,"indexes":{"id":{"unique":true,"indexer":{"kind":"text","field":"name"}}}},
+"u":{"indexes":{"id":{"unique":true,"indexer":{"kind":"text","field":"name"}}}}}}"#;
+
+const OF_VERSION_3: &str = r#"{"memdb":3,"tables":{
+"t":{"tracked":true,"indexes":{"id":{"unique":true,"indexer":{"kind":"text","field":"name"}}}},
+"u":{"indexes":{"id":{"unique":true,"indexer":{"kind":"text","field":"name"}}}}}}"#;
+
 const BAD_INDEX: &str = r#"{"memdb":1,"tables":{"t":{"indexes":{"a\"b\u0001\n":1,"id":1}}}}"#;
 
 const USAGE: &str = "usage: memdb run SCHEMA CLIENT...\n\
@@ -90,40 +63,6 @@ const USAGE: &str = "usage: memdb run SCHEMA CLIENT...\n\
 \x20      memdb check SCHEMA CLIENT... OUTPUT\n";
 
 const EMPTY: &str = "write\ncommit\nread\n";
-
-const ANN: &str = r#"write
-insert t {"name":"ann","age":3}
-commit
-read
-first t id ["ann"]
-first t id ["bob"]
-"#;
-
-const ANN_OUT: &str = r#"client 1 c1
-1: write @0
-2: inserted
-3: commit @1
-4: read @1
-5: row {"age":3,"name":"ann"}
-6: none
-"#;
-
-const TWICE: &str = r#"write
-insert t {"name":"ann","age":3}
-insert t {"name":"ann"}
-commit
-read
-first t id ["ann"]
-"#;
-
-const TWICE_OUT: &str = r#"client 1 c1
-1: write @0
-2: inserted
-3: replaced
-4: commit @1
-5: read @1
-6: row {"name":"ann"}
-"#;
 
 const GAP_OUT: &str = "client 1 c1\n1: write @0\n3: refused write-open\n";
 
@@ -140,12 +79,10 @@ const ENDS: &str = "client 1 c1\n1: write @0\n2: commit @1\n3: read @1\n";
 
 const NO_LINES: &str = "client 1 c1\n";
 
-static ROWS: [Row; 15] = [
-    (SCHEMA, ANN, 0, ANN_OUT),
+static ROWS: [Row; 12] = [
     (DEFAULTS, ANN, 0, ANN_OUT),
-    (SCHEMA, TWICE, 0, TWICE_OUT),
-    (SCHEMA, EMPTY, 0, ENDS),
-    (SCHEMA, "write\r\n commit\nread", 0, ENDS),
+    (ONE_TABLE, EMPTY, 0, ENDS),
+    (ONE_TABLE, "write\r\n commit\nread", 0, ENDS),
     ("", ANN, 2, "schema syntax\n"),
     ("{}\n", EMPTY, 2, "schema bad-shape\n"),
     (
@@ -154,14 +91,13 @@ static ROWS: [Row; 15] = [
         2,
         "schema bad-name \"t\" \"a\\\"b\\u0001\\n\"\n",
     ),
-    (SCHEMA, "", 0, NO_LINES),
     (
-        SCHEMA,
+        ONE_TABLE,
         "commit\n",
         0,
         "client 1 c1\n1: refused no-transaction\n",
     ),
-    (SCHEMA, "write\n\nend\n", 0, GAP_OUT),
+    (ONE_TABLE, "write\n\nend\n", 0, GAP_OUT),
     (FOLDED, ANN, 0, ANN_OUT),
     (BY_UUID, ANN, 0, NO_UUID_OUT),
     (TWO_INDEXES, ANN, 0, ANN_OUT),
@@ -169,141 +105,43 @@ static ROWS: [Row; 15] = [
 ];
 
 /// A schema and a script of which the rule that is told is broken: the schema's comes first.
-static BROKEN: [Row; 11] = [
+static BROKEN: [Row; 13] = [
     (
-        SCHEMA,
+        ONE_TABLE,
         "write\nwrites\n",
         3,
         "script 1 line 2 unknown-word\n",
     ),
-    (SCHEMA, "wait\n", 3, "script 1 line 1 bad-shape\n"),
-    (SCHEMA, "\n\nwait a.b\n", 3, "script 1 line 3 bad-name\n"),
-    (SCHEMA, "insert t {", 3, "script 1 line 1 bad-doc\n"),
-    (SCHEMA, "wait\ninsert t {", 3, "script 1 line 1 bad-shape\n"),
-    (SCHEMA, "check w\nwait\n", 3, "script 1 line 2 bad-shape\n"),
+    (ONE_TABLE, "wait\n", 3, "script 1 line 1 bad-shape\n"),
+    (ONE_TABLE, "\n\nwait a.b\n", 3, "script 1 line 3 bad-name\n"),
+    (ONE_TABLE, "insert t {", 3, "script 1 line 1 bad-doc\n"),
+    (
+        ONE_TABLE,
+        "wait\ninsert t {",
+        3,
+        "script 1 line 1 bad-shape\n",
+    ),
+    (
+        ONE_TABLE,
+        "check w\nwait\n",
+        3,
+        "script 1 line 2 bad-shape\n",
+    ),
     (NO_ID, "check w\n", 2, "schema no-id \"t\"\n"),
     (COMMON_ID, "", 2, "schema id-not-unique \"t\" \"id\"\n"),
     (PREFIX_NAME, "", 2, "schema bad-name \"t\" \"x_prefix\"\n"),
     (NO_ID, "commit\n", 2, "schema no-id \"t\"\n"),
     (NO_ID, "wait\n", 2, "schema no-id \"t\"\n"),
+    (OF_VERSION_1, "write\n", 2, "schema bad-shape \"t\"\n"),
+    (OF_VERSION_3, "write\n", 2, "schema bad-version\n"),
 ];
-
-/// The words that blanks part in a text.
-fn parted(alloc: Global, text: &str) -> Result<Vec<Text>, AllocError> {
-    let mut words = Vec::new(alloc);
-    for word in text.split_terminator(' ') {
-        push_word(alloc, &mut words, word)?;
-    }
-    Ok(words)
-}
-
-/// Adds a word of the command line.
-fn push_word(alloc: Global, words: &mut Vec<Text>, word: &str) -> Result<(), AllocError> {
-    words.push(Text::of(alloc, word)?)?;
-    Ok(())
-}
-
-/// Adds a text that stands so often.
-fn add_part(alloc: Global, text: &mut Vec<u8>, part: Part) -> Result<(), AllocError> {
-    text.extend_from_slice(part.0.repeat(alloc, part.1)?.as_bytes())
-}
-
-/// The text of these parts.
-fn joined(alloc: Global, parts: &[Part]) -> Result<Vec<u8>, AllocError> {
-    let mut text = Vec::new(alloc);
-    for at in 0..parts.len() {
-        add_part(alloc, &mut text, parts[at])?;
-    }
-    Ok(text)
-}
-
-/// Lists a file.
-fn list(alloc: Global, files: &mut FileList, name: &str, text: Vec<u8>) -> Result<(), AllocError> {
-    files.push((Text::of(alloc, name)?, text))
-}
-
-/// The files of a list.
-fn listed(alloc: Global, files: &[File]) -> Result<FileList, AllocError> {
-    let mut list = FileList::new(alloc);
-    for at in 0..files.len() {
-        list_parts(alloc, &mut list, files[at])?;
-    }
-    Ok(list)
-}
-
-/// Lists a file whose text has these parts.
-fn list_parts(alloc: Global, files: &mut FileList, file: File) -> Result<(), AllocError> {
-    list(alloc, files, file.0, joined(alloc, file.1)?)
-}
-
-/// Lists a file of this text.
-fn list_text(
-    alloc: Global,
-    files: &mut FileList,
-    name: &str,
-    text: &[u8],
-) -> Result<(), AllocError> {
-    list(alloc, files, name, Vec::from_slice(alloc, text)?)
-}
 
 /// The files `S` and `c1`.
 fn two_files(alloc: Global, schema: &str, client: &[u8]) -> Result<FileList, AllocError> {
     let mut files = FileList::new(alloc);
-    list_text(alloc, &mut files, "S", schema.as_bytes())?;
-    list_text(alloc, &mut files, "c1", client)?;
+    list(alloc, &mut files, "S", schema.as_bytes())?;
+    list(alloc, &mut files, "c1", client)?;
     Ok(files)
-}
-
-/// The call that fails, counted from 1: at 0 none does.
-fn failing(alloc: Global, call: u64) -> Result<CallList, AllocError> {
-    let mut calls = CallList::new(alloc);
-    calls.push(call)?;
-    Ok(calls)
-}
-
-/// A sink that takes 7 bytes a call, of which one may fail.
-fn sink(alloc: Global, call: u64) -> Result<MemSink, AllocError> {
-    MemSink::of(alloc, 1_048_576, 7, failing(alloc, call)?)
-}
-
-/// Whether these are the bytes of one of the texts.
-fn is_one_of(bytes: &[u8], texts: &[&str]) -> bool {
-    texts.iter().any(|text| text.as_bytes() == bytes)
-}
-
-/// Whether these are the first bytes of a text, in so many pieces, under status 6.
-fn is_front(status: u8, bytes: &[u8], text: &str, pieces: u8) -> bool {
-    status == 6 && text.as_bytes().get(..usize::from(pieces) * 7) == Some(bytes)
-}
-
-/// Whether these are so many lines, the last of which are those of a text.
-fn are_lines(bytes: &[u8], count: usize, last: &str) -> bool {
-    bytes.iter().filter(|byte| **byte == b'\n').count() == count && bytes.ends_with(last.as_bytes())
-}
-
-/// Whether what a run wrote under a status is all of one of the texts, or nothing for want of
-/// memory.
-fn is_all_or_nothing(status: u8, bytes: &[u8], texts: &[&str]) -> bool {
-    match status {
-        0 => is_one_of(bytes, texts),
-        4 => bytes.is_empty(),
-        _ => false,
-    }
-}
-
-/// Whether a status and what was written under it are as wanted. Want of memory is an error, where
-/// nothing else is wanted.
-fn is_wanted(alloc: Global, status: u8, bytes: &[u8], want: Want) -> Result<bool, AllocError> {
-    match want {
-        Want::AllOrNothing(texts) => Ok(is_all_or_nothing(status, bytes, texts)),
-        _ if status == 4 && bytes.is_empty() => Err(AllocError),
-        Want::OneOf(texts) => Ok(is_all_or_nothing(status, bytes, texts)),
-        Want::Ends(wanted, text) => Ok(status == wanted && bytes == text.as_bytes()),
-        Want::Front(text, pieces) => Ok(is_front(status, bytes, text, pieces)),
-        Want::Lines(count, last) => Ok(status == 0 && are_lines(bytes, count, last)),
-        Want::TwoHundred => are_two_hundred(alloc, bytes),
-        Want::SixtyFour => are_sixty_four(alloc, bytes),
-    }
 }
 
 /// Whether the run of words over files is as wanted, past a gate and over a sink whose call of this
@@ -318,8 +156,8 @@ fn is_run<R: Threads + Wait + Sync, G: Gate + Sync>(
     want: Want,
 ) -> Result<bool, AllocError> {
     let mut out = sink(alloc, call)?;
-    let status = run::run(rt, alloc, words, files, &mut out, gate);
-    is_wanted(alloc, status, out.bytes(), want)
+    let status = run(rt, alloc, words, files, &mut out, gate);
+    is_wanted(status, out.bytes(), want)
 }
 
 /// The same, of words in a text.
@@ -332,13 +170,8 @@ fn is_run_past<R: Threads + Wait + Sync, G: Gate + Sync>(
     call: u64,
     want: Want,
 ) -> Result<bool, AllocError> {
-    let words = parted(alloc, words)?;
+    let words = parted(alloc, words, ' ')?;
     is_run(rt, alloc, &words, files, gate, call, want)
-}
-
-/// Files in memory, of which one call may fail.
-fn files_of(alloc: Global, files: &[File], call: u64) -> Result<MemFiles, AllocError> {
-    Ok(MemFiles::of(listed(alloc, files)?, failing(alloc, call)?))
 }
 
 /// Whether a run's output is as it says.
@@ -397,7 +230,7 @@ fn the_first_rule_that_is_broken_is_told(rt: HostRuntime) -> Result<(), Fail> {
     all_answered(&rt, rt.alloc(), &BROKEN)
 }
 
-const LAWFUL: &[File] = &[("S", &[(SCHEMA, 1)]), ("c1", &[(ANN, 1)])];
+const LAWFUL: &[File] = &[("S", &[(ONE_TABLE, 1)]), ("c1", &[(ANN, 1)])];
 
 const NO_COMMAND: Want = Want::Ends(1, USAGE);
 
@@ -421,7 +254,7 @@ fn words_that_are_no_command_give_the_usage(rt: HostRuntime) -> Result<(), Fail>
 #[test]
 fn a_script_that_is_no_text_is_told(rt: HostRuntime) -> Result<(), Fail> {
     let want = Want::Ends(3, "script 1 not-text\n");
-    assert!(rt; is_answered(&rt, rt.alloc(), SCHEMA, b"read\n\xff", want)?);
+    assert!(rt; is_answered(&rt, rt.alloc(), ONE_TABLE, b"read\n\xff", want)?);
     Ok(())
 }
 
@@ -433,20 +266,20 @@ const NO_SCHEMA: &[File] = &[("c1", &[(ANN, 1)])];
 
 const NO_CLIENT: &[File] = &[("S", &[("{}", 1)])];
 
-const LINES_OVER: &[File] = &[("S", &[(SCHEMA, 1)]), ("c1", &[("\n", 100_001)])];
+const LINES_OVER: &[File] = &[("S", &[(ONE_TABLE, 1)]), ("c1", &[("\n", 100_001)])];
 
 /// As many lines and bytes as a file may have.
 const LIMIT: &[File] = &[
-    ("S", &[(SCHEMA, 1)]),
+    ("S", &[(ONE_TABLE, 1)]),
     ("c1", &[("\n", 99_999), ("#", 948_577)]),
 ];
 
 const CLIENT_OVER: &[File] = &[
-    ("S", &[(SCHEMA, 1)]),
+    ("S", &[(ONE_TABLE, 1)]),
     ("c1", &[("\n", 99_999), ("#", 948_578)]),
 ];
 
-const SCHEMA_OVER: &[File] = &[("S", &[(SCHEMA, 1), (" ", 1_048_576)])];
+const SCHEMA_OVER: &[File] = &[("S", &[(ONE_TABLE, 1), (" ", 1_048_576)])];
 
 static FILES: [Run; 6] = [
     ("run S c1", NO_SCHEMA, (0, 0), UNREAD_S),
@@ -477,7 +310,12 @@ fn absent_files_and_files_past_a_limit_are_told(rt: HostRuntime) -> Result<(), F
     all_hold(&rt, rt.alloc(), &FILES)
 }
 
-static ALL_OR_NOTHING: [Run; 1] = [("run S c1", LAWFUL, (0, 0), Want::AllOrNothing(&[ANN_OUT]))];
+static ALL_OR_NOTHING: [Run; 1] = [(
+    "run S c1",
+    LAWFUL,
+    (0, 0),
+    Want::AllOrNothing(0, &[ANN_OUT]),
+)];
 
 // With an allocation that is refused the status is 4 and nothing is written, and else it is 0.
 #[test]

@@ -9,3 +9,4 @@ pub mod OneAnswer
 pub mod OneFile
 pub mod Pieces
 pub mod ScriptsInOrder
+pub mod Threads

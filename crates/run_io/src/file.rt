@@ -77,6 +77,3 @@ fn read_into<F: Files>(
         bytes.extend_from_slice(&piece[..count])?;
     }
 }
-
-#[cfg(test)]
-mod tests;

@@ -20,18 +20,21 @@ use crate::texts::Texts;
 use mdb_datum::Text;
 use mdb_ports::Files;
 use std::alloc::Global;
+use std::sync::Wait;
+use std::thread::Threads;
 
 /// The most bytes of an output's file.
 const OUTPUT_LIMIT: usize = 16_777_216;
 
 /// Reads the file of a schema and then those of clients in order, each whole, and only then reads
-/// the bytes as a schema and scripts. It takes memory for the bytes, for one piece of a file, and
-/// for what they read as.
+/// the bytes as a schema and scripts. The scripts are read side by side, as far as the host gives
+/// threads. It takes memory for the bytes, for one piece of a file, and for what they read as.
 ///
 /// # Errors
 /// `Read` and `TooLarge` at the first file that isn't read whole; where all are, `Schema`, and then
 /// `Script` at the first client whose script breaks a rule. `Memory` may come in place of each.
-pub fn load<F: Files>(
+pub fn load<R: Threads + Wait + Sync, F: Files>(
+    rt: &R,
     alloc: Global,
     files: &mut F,
     schema: &Text,
@@ -51,7 +54,7 @@ pub fn load<F: Files>(
         → (result ≡ answer) ⊎ (result ≡ Err Memory) }
 {
     let contents = read_contents(alloc, files, schema, clients.as_slice())?;
-    read_inputs(alloc, &contents)
+    read_inputs(rt, alloc, &contents)
 }
 
 /// Reads the file of an output whole, which may have 16,777,216 bytes. It takes memory for the bytes,
@@ -81,6 +84,3 @@ pub fn load_output<F: Files>(
     let mut piece = new_piece(alloc)?;
     read_file(alloc, files, OUTPUT_LIMIT, name, &mut piece)
 }
-
-#[cfg(test)]
-mod tests;

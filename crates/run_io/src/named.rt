@@ -118,6 +118,3 @@ fn may_name_a_file(word: &Text) -> bool
         bytes => !bytes.contains(&b'\n'),
     }
 }
-
-#[cfg(test)]
-mod tests;

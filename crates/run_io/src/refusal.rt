@@ -49,6 +49,3 @@ pub fn output_refusal(alloc: Global, name: &Text, error: OutputError) -> Result<
         OutputError::TooLarge => too_large(alloc, name),
     }
 }
-
-#[cfg(test)]
-mod tests;

@@ -78,6 +78,3 @@ impl Texts {
         &self.texts
     }
 }
-
-#[cfg(test)]
-mod tests;

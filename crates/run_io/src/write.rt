@@ -26,6 +26,3 @@ pub fn write_all<S: Sink>(out: &mut S, text: &[u8]) -> Result<(), Failed>
     }
     Ok(())
 }
-
-#[cfg(test)]
-mod tests;

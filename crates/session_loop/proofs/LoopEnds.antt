@@ -2,16 +2,15 @@
 use Rattle.std.proofs.Common.{arith, ◌≡◌, refl, ap, sym, ◌∙◌, subst, inl, inr, ℕ, suc, ◌+◌, ◌<◌, ◌≤◌, Bool, true, List, ◌∷◌, [], ◌++◌, length, replicate, Option, Some, None, Result, Ok, Err, IfOk, slice_get}
 use Rattle.std.specs.Prelude.{◌&&◌, IsTrue, option_map}
 use Rattle.std.specs.List.{list_all}
-use Rattle.std.proofs.lemmas.List.{append-nil}
 use Rattle.client_script.specs.Stuck.{Stop, stop_or}
 use Rattle.client_script.specs.declared.line.Line.{Line}
 use Rattle.client_session.proofs.ManyClients.{as_many_after, sessions_from, items_are, later_from, later_long, left_are}
+use Rattle.client_session.proofs.OneMoreLine.{later_again}
+use Rattle.client_session.proofs.OpenTurns.{later_self}
 use Rattle.client_session.specs.Answered.{IsLater}
 use Rattle.client_session.specs.Clients.{AreLater, AreOpened, ArePassesLater, CanClose, callers_back, headed}
 use Rattle.client_session.specs.Progress.{Progress}
 use Rattle.mdb_datum.specs.Bytes.{Bytes}
-use Rattle.mem_txn.proofs.HeldAlong.{prefix_twice}
-use Rattle.mem_txn.proofs.OneHistory.{later_itself}
 use Rattle.mem_txn.specs.CellHistory.{AreComplete, CellHistory, Forest, WatchesHold}
 use Rattle.mem_txn.specs.Checked.{HeldLonger}
 use Rattle.mem_txn.specs.Database.{Caller, Callers, Database, IsOf, IsWhole, cells_seen, new_pass}
@@ -27,39 +26,13 @@ use Rattle.session_loop.specs.inner.Tasks.{AreInLoop, AreUnspent, StandsAt, has_
 
 -- ---- passes and sessions that are later
 
-later_self : (p : Caller) → IsLater p p
-later_self p = record {
-  number = refl;
-  database = refl;
-  schema = refl;
-  book = refl;
-  seen = ([], append-nil p.seen);
-  trees = ([], append-nil p.trees);
-  counts = ([], append-nil p.counts);
-  tries = ([], append-nil p.tries);
-  log = later_itself p.log;
-}
-
-pub later_twice : (p q r : Caller) → IsLater p q → IsLater q r → IsLater p r
-later_twice p q r one two = record {
-  number = two.number ∙ one.number;
-  database = two.database ∙ one.database;
-  schema = two.schema ∙ one.schema;
-  book = two.book ∙ one.book;
-  seen = prefix_twice p.seen q.seen r.seen one.seen two.seen;
-  trees = prefix_twice p.trees q.trees r.trees one.trees two.trees;
-  counts = prefix_twice p.counts q.counts r.counts one.counts two.counts;
-  tries = prefix_twice p.tries q.tries r.tries one.tries two.tries;
-  log = (two.log.0 ∙ one.log.0, prefix_twice p.log.fired q.log.fired r.log.fired one.log.1 two.log.1);
-}
-
 pub all_later_twice : (ss ts us : List Progress) → AreLater ss ts → AreLater ts us → AreLater ss us
 all_later_twice [] [] [] a b = tt
 all_later_twice [] [] (u ∷ us) a b = absurd b
 all_later_twice [] (t ∷ ts) us a b = absurd a
 all_later_twice (s ∷ ss) [] us a b = absurd a
 all_later_twice (s ∷ ss) (t ∷ ts) [] a b = absurd b
-all_later_twice (s ∷ ss) (t ∷ ts) (u ∷ us) a b = (later_twice s.caller t.caller u.caller a.0 b.0, all_later_twice ss ts us a.1 b.1)
+all_later_twice (s ∷ ss) (t ∷ ts) (u ∷ us) a b = (later_again s.caller t.caller u.caller a.0 b.0, all_later_twice ss ts us a.1 b.1)
 
 -- ---- the loop's pass
 
@@ -86,7 +59,7 @@ kept_twice a b c one two =
       was = one.was;
       is = two.is;
       idle = record {
-        later = later_twice one.before one.after two.after one.idle.later idle.later;
+        later = later_again one.before one.after two.after one.idle.later idle.later;
         own = idle.own ∙ one.idle.own;
       };
       made = two.made ∙ one.made;

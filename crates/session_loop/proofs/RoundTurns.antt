@@ -4,7 +4,8 @@ use Rattle.std.proofs.lemmas.Option.{slice_get_read}
 use Rattle.client_session.specs.Clients.{AreLater}
 use Rattle.client_session.specs.Progress.{Progress}
 use Rattle.mem_txn.specs.Database.{Database}
-use Rattle.session_loop.proofs.LoopEnds.{as_many_tasks, later_twice}
+use Rattle.client_session.proofs.OneMoreLine.{later_again}
+use Rattle.session_loop.proofs.LoopEnds.{as_many_tasks}
 use Rattle.session_loop.specs.Polls.{GoesOn}
 use Rattle.session_loop.specs.declared.polled.Polled.{Polled}
 use Rattle.session_loop.specs.declared.round.Round.{Round}
@@ -36,7 +37,7 @@ later_there [] (t ∷ ts) at old new l e on = absurd l
 later_there (s ∷ ss) [] at old new l e on = absurd l
 later_there (s ∷ ss) (t ∷ ts) zero old new l e on =
     let same : t ≡ old = cc in
-    (later_twice s.caller t.caller new.caller l.0 (subst (λ (p : Progress). GoesOn p new) (sym same) on).later, l.1)
+    (later_again s.caller t.caller new.caller l.0 (subst (λ (p : Progress). GoesOn p new) (sym same) on).later, l.1)
 later_there (s ∷ ss) (t ∷ ts) (suc at) old new l e on = (l.0, later_there ss ts at old new l.1 e on)
 
 scripts_there : (ss : List Progress) (at : ℕ) (old new : Progress) → slice_get ss at ≡ Some old → GoesOn old new → scripts_of (slice_set ss at new) ≡ scripts_of ss

@@ -44,6 +44,7 @@ use run_io::words_of;
 use std::alloc::{AllocError, Global};
 use std::process::ExitCode;
 use std::sync::Wait;
+use std::thread::Threads;
 use std::{env, io};
 
 /// The bytes of the stack of the thread that has trees in hand, whatever the host's own limit says.
@@ -63,7 +64,7 @@ fn main(rt: HostRuntime) -> ExitCode {
 
 /// Carries out the clients that the arguments behind the first name, and answers the status, as
 /// [`run::run_loop`] does.
-fn run_arguments<R: Wait, F: Files, S: Sink>(
+fn run_arguments<R: Threads + Wait + Sync, F: Files, S: Sink>(
     rt: &R,
     alloc: Global,
     args: io::Result<env::Args>,

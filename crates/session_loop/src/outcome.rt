@@ -15,13 +15,14 @@ use mdb_ports::Files;
 use run_io::{Inputs, Named, Output, load, refusal_of};
 use std::alloc::{AllocError, Global};
 use std::sync::Wait;
+use std::thread::Threads;
 
 /// As many clients as there may be: a database has 64 passes, and one is the loop's own.
 const MOST_CLIENTS: usize = 63;
 
 /// The output for words and the files that they name. Words that are no command touch no file. It
 /// takes memory for the files' bytes, the scripts and the text.
-pub fn outcome<R: Wait, F: Files>(
+pub fn outcome<R: Threads + Wait + Sync, F: Files>(
     rt: &R,
     alloc: Global,
     words: &[Text],
@@ -40,13 +41,13 @@ pub fn outcome<R: Wait, F: Files>(
 }
 
 /// The output for the files of a command, or for words that are none.
-fn answered<R: Wait, F: Files>(
+fn answered<R: Threads + Wait + Sync, F: Files>(
     rt: &R,
     alloc: Global,
     named: Option<Named>,
     files: &mut F,
 ) -> Result<Output, AllocError>
-    requires { IfSome named (λ n. length n.clients ≤ 63) }
+    requires few { IfSome named (λ n. length n.clients ≤ 63) }
     ensures stays { let seen = observed (F.told files.old) (F.reliable files.old)
         (F.faults files.old) (F.faults files.new) in
         Stays seen (F.told files.new) (F.reliable files.new) }
@@ -64,7 +65,7 @@ fn answered<R: Wait, F: Files>(
 }
 
 /// The output for the files that a command names.
-fn loaded<R: Wait, F: Files>(
+fn loaded<R: Threads + Wait + Sync, F: Files>(
     rt: &R,
     alloc: Global,
     named: &Named,
@@ -79,7 +80,7 @@ fn loaded<R: Wait, F: Files>(
         IfOk result (λ output. (words : List Bytes) → files_named words ≡ Some (named_of named.now)
         → IsAnswer words seen output.status output.text.items) }
 {
-    match load(alloc, files, &named.schema, &named.clients) {
+    match load(rt, alloc, files, &named.schema, &named.clients) {
         Ok(inputs) => output_of(rt, alloc, named.names(), inputs),
         Err(error) => refusal_of(alloc, named, error),
     }

@@ -15,10 +15,11 @@ use mdb_ports::{Failed, Files, Sink};
 use run_io::write_all;
 use std::alloc::{AllocError, Global};
 use std::sync::Wait;
+use std::thread::Threads;
 
 /// Carries out the clients that the words name, over these files, on the caller's thread, and writes
-/// their text to the sink. The words are a schema's file and 1 to 63 clients' files. It answers the
-/// status:
+/// their text to the sink. Only their files' bytes are read as scripts on other threads. The words
+/// are a schema's file and 1 to 63 clients' files. It answers the status:
 ///
 /// - 0: the answers were written, which are answers in one history;
 /// - 1: the words are no command, and the usage was written;
@@ -35,7 +36,7 @@ use std::sync::Wait;
 ///
 /// The sessions are polled in turn, in rounds; a poll carries out one line at most. The call may go on
 /// for ever, for no clause says that a watch that has fired is told so.
-pub fn run_loop<R: Wait, F: Files, S: Sink>(
+pub fn run_loop<R: Threads + Wait + Sync, F: Files, S: Sink>(
     rt: &R,
     alloc: Global,
     words: &[Text],

@@ -12,14 +12,11 @@ use std::alloc::{AllocError, Global};
 use std::marker::Model;
 use std::sync::Wait;
 use std::test::Fail;
+use worked_runs::{USERS, Worked, joined};
 
 mod callers;
+mod runs;
 mod steps;
-mod users;
-mod watches;
-
-/// A script, and the text of its answers in a new database.
-type Case = (&'static str, &'static str);
 
 /// Whether what was told is right. A text that can't be read counts as want of memory, which ends a
 /// test.
@@ -41,13 +38,13 @@ fn script_of(alloc: Global, text: &str) -> Result<Script, AllocError> {
     }
 }
 
-/// A new database over the tables of users, and the pass of its one caller.
-fn new_db(alloc: Global) -> Result<(Db, Passes), AllocError>
+/// A new database under the schema that a text reads as, and the pass of its one caller.
+fn new_db(alloc: Global, schema: &str) -> Result<(Db, Passes), AllocError>
     ensures passes { IfOk result
         (λ made. (opening : Forest) × (made.1 ≡ new_callers made.0 opening 1)) }
     ensures alone { IfOk result (λ made. made.0.callers ≡ 1) }
 {
-    Db::create(alloc, schema_of(alloc, users::SCHEMA)?, 1)
+    Db::create(alloc, schema_of(alloc, schema)?, 1)
 }
 
 /// A database of one caller, and the caller's session.
@@ -70,14 +67,19 @@ impl Model for Solo {
 }
 
 impl Solo {
-    /// A session of the script that a text reads as, in a new database.
+    /// A session of the script that a text reads as, in a new database of users.
     fn opened(alloc: Global, script: &str) -> Result<Solo, AllocError> {
-        Solo::of(alloc, script_of(alloc, script)?)
+        Solo::under(alloc, USERS, script)
+    }
+
+    /// The same under the schema that a text reads as.
+    fn under(alloc: Global, schema: &str, script: &str) -> Result<Solo, AllocError> {
+        Solo::of(alloc, schema, script_of(alloc, script)?)
     }
 
     /// A session of a script in a new database.
-    fn of(alloc: Global, script: Script) -> Result<Solo, AllocError> {
-        let (db, mut passes) = new_db(alloc)?;
+    fn of(alloc: Global, schema: &str, script: Script) -> Result<Solo, AllocError> {
+        let (db, mut passes) = new_db(alloc, schema)?;
         match passes.take() {
             Some(pass) => Ok(Solo {
                 db,
@@ -123,22 +125,25 @@ impl Solo {
     }
 }
 
-/// Whether a script is answered so in a new database.
-fn is_answered<R: Wait>(rt: &R, alloc: Global, case: &Case) -> Told {
-    let mut solo = Solo::opened(alloc, case.0)?;
-    let told = solo.tells(rt, case.1);
-    solo.close(rt);
-    told
+/// A session of the script of a worked session's one client, in a new database, and the length of
+/// the script.
+fn opened_of(alloc: Global, worked: Worked) -> Result<(Solo, usize), AllocError> {
+    let session = worked.session();
+    let script = match session.clients {
+        [(_name, parts), ..] => joined(alloc, parts)?,
+        [] => String::new(alloc),
+    };
+    let solo = Solo::under(alloc, session.schema, &script)?;
+    Ok((solo, script.len()))
 }
 
-/// Fails with the place of the first case that is answered otherwise.
-fn all_answered<R: Wait>(rt: &R, alloc: Global, cases: &[Case]) -> Result<(), Fail> {
-    for at in 0..cases.len() {
-        if !is_answered(rt, alloc, &cases[at])? {
-            return Err(Fail::from(at));
-        }
+/// What the one client of a worked session is told: its output behind the heading.
+fn answers_of(alloc: Global, worked: Worked) -> Result<String, AllocError> {
+    let output = joined(alloc, worked.session().output)?;
+    match output.split_once('\n') {
+        Some((_heading, answers)) => String::from_str(alloc, answers),
+        None => Ok(output),
     }
-    Ok(())
 }
 
 /// What goes to a thread.

@@ -1,8 +1,9 @@
 //! Any bytes at all.
-use super::{ANN, checked};
+use super::checked;
 use run_check::Verdict;
 use std::alloc::{AllocError, Global};
 use std::test::Fail;
+use worked_runs::{ANN_OUT, Worked};
 
 /// The number of the line that is under way behind these bytes, counted from 1.
 fn line_behind(bytes: &[u8]) -> u32 {
@@ -17,16 +18,16 @@ fn line_behind(bytes: &[u8]) -> u32 {
 
 /// Whether an output that is cut behind so many bytes is bad at the line where it ends.
 fn is_cut_bad(alloc: Global, len: usize) -> Result<bool, AllocError> {
-    let Some(front) = ANN.2.as_bytes().get(..len) else {
+    let Some(front) = ANN_OUT.as_bytes().get(..len) else {
         return Ok(false);
     };
     let line = line_behind(front);
-    Ok(checked(alloc, &ANN, front)? == Verdict::Not { line })
+    Ok(checked(alloc, Worked::WriteAndRead.session(), front)? == Verdict::Not { line })
 }
 
 /// Whether this holds of each front of the output.
 fn are_cuts_bad(alloc: Global) -> Result<bool, AllocError> {
-    for len in 0..ANN.2.len() {
+    for len in 0..ANN_OUT.len() {
         if !is_cut_bad(alloc, len)? {
             return Ok(false);
         }
@@ -61,7 +62,7 @@ fn is_drawn_bad(alloc: Global, from: u32, mask: u8) -> Result<bool, AllocError> 
     let mut out = b"client 1 c1\n1: ".to_vec(alloc)?;
     let bytes = drawn(alloc, from, mask, 300)?;
     out.extend_from_slice(&bytes)?;
-    Ok(checked(alloc, &ANN, &out)? == Verdict::Not { line: 2 })
+    Ok(checked(alloc, Worked::WriteAndRead.session(), &out)? == Verdict::Not { line: 2 })
 }
 
 /// Whether this holds of many such bytes.
@@ -85,7 +86,7 @@ fn bytes_in_no_order_are_bad(rt: HostRuntime) -> Result<(), Fail> {
 fn verdict_on(alloc: Global, byte: u8, count: usize) -> Result<Verdict, AllocError> {
     let mut out: Vec<u8> = Vec::new(alloc);
     out.resize(count, byte)?;
-    checked(alloc, &ANN, &out)
+    checked(alloc, Worked::WriteAndRead.session(), &out)
 }
 
 #[test]

@@ -2,11 +2,11 @@
 ghost use Rattle.std.specs.Prelude.{All, Decides, IfOk, OnOk};
 ghost use Rattle.run_check.specs.Checked.{HasNoFeed, IsRead};
 
-use super::Client;
 use client_script::{Scripts, read_script};
 use mdb_datum::Text;
 use run_io::Texts;
 use std::alloc::{AllocError, Global};
+use worked_runs::{File, joined};
 
 /// Whether a name has no line feed.
 fn is_plain(name: &Text) -> bool
@@ -26,7 +26,7 @@ fn add_word(words: &mut Texts, name: Text) -> Result<(), AllocError>
 }
 
 /// The words of clients.
-pub(super) fn words_of(alloc: Global, clients: &[Client]) -> Result<Texts, AllocError>
+pub(super) fn words_of(alloc: Global, clients: &[File]) -> Result<Texts, AllocError>
     ensures { IfOk result (λ words. All HasNoFeed words) }
 {
     let mut words = Texts::new(alloc);
@@ -47,12 +47,12 @@ fn add_script(alloc: Global, scripts: &mut Scripts, text: &str) -> Result<(), Al
 }
 
 /// The scripts of clients.
-pub(super) fn scripts_of(alloc: Global, clients: &[Client]) -> Result<Scripts, AllocError>
+pub(super) fn scripts_of(alloc: Global, clients: &[File]) -> Result<Scripts, AllocError>
     ensures { IfOk result (λ scripts. All IsRead scripts) }
 {
     let mut scripts = Scripts::new(alloc);
     for at in 0..clients.len() {
-        add_script(alloc, &mut scripts, clients[at].1)?;
+        add_script(alloc, &mut scripts, &joined(alloc, clients[at].1)?)?;
     }
     Ok(scripts)
 }

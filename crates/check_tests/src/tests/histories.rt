@@ -1,18 +1,19 @@
 //! Outputs whose commits are none of one history.
-use super::{ANN, BOTH, Near, first_other};
+use super::{Near, first_other};
 use std::test::Fail;
+use worked_runs::Worked;
 
 static COMMITS: [Near; 9] = [
-    (&ANN, 4, "3: commit @2", 4),
-    (&ANN, 4, "3: commit @0", 4),
-    (&BOTH, 8, "3: commit @1", 8),
-    (&BOTH, 8, "3: commit @3", 8),
-    (&BOTH, 4, "3: commit @2", 8),
-    (&BOTH, 6, "1: write @0", 8),
-    (&BOTH, 2, "1: write @1", 4),
-    (&BOTH, 6, "1: write @18446744073709551615", 8),
+    (Worked::WriteAndRead, 4, "3: commit @2", 4),
+    (Worked::WriteAndRead, 4, "3: commit @0", 4),
+    (Worked::BothWrite, 8, "3: commit @1", 8),
+    (Worked::BothWrite, 8, "3: commit @3", 8),
+    (Worked::BothWrite, 4, "3: commit @2", 8),
+    (Worked::BothWrite, 6, "1: write @0", 8),
+    (Worked::BothWrite, 2, "1: write @1", 4),
+    (Worked::BothWrite, 6, "1: write @18446744073709551615", 8),
     // The number is there, but the client may not begin so: the history passes it.
-    (&BOTH, 6, "1: refused whatever", 6),
+    (Worked::BothWrite, 6, "1: refused whatever", 6),
 ];
 
 #[test]

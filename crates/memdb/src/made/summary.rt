@@ -11,6 +11,7 @@ use crate::words::Numbers;
 use mdb_ports::Gate;
 use mem_txn::ReadTxn;
 use std::alloc::{AllocError, Global};
+use std::mem;
 use std::sync::Wait;
 use std::thread::Threads;
 
@@ -26,6 +27,8 @@ pub fn made_summary<R: Threads + Wait + Sync, G: Gate + Sync>(
 {
     let last = made_state(rt, alloc, gate, numbers)?;
     let tally = Tally::of(alloc, &last)?;
+    // As in `answers`, its memory goes with the program's.
+    mem::forget(last);
     four_lines(alloc, numbers.clients(), &tally)
 }
 

@@ -1,6 +1,7 @@
 //! The check of outputs: the verdicts, and the faults of the inputs and then of the output.
-use super::{ANN, ANN_OUT, BAD_INDEX, File, Run, SCHEMA, UNREAD_C1, UNREAD_S, Want, all_hold};
+use super::{BAD_INDEX, UNREAD_C1, UNREAD_S, all_hold};
 use std::test::Fail;
+use worked_runs::{ANN, ANN_OUT, File, ONE_TABLE, Run, Want};
 
 const LEGAL: Want = Want::Ends(0, "legal\n");
 
@@ -31,30 +32,30 @@ const TOO_SHORT: &str = r#"client 1 c1
 "#;
 
 const IS_LEGAL: &[File] = &[
-    ("S", &[(SCHEMA, 1)]),
+    ("S", &[(ONE_TABLE, 1)]),
     ("c1", &[(ANN, 1)]),
     ("o", &[(ANN_OUT, 1)]),
 ];
 
 const HAS_OTHER_ROW: &[File] = &[
-    ("S", &[(SCHEMA, 1)]),
+    ("S", &[(ONE_TABLE, 1)]),
     ("c1", &[(ANN, 1)]),
     ("o", &[(OTHER_ROW, 1)]),
 ];
 
 const HAS_OTHER_NUMBER: &[File] = &[
-    ("S", &[(SCHEMA, 1)]),
+    ("S", &[(ONE_TABLE, 1)]),
     ("c1", &[(ANN, 1)]),
     ("o", &[(OTHER_NUMBER, 1)]),
 ];
 
 const IS_TOO_SHORT: &[File] = &[
-    ("S", &[(SCHEMA, 1)]),
+    ("S", &[(ONE_TABLE, 1)]),
     ("c1", &[(ANN, 1)]),
     ("o", &[(TOO_SHORT, 1)]),
 ];
 
-const IS_EMPTY: &[File] = &[("S", &[(SCHEMA, 1)]), ("c1", &[(ANN, 1)]), ("o", &[])];
+const IS_EMPTY: &[File] = &[("S", &[(ONE_TABLE, 1)]), ("c1", &[(ANN, 1)]), ("o", &[])];
 
 const HER: &str = "write\ninsert t {\"name\":\"ann\"}\ncommit\n";
 
@@ -72,7 +73,7 @@ client 2 c2
 "#;
 
 const ARE_BOTH_FIRST: &[File] = &[
-    ("S", &[(SCHEMA, 1)]),
+    ("S", &[(ONE_TABLE, 1)]),
     ("c1", &[(HER, 1)]),
     ("c2", &[(HIS, 1)]),
     ("o", &[(BOTH_FIRST, 1)]),
@@ -131,11 +132,11 @@ const NO_FILES: &[File] = &[];
 
 const NO_CLIENT: &[File] = &[("S", &[(BAD_INDEX, 1)])];
 
-const NO_OUTPUT: &[File] = &[("S", &[(SCHEMA, 1)]), ("c1", &[(ANN, 1)])];
+const NO_OUTPUT: &[File] = &[("S", &[(ONE_TABLE, 1)]), ("c1", &[(ANN, 1)])];
 
 const BAD_SCHEMA: &[File] = &[("S", &[("{}", 1)]), ("c1", &[("wait\n", 1)])];
 
-const BAD_SCRIPT: &[File] = &[("S", &[(SCHEMA, 1)]), ("c1", &[("wait\n", 1)])];
+const BAD_SCRIPT: &[File] = &[("S", &[(ONE_TABLE, 1)]), ("c1", &[("wait\n", 1)])];
 
 const LARGE_CLIENT: &[File] = &[("S", &[("{}", 1)]), ("c1", &[("#", 1_048_577)])];
 
@@ -173,14 +174,14 @@ fn the_faults_of_the_inputs_are_told_first(rt: HostRuntime) -> Result<(), Fail> 
 const SOME: &str = "################################################################";
 
 const LARGE_OUTPUT: &[File] = &[
-    ("S", &[(SCHEMA, 1)]),
+    ("S", &[(ONE_TABLE, 1)]),
     ("c1", &[(ANN, 1)]),
     ("o", &[(SOME, 262_145)]),
 ];
 
 /// More bytes than a client's file may have, in one line.
 const LONG_OUTPUT: &[File] = &[
-    ("S", &[(SCHEMA, 1)]),
+    ("S", &[(ONE_TABLE, 1)]),
     ("c1", &[(ANN, 1)]),
     ("o", &[(SOME, 16_385)]),
 ];
@@ -224,7 +225,7 @@ static ALL_OR_NOTHING: [Run; 1] = [(
     "check S c1 o",
     IS_LEGAL,
     (0, 0),
-    Want::AllOrNothing(&["legal\n"]),
+    Want::AllOrNothing(0, &["legal\n"]),
 )];
 
 // With an allocation that is refused the status is 4 and nothing is written, and else it is 0.

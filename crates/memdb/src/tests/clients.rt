@@ -1,9 +1,12 @@
 //! Clients side by side: what each is told, whatever comes first.
-use super::{File, Run, SCHEMA, TWO_TABLES, Want, all_hold};
+use super::all_hold;
+use crate::run::run;
+use mdb_ports::{MemSink, OpenGate};
 use std::alloc::{AllocError, Global};
 use std::sync::Wait;
 use std::test::Fail;
 use std::thread::Threads;
+use worked_runs::{File, HUNDREDS, ONE_TABLE, Run, TWO_TABLES, Want, files_of, parted, sink};
 
 /// Both write the same row, one after the other.
 const SAME_ROW: &[File] = &[
@@ -148,7 +151,7 @@ fn are_each_hundred(alloc: Global, one: &str, two: &str) -> Result<bool, AllocEr
 }
 
 /// The same of the bytes that a run wrote.
-pub(super) fn are_two_hundred(alloc: Global, bytes: &[u8]) -> Result<bool, AllocError> {
+fn are_two_hundred(alloc: Global, bytes: &[u8]) -> Result<bool, AllocError> {
     match text_of(bytes).split_once("client 2 c2\n") {
         Some((one, two)) => are_each_hundred(alloc, one, two),
         None => Ok(false),
@@ -184,7 +187,7 @@ fn has_sixty_four(alloc: Global, text: &str, front: &str, back: &str) -> Result<
 
 /// Whether the headings of what a run wrote have each client's number once, and as many commits
 /// each number once.
-pub(super) fn are_sixty_four(alloc: Global, bytes: &[u8]) -> Result<bool, AllocError> {
+fn are_sixty_four(alloc: Global, bytes: &[u8]) -> Result<bool, AllocError> {
     let text = text_of(bytes);
     Ok(
         has_sixty_four(alloc, text, "client ", " c1")?
@@ -192,55 +195,66 @@ pub(super) fn are_sixty_four(alloc: Global, bytes: &[u8]) -> Result<bool, AllocE
     )
 }
 
-/// Two clients of a hundred commits of rows that the other doesn't have, each with a read.
-static TWO_HUNDRED: [Run; 1] = [(
-    "run S c1 c2",
-    &[
-        ("S", &[(SCHEMA, 1)]),
-        (
-            "c1",
-            &[(
-                "write\ninsert t {\"name\":\"one\"}\ncommit\nread\nend\n",
-                100,
-            )],
-        ),
-        (
-            "c2",
-            &[(
-                "write\ninsert t {\"name\":\"two\"}\ncommit\nread\nend\n",
-                100,
-            )],
-        ),
-    ],
-    (0, 0),
-    Want::TwoHundred,
-)];
+/// Runs clients, and gives the status.
+fn ran<R: Threads + Wait + Sync>(
+    rt: &R,
+    alloc: Global,
+    words: &str,
+    files: &[File],
+    out: &mut MemSink,
+) -> Result<u8, AllocError> {
+    let words = parted(alloc, words, ' ')?;
+    let mut files = files_of(alloc, files, 0)?;
+    Ok(run(rt, alloc, &words, &mut files, out, &OpenGate))
+}
+
+/// Whether a run has answered. Want of memory is an error.
+fn has_answered(status: Result<u8, AllocError>) -> Result<bool, AllocError> {
+    match status? {
+        4 => Err(AllocError),
+        status => Ok(status == 0),
+    }
+}
+
+/// Whether two clients are told their two hundred commits.
+fn make_two_hundred<R: Threads + Wait + Sync>(rt: &R, alloc: Global) -> Result<bool, AllocError> {
+    let mut out = sink(alloc, 0)?;
+    let status = ran(rt, alloc, "run S c1 c2", HUNDREDS, &mut out);
+    Ok(has_answered(status)? && are_two_hundred(alloc, out.bytes())?)
+}
 
 #[test]
 fn two_clients_make_a_hundred_commits_each(rt: HostRuntime) -> Result<(), Fail> {
-    all_hold(&rt, rt.alloc(), &TWO_HUNDRED)
+    assert!(rt; make_two_hundred(&rt, rt.alloc())?);
+    Ok(())
 }
 
-static SIXTY_FOUR: [Run; 1] = [(
-    "run S c1 c1 c1 c1 c1 c1 c1 c1 c1 c1 c1 c1 c1 c1 c1 c1 c1 c1 c1 c1 c1 c1 c1 c1 c1 c1 c1 c1 c1 c1 c1 c1 c1 c1 c1 c1 c1 c1 c1 c1 c1 c1 c1 c1 c1 c1 c1 c1 c1 c1 c1 c1 c1 c1 c1 c1 c1 c1 c1 c1 c1 c1 c1 c1",
-    &[
-        ("S", &[(SCHEMA, 1)]),
-        ("c1", &[("write\ninsert t {\"name\":\"a\"}\ncommit\n", 1)]),
-    ],
-    (0, 0),
-    Want::SixtyFour,
-)];
+const ONE_COMMIT: &[File] = &[
+    ("S", &[(ONE_TABLE, 1)]),
+    ("c1", &[("write\ninsert t {\"name\":\"a\"}\ncommit\n", 1)]),
+];
+
+const SIXTY_FOUR: &str =
+    "run S c1 c1 c1 c1 c1 c1 c1 c1 c1 c1 c1 c1 c1 c1 c1 c1 c1 c1 c1 c1 c1 c1 c1 c1 c1 c1 c1 c1 c1 c1 c1 c1 c1 c1 c1 c1 c1 c1 c1 c1 c1 c1 c1 c1 c1 c1 c1 c1 c1 c1 c1 c1 c1 c1 c1 c1 c1 c1 c1 c1 c1 c1 c1 c1";
+
+/// Whether sixty-four clients are told a commit each.
+fn make_sixty_four<R: Threads + Wait + Sync>(rt: &R, alloc: Global) -> Result<bool, AllocError> {
+    let mut out = sink(alloc, 0)?;
+    let status = ran(rt, alloc, SIXTY_FOUR, ONE_COMMIT, &mut out);
+    Ok(has_answered(status)? && are_sixty_four(alloc, out.bytes())?)
+}
 
 #[test]
 fn sixty_four_clients_make_a_commit_each(rt: HostRuntime) -> Result<(), Fail> {
-    all_hold(&rt, rt.alloc(), &SIXTY_FOUR)
+    assert!(rt; make_sixty_four(&rt, rt.alloc())?);
+    Ok(())
 }
 
 static ALL_OR_NOTHING: [Run; 1] = [(
     "run S c1 c2",
     SAME_ROW,
     (0, 0),
-    Want::AllOrNothing(SAME_ROW_OUT),
+    Want::AllOrNothing(0, SAME_ROW_OUT),
 )];
 
 // With an allocation that is refused to either client the status is 4 and nothing is written.

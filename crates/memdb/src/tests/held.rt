@@ -1,11 +1,12 @@
 //! Two clients whose lines wait for each other's, so that they can't be carried out one after the
 //! other.
-use super::{File, Want, files_of, is_run_past};
-use mdb_ports::{Hold, HoldGate};
+use super::is_run_past;
+use mdb_ports::HoldGate;
 use std::alloc::{AllocError, Global};
 use std::sync::Wait;
 use std::test::Fail;
 use std::thread::Threads;
+use worked_runs::{File, Want, crossed, files_of, gate_of};
 
 const USERS: &str = r#"{"memdb":1,"tables":{"users":{"indexes":{
 "id":{"unique":true,"indexer":{"kind":"text","field":"name"}},
@@ -26,23 +27,6 @@ const FILES: &[File] = &[
 
 const TOLD: &str =
     "client 1 c1\n1: read @0\n2: rows 0\nclient 2 c2\n1: write @0\n2: inserted\n3: commit @1\n";
-
-/// The reader asks when the writer has committed, which inserts when the reader has begun.
-fn crossed() -> HoldGate {
-    let reader = Hold {
-        client: 1,
-        line: 2,
-        until_client: 2,
-        until_line: 3,
-    };
-    let writer = Hold {
-        client: 2,
-        line: 2,
-        until_client: 1,
-        until_line: 1,
-    };
-    HoldGate::new(reader, writer)
-}
 
 /// Whether the clients of these files are answered so past a gate.
 fn is_told<R: Threads + Wait + Sync>(
@@ -71,7 +55,8 @@ fn is_told_in_time<R: Threads + Wait + Sync>(
     Ok(told? && in_time)
 }
 
-// The read transaction answers from the commit on which it began, though another is made in its
+// The reader asks when the writer has committed, which inserts when the reader has begun. The read
+// transaction answers from the commit on which it began, though another is made in its
 // midst.
 #[test]
 fn a_reader_and_a_writer_wait_for_each_other(rt: HostRuntime) -> Result<(), Fail> {
@@ -103,19 +88,7 @@ client 2 c2\n1: write @0\n2: inserted\n3: commit @1\n";
 
 /// The writer begins when the other client watches, and inserts when it is about to wait.
 fn watched_first() -> HoldGate {
-    let begins = Hold {
-        client: 2,
-        line: 1,
-        until_client: 1,
-        until_line: 2,
-    };
-    let inserts = Hold {
-        client: 2,
-        line: 2,
-        until_client: 1,
-        until_line: 4,
-    };
-    HoldGate::new(begins, inserts)
+    gate_of(((2, 1), (1, 2)), ((2, 2), (1, 4)))
 }
 
 #[test]

@@ -1,11 +1,10 @@
 //! Files and an output of which one call fails, and a schema that ends too early.
-use super::catalogue::{FILES, OUT};
-use super::sessions::SCHEMA;
-use super::{Run, UNREAD_C1, UNREAD_S, Want, all_hold, is_answered, is_held};
+use super::{UNREAD_C1, UNREAD_S, all_hold, is_answered, is_held};
 use std::alloc::{AllocError, Global};
 use std::sync::Wait;
 use std::test::Fail;
 use std::thread::Threads;
+use worked_runs::{CATALOGUE_FILES as FILES, CATALOGUE_OUT as OUT, Run, USERS, Want};
 
 /// Each file takes two calls: its bytes, and its end.
 static FILE_CALLS: [Run; 5] = [
@@ -52,7 +51,7 @@ fn is_short<R: Threads + Wait + Sync>(
     alloc: Global,
     length: usize,
 ) -> Result<bool, AllocError> {
-    let front = SCHEMA.get(..length).unwrap_or(SCHEMA);
+    let front = USERS.get(..length).unwrap_or(USERS);
     is_answered(rt, alloc, front, b"", Want::Ends(2, "schema syntax\n"))
 }
 
@@ -61,7 +60,7 @@ fn first_whole<R: Threads + Wait + Sync>(
     rt: &R,
     alloc: Global,
 ) -> Result<Option<usize>, AllocError> {
-    for length in 0..SCHEMA.len() {
+    for length in 0..USERS.len() {
         if !is_short(rt, alloc, length)? {
             return Ok(Some(length));
         }

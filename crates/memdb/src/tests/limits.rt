@@ -1,13 +1,13 @@
 //! Arguments, wipes, commits and schemas of which each is as large as it may be, or one more.
-use super::sessions::SCHEMA;
-use super::{File, Run, Want, all_hold, is_answered};
+use super::{all_hold, is_answered};
 use std::alloc::{AllocError, Global};
 use std::sync::Wait;
 use std::test::Fail;
 use std::thread::Threads;
+use worked_runs::{File, Run, USERS, Want};
 
 const LONG_TEXTS: &[File] = &[
-    ("S", &[(SCHEMA, 1)]),
+    ("S", &[(USERS, 1)]),
     (
         "c1",
         &[
@@ -41,20 +41,35 @@ fn the_key_of_an_argument_has_at_most_1024_bytes(rt: HostRuntime) -> Result<(), 
 /// A transaction that puts the notes whose names are so many letters, for each number up to this,
 /// and takes them all out.
 fn chain_script(alloc: Global, most: usize) -> Result<String, AllocError> {
-    let mut text = String::from_str(alloc, "write\n")?;
-    for letters in 1..=most {
-        let name = "a".repeat(alloc, letters)?;
-        write!(text, "insert notes {{\"name\":\"{name}\"}}\n")?;
-    }
-    text.push_str("delete-prefix notes id_prefix [\"a\"]\nget notes id\ncommit\n")?;
+    let mut text = String::new(alloc);
+    push_chain(alloc, &mut text, most)?;
     Ok(text)
+}
+
+/// Adds it.
+fn push_chain(alloc: Global, text: &mut String, most: usize) -> Result<(), AllocError> {
+    text.push_str("write\n")?;
+    for letters in 1..=most {
+        push_note(alloc, text, letters)?;
+    }
+    text.push_str("delete-prefix notes id_prefix [\"a\"]\nget notes id\ncommit\n")
+}
+
+/// Adds the line that puts the note whose name is so many letters.
+fn push_note(alloc: Global, text: &mut String, letters: usize) -> Result<(), AllocError> {
+    let name = "a".repeat(alloc, letters)?;
+    write!(text, "insert notes {{\"name\":\"{name}\"}}\n")
 }
 
 /// Whether the run of that script ends so.
 fn is_wiped<R: Threads + Wait + Sync>(rt: &R, alloc: Global) -> Result<bool, AllocError> {
     let script = chain_script(alloc, 1023)?;
-    let want = Want::Lines(1028, "1025: deleted 1023\n1026: rows 0\n1027: commit @1\n");
-    is_answered(rt, alloc, SCHEMA, script.as_bytes(), want)
+    let want = Want::Lines(
+        0,
+        1028,
+        "1025: deleted 1023\n1026: rows 0\n1027: commit @1\n",
+    );
+    is_answered(rt, alloc, USERS, script.as_bytes(), want)
 }
 
 #[test]
@@ -78,14 +93,19 @@ fn push_users(text: &mut String, age: u8) -> Result<(), AllocError> {
 /// Two such transactions, between which four questions are watched, and a check of each watch.
 fn watched_script(alloc: Global) -> Result<String, AllocError> {
     let mut text = String::new(alloc);
-    push_users(&mut text, 1)?;
+    push_watched(&mut text)?;
+    Ok(text)
+}
+
+/// Adds them.
+fn push_watched(text: &mut String) -> Result<(), AllocError> {
+    push_users(text, 1)?;
     text.push_str("read\nwatch a get users id_prefix [\"r\"]\n")?;
     text.push_str("watch b first users id [\"r0001\"]\n")?;
     text.push_str("watch c first users id [\"r9000\"]\n")?;
     text.push_str("watch d get notes id\nend\n")?;
-    push_users(&mut text, 2)?;
-    text.push_str("check a\ncheck b\ncheck c\ncheck d\n")?;
-    Ok(text)
+    push_users(text, 2)?;
+    text.push_str("check a\ncheck b\ncheck c\ncheck d\n")
 }
 
 const WATCHED_END: &str =
@@ -95,8 +115,8 @@ const WATCHED_END: &str =
 /// the first question, and the client's.
 fn are_fired<R: Threads + Wait + Sync>(rt: &R, alloc: Global) -> Result<bool, AllocError> {
     let script = watched_script(alloc)?;
-    let want = Want::Lines(27_015, WATCHED_END);
-    is_answered(rt, alloc, SCHEMA, script.as_bytes(), want)
+    let want = Want::Lines(0, 27_015, WATCHED_END);
+    is_answered(rt, alloc, USERS, script.as_bytes(), want)
 }
 
 // Each of the two commits of 9,000 rows fires more cells than a notice lists.
@@ -178,14 +198,20 @@ static WIDE: [(Wide, &str); 4] = [
 
 /// The schema that has so many members.
 fn wide_schema(alloc: Global, wide: &Wide) -> Result<String, AllocError> {
+    let mut text = String::new(alloc);
+    push_wide(&mut text, wide)?;
+    Ok(text)
+}
+
+/// Adds it.
+fn push_wide(text: &mut String, wide: &Wide) -> Result<(), AllocError> {
     let (letter, each) = (wide.letter, wide.each);
-    let mut text = String::from_str(alloc, wide.front)?;
+    text.push_str(wide.front)?;
     for number in 0..wide.count {
         let comma = if number == 0 { "" } else { "," };
         write!(text, "{comma}\"{letter}{number:02}\":{each}")?;
     }
-    text.push_str(wide.back)?;
-    Ok(text)
+    text.push_str(wide.back)
 }
 
 /// Whether a client is told so.

@@ -1,11 +1,12 @@
 //! Made input: the summary, and that the sessions ran.
-use super::{Want, files_of, is_run_past};
+use super::is_run_past;
 use mdb_ports::Gate;
 use std::alloc::{AllocError, Global};
 use std::sync::Wait;
 use std::sync::atomic::{AtomicU32, Ordering};
 use std::test::Fail;
 use std::thread::Threads;
+use worked_runs::{Want, files_of};
 
 /// A gate that counts the lines whose answers are kept.
 #[derive(Drop)]
@@ -24,7 +25,7 @@ impl Gate for Counter {
 }
 
 /// Each row: the words, the summary, and how many lines the clients have.
-const MADE: &[(&str, &str, u32)] = &[
+static MADE: &[(&str, &str, u32)] = &[
     (
         "make 1 2 3",
         "clients 2\ncommits 6\nrows 5\nages 166700\n",

@@ -2,9 +2,10 @@
 use super::*;
 use std::alloc::{AllocError, Global};
 use std::test::Fail;
+use worked_runs::parted;
 
 /// The words, parted by bars, and whether they are `run`.
-const RUNS: [(&str, bool); 19] = [
+static RUNS: [(&str, bool); 19] = [
     ("run|s.json|c1", true),
     ("run|c1|c1", true),
     ("run|a-b|c 1", true),
@@ -27,7 +28,7 @@ const RUNS: [(&str, bool); 19] = [
 ];
 
 /// The words, parted by bars, and the numbers where they are `make`.
-const MAKES: [(&str, Option<(u32, u32, u32)>); 18] = [
+static MAKES: [(&str, Option<(u32, u32, u32)>); 18] = [
     ("make|1|2|3", Some((1, 2, 3))),
     ("make|00001|64|1000", Some((1, 64, 1000))),
     ("make|65536|1|1", Some((65536, 1, 1))),
@@ -49,7 +50,7 @@ const MAKES: [(&str, Option<(u32, u32, u32)>); 18] = [
 ];
 
 /// The words, parted by bars, and how many clients there are where they are `check`.
-const CHECKS: [(&str, Option<usize>); 12] = [
+static CHECKS: [(&str, Option<usize>); 12] = [
     ("check|s.json|c1|o", Some(1)),
     ("check|s.json|c1|c2|o", Some(2)),
     ("check|c1|c1|c1", Some(1)),
@@ -64,24 +65,9 @@ const CHECKS: [(&str, Option<usize>); 12] = [
     ("Check|s.json|c1|o", None),
 ];
 
-/// Adds a word of the command line.
-fn push_word(alloc: Global, words: &mut Vec<Text>, word: &str) -> Result<(), AllocError> {
-    words.push(Text::of(alloc, word)?)?;
-    Ok(())
-}
-
-/// The words that stand in a text, parted by bars.
-fn words_in(alloc: Global, text: &str) -> Result<Vec<Text>, AllocError> {
-    let mut words = Vec::new(alloc);
-    for word in text.split('|') {
-        push_word(alloc, &mut words, word)?;
-    }
-    Ok(words)
-}
-
 /// The command that stands in a text.
 fn command_in(alloc: Global, text: &str) -> Result<Option<Command>, AllocError> {
-    Command::of(alloc, &words_in(alloc, text)?)
+    Command::of(alloc, &parted(alloc, text, '|')?)
 }
 
 /// Whether a text is a command `run`.

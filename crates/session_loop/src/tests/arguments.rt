@@ -1,15 +1,17 @@
 //! The statuses of a program's arguments, of which the first is its name.
-use super::{File, SCHEMA, USAGE, Want, files_of, is_wanted, sink};
+use super::USAGE;
 use crate::run_arguments;
+use mdb_ports::{MemFiles, MemSink};
 use std::alloc::{AllocError, Global};
-use std::env;
 use std::sync::Wait;
 use std::test::Fail;
+use std::thread::Threads;
+use worked_runs::{File, ONE_TABLE, Want, arguments_in, files_of, is_wanted, sink};
 
 /// The arguments, parted by blanks, and what is wanted.
 type Case = (&'static str, Want);
 
-const FILES: &[File] = &[("S", &[(SCHEMA, 1)]), ("c1", &[("read\n", 1)])];
+const FILES: &[File] = &[("S", &[(ONE_TABLE, 1)]), ("c1", &[("read\n", 1)])];
 
 static CASES: [Case; 4] = [
     (
@@ -21,28 +23,28 @@ static CASES: [Case; 4] = [
     ("", Want::Ends(1, USAGE)),
 ];
 
-/// Adds an argument.
-fn push_argument(alloc: Global, args: &mut Vec<String>, word: &str) -> Result<(), AllocError> {
-    args.push(String::from_str(alloc, word)?)?;
-    Ok(())
-}
-
-/// The arguments that blanks part in a text.
-fn args_of(alloc: Global, text: &str) -> Result<env::Args, AllocError> {
-    let mut args = Vec::new(alloc);
-    for word in text.split_terminator(' ') {
-        push_argument(alloc, &mut args, word)?;
-    }
-    Ok(args.into_iter())
-}
-
 /// Whether a case's status and output are as wanted.
-fn is_ended<R: Wait>(rt: &R, alloc: Global, case: &Case) -> Result<bool, AllocError> {
-    let args = args_of(alloc, case.0)?;
+fn is_ended<R: Threads + Wait + Sync>(
+    rt: &R,
+    alloc: Global,
+    case: &Case,
+) -> Result<bool, AllocError> {
     let mut files = files_of(alloc, FILES, 0)?;
     let mut out = sink(alloc, 0)?;
-    let status = run_arguments(rt, alloc, Ok(args), &mut files, &mut out);
-    is_wanted(status, out.bytes(), case.1)
+    let status = status_of(rt, alloc, case.0, &mut files, &mut out);
+    is_wanted(status?, out.bytes(), case.1)
+}
+
+/// The status of the arguments in a text.
+fn status_of<R: Threads + Wait + Sync>(
+    rt: &R,
+    alloc: Global,
+    args: &str,
+    files: &mut MemFiles,
+    out: &mut MemSink,
+) -> Result<u8, AllocError> {
+    let args = arguments_in(alloc, args)?;
+    Ok(run_arguments(rt, alloc, Ok(args), files, out))
 }
 
 #[test]

@@ -3,7 +3,6 @@ ghost use Rattle.std.specs.Prelude.{◌≡◌, IfOk, length};
 ghost use Rattle.client_session.specs.Clients.{AreLater};
 ghost use Rattle.session_loop.specs.inner.Tasks.{AreUnspent};
 
-use super::SCHEMA;
 use crate::round::Round;
 use crate::sessions::{poll_round, tasks_of};
 use crate::task::{State, Task};
@@ -13,6 +12,7 @@ use mdb_schema::{Schema, read_schema};
 use std::alloc::{AllocError, Global};
 use std::sync::Wait;
 use std::test::Fail;
+use worked_runs::{COMMITS, ONE_TABLE, WAITS};
 
 /// A round, and how the sessions of two clients stand behind it.
 #[derive(Clone, Copy, Debug, PartialEq, Eq)]
@@ -23,7 +23,7 @@ struct Seen {
 
 /// The schema of one table. A text that can't be read counts as want of memory, which ends a test.
 fn schema(alloc: Global) -> Result<Schema, AllocError> {
-    match read_schema(alloc, SCHEMA.as_bytes()) {
+    match read_schema(alloc, ONE_TABLE.as_bytes()) {
         Ok(schema) => Ok(schema),
         Err(_) => Err(AllocError),
     }
@@ -102,11 +102,6 @@ fn went_on(held: bool, one: State, two: State) -> Seen {
     }
 }
 
-/// It waits for a row, which `PUTS` puts in the fifth round.
-const WAITS: &str = "read\nwatch w get t id\nend\nadd s w\nwait s\n";
-
-const PUTS: &str = "write\nabort\nwrite\ninsert t {\"name\":\"a\"}\ncommit\n";
-
 #[test]
 fn a_second_writer_is_held(rt: HostRuntime) -> Result<(), Fail> {
     let seen = behind_rounds(&rt, rt.alloc(), "write\n", "write\n", 1)?;
@@ -122,17 +117,17 @@ fn a_writer_goes_on_once_the_other_has_ended(rt: HostRuntime) -> Result<(), Fail
     Ok(())
 }
 
-// The first is parked before the second commits.
+// The first waits for a row, which the second commits in the fifth round, when the first is parked.
 #[test]
 fn a_wait_that_is_quiet_is_parked(rt: HostRuntime) -> Result<(), Fail> {
-    let seen = behind_rounds(&rt, rt.alloc(), WAITS, PUTS, 5)?;
+    let seen = behind_rounds(&rt, rt.alloc(), WAITS, COMMITS, 5)?;
     assert!(rt; seen == went_on(false, State::Parked { line: 5 }, State::Ready));
     Ok(())
 }
 
 #[test]
 fn a_wait_goes_on_once_a_noted_watch_has_moved(rt: HostRuntime) -> Result<(), Fail> {
-    let seen = behind_rounds(&rt, rt.alloc(), WAITS, PUTS, 6)?;
+    let seen = behind_rounds(&rt, rt.alloc(), WAITS, COMMITS, 6)?;
     assert!(rt; seen == went_on(false, State::Ready, State::Ended));
     Ok(())
 }

@@ -1,12 +1,13 @@
 //! Words, files and sinks that are refused or fail, each with its status.
-use super::{File, Run, SCHEMA, USAGE, Want, all_hold};
+use super::{USAGE, all_hold};
 use std::test::Fail;
+use worked_runs::{File, ONE_TABLE, Run, Want};
 
 const SCRIPT: &str = "write\ninsert t {\"name\":\"a\"}\ncommit\n";
 
 const OUT: &str = "client 1 c1\n1: write @0\n2: inserted\n3: commit @1\n";
 
-const LAWFUL: &[File] = &[("S", &[(SCHEMA, 1)]), ("c1", &[(SCRIPT, 1)])];
+const LAWFUL: &[File] = &[("S", &[(ONE_TABLE, 1)]), ("c1", &[(SCRIPT, 1)])];
 
 const NO_COMMAND: Want = Want::Ends(1, USAGE);
 
@@ -47,12 +48,12 @@ const NO_CLIENT: &[File] = &[("S", &[("{}", 1)])];
 const BROKEN_SCHEMA: &[File] = &[("S", &[(NO_ID, 1)]), ("c1", &[("wait\n", 1)])];
 
 const BROKEN_SCRIPT: &[File] = &[
-    ("S", &[(SCHEMA, 1)]),
+    ("S", &[(ONE_TABLE, 1)]),
     ("c1", &[(SCRIPT, 1)]),
     ("c2", &[("read\nwait\n", 1)]),
 ];
 
-const CLIENT_OVER: &[File] = &[("S", &[(SCHEMA, 1)]), ("c1", &[("#", 1_048_577)])];
+const CLIENT_OVER: &[File] = &[("S", &[(ONE_TABLE, 1)]), ("c1", &[("#", 1_048_577)])];
 
 static FILES: [Run; 8] = [
     ("S c1", NO_SCHEMA, (0, 0), Want::Ends(5, "cannot read S\n")),

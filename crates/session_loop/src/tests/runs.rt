@@ -1,42 +1,23 @@
 //! Worked runs whose lines are all answered.
-use super::{File, Run, SCHEMA, Want, all_hold};
+use super::all_hold;
+use crate::run::run_loop;
+use mdb_datum::Text;
+use mdb_ports::MemFiles;
+use std::alloc::{AllocError, Global};
+use std::sync::Wait;
 use std::test::Fail;
+use std::thread::Threads;
+use worked_runs::{
+    COMMITS, File, HUNDREDS, ONE_TABLE, PARKED_OUT, Run, Session, WAITS, Want, Worked, is_output,
+    session_files, session_words, sessions_of_one, sink,
+};
 
-/// It watches for a row, and waits until it is put.
-const WAITS: &str = r#"read
-watch w get t id
-end
-add s w
-wait s
-"#;
-
-/// It commits a row in the round in which the other is parked.
-const COMMITS: &str = r#"write
-abort
-write
-insert t {"name":"a"}
-commit
-"#;
-
+/// The first is parked in the round in which the second commits a row.
 const PARKED: &[File] = &[
-    ("S", &[(SCHEMA, 1)]),
+    ("S", &[(ONE_TABLE, 1)]),
     ("c1", &[(WAITS, 1)]),
     ("c2", &[(COMMITS, 1)]),
 ];
-
-const PARKED_OUT: &str = r#"client 1 c1
-1: read @0
-2: rows 0
-3: ended
-4: size 1
-5: fired w @1
-client 2 c2
-1: write @0
-2: aborted
-3: write @0
-4: inserted
-5: commit @1
-"#;
 
 /// The one that commits is the first, so that the wait is answered at its first poll.
 const FIRED_BEFORE: &str = r#"client 1 c2
@@ -56,7 +37,7 @@ client 2 c1
 /// Two clients that begin with `write`: the second is held until the first has ended its
 /// transaction.
 const WRITERS: &[File] = &[
-    ("S", &[(SCHEMA, 1)]),
+    ("S", &[(ONE_TABLE, 1)]),
     (
         "c1",
         &[("write\ninsert t {\"name\":\"a\",\"by\":1}\ncommit\n", 1)],
@@ -72,7 +53,7 @@ client 2 c2\n1: write @1\n2: replaced\n3: commit @2\n";
 
 /// The first client leaves its transaction open at its end, which then is aborted.
 const LEFT_OPEN: &[File] = &[
-    ("S", &[(SCHEMA, 1)]),
+    ("S", &[(ONE_TABLE, 1)]),
     ("c1", &[("write\ninsert t {\"name\":\"a\",\"by\":1}\n", 1)]),
     (
         "c2",
@@ -85,7 +66,7 @@ client 2 c2\n1: write @0\n2: inserted\n3: commit @1\n";
 
 /// Its own write transaction is open, so that it isn't to wait.
 const OWN_TURN: &[File] = &[
-    ("S", &[(SCHEMA, 1)]),
+    ("S", &[(ONE_TABLE, 1)]),
     (
         "c1",
         &[(
@@ -99,28 +80,7 @@ const OWN_TURN: &[File] = &[
 const OWN_TURN_OUT: &str = "client 1 c1\n1: read @0\n2: rows 0\n3: ended\n4: size 1\n5: write @1\n\
 6: refused write-open\n7: commit @2\nclient 2 c2\n1: write @0\n2: commit @1\n";
 
-/// Two clients of a hundred commits on rows that the other doesn't have, each with a read.
-const HUNDREDS: &[File] = &[
-    ("S", &[(SCHEMA, 1)]),
-    (
-        "c1",
-        &[(
-            "write\ninsert t {\"name\":\"one\"}\ncommit\nread\nend\n",
-            100,
-        )],
-    ),
-    (
-        "c2",
-        &[(
-            "write\ninsert t {\"name\":\"two\"}\ncommit\nread\nend\n",
-            100,
-        )],
-    ),
-];
-
-const NO_LINES: &[File] = &[("S", &[(SCHEMA, 1)]), ("c1", &[("# nothing\n", 1)])];
-
-static RUNS: [Run; 7] = [
+static RUNS: [Run; 6] = [
     ("S c1 c2", PARKED, (0, 0), Want::Ends(0, PARKED_OUT)),
     ("S c2 c1", PARKED, (0, 0), Want::Ends(0, FIRED_BEFORE)),
     ("S c1 c2", WRITERS, (0, 0), Want::Ends(0, WRITERS_OUT)),
@@ -132,7 +92,6 @@ static RUNS: [Run; 7] = [
         (0, 0),
         Want::Lines(0, 1002, "498: commit @200\n499: read @200\n500: ended\n"),
     ),
-    ("S c1", NO_LINES, (0, 0), Want::Ends(0, "client 1 c1\n")),
 ];
 
 #[test]
@@ -140,7 +99,12 @@ fn clients_are_answered_in_turn(rt: HostRuntime) -> Result<(), Fail> {
     all_hold(&rt, rt.alloc(), &RUNS)
 }
 
-static ALL_OR_NOTHING: [Run; 1] = [("S c1 c2", PARKED, (0, 0), Want::AllOrNothing(0, PARKED_OUT))];
+static ALL_OR_NOTHING: [Run; 1] = [(
+    "S c1 c2",
+    PARKED,
+    (0, 0),
+    Want::AllOrNothing(0, &[PARKED_OUT]),
+)];
 
 // With an allocation that is refused the status is 4 and nothing is written, and else it is 0.
 #[test]
@@ -148,81 +112,52 @@ fn a_run_that_wants_memory_writes_nothing(rt: HostRuntime) -> Result<(), Fail> {
     all_hold(&rt, rt.alloc(), &ALL_OR_NOTHING)
 }
 
-const CATALOGUE_SCHEMA: &str = r#"{"memdb":1,"tables":{
-"nodes":{"indexes":{"id":{"unique":true,"indexer":{"kind":"text","field":"node","lowercase":true}},
-"meta":{"allow_missing":true,"indexer":{"kind":"text_map","field":"meta"}},
-"uuid":{"unique":true,"allow_missing":true,"indexer":{"kind":"uuid","field":"uuid"}}}},
-"services":{"indexes":{"id":{"unique":true,"indexer":{"kind":"compound","parts":[
-{"kind":"text","field":"node","lowercase":true},{"kind":"text","field":"sid","lowercase":true}]}},
-"service":{"allow_missing":true,"indexer":{"kind":"text","field":"name","lowercase":true}},
-"up":{"indexer":{"kind":"conditional","field":"status","equals":"passing"}}}}}}"#;
+/// Whether the run of a worked session has its output.
+fn is_told<R: Threads + Wait + Sync>(
+    rt: &R,
+    alloc: Global,
+    worked: Worked,
+) -> Result<bool, AllocError> {
+    let session = worked.session();
+    let words = session_words(alloc, "", session)?;
+    let mut files = session_files(alloc, session)?;
+    has_output(rt, alloc, &words, &mut files, session)
+}
 
-const CATALOGUE: &str = r#"write
-insert nodes {"node":"Web-1","uuid":"11111111-2222-3333-4444-555555555555","meta":{"rack":"r1"}}
-insert services {"node":"web-1","sid":"api1","name":"api","status":"passing"}
-insert services {"node":"web-1","sid":"api2","name":"api","status":"critical"}
-defer registered web-1
-defer told the ring
-commit
-read
-first nodes id ["WEB-1"]
-get nodes meta ["rack"]
-get services id_prefix ["web-1","api2"]
-watch up get services up [true]
-end
-write
-insert services {"node":"web-1","sid":"api2","name":"api","status":"passing"}
-commit
-check up
-write
-delete-prefix services id_prefix ["web-1"]
-delete-all nodes id
-commit
-read
-get services service ["API"]
-"#;
+/// The same, where its words and files are at hand.
+fn has_output<R: Threads + Wait + Sync>(
+    rt: &R,
+    alloc: Global,
+    words: &[Text],
+    files: &mut MemFiles,
+    session: &Session,
+) -> Result<bool, AllocError> {
+    let mut out = sink(alloc, 0)?;
+    let status = run_loop(rt, alloc, words, files, &mut out);
+    is_output(alloc, status, out.bytes(), session)
+}
 
-const CATALOGUE_FILES: &[File] = &[("S", &[(CATALOGUE_SCHEMA, 1)]), ("c1", &[(CATALOGUE, 1)])];
-
-const CATALOGUE_OUT: &str = r#"client 1 c1
-1: write @0
-2: inserted
-3: inserted
-4: inserted
-5: deferred
-6: deferred
-7: commit @1
-  did told the ring
-  did registered web-1
-8: read @1
-9: row {"meta":{"rack":"r1"},"node":"Web-1","uuid":"11111111-2222-3333-4444-555555555555"}
-10: rows 1
-  {"meta":{"rack":"r1"},"node":"Web-1","uuid":"11111111-2222-3333-4444-555555555555"}
-11: rows 1
-  {"name":"api","node":"web-1","sid":"api2","status":"critical"}
-12: rows 1
-  {"name":"api","node":"web-1","sid":"api1","status":"passing"}
-13: ended
-14: write @1
-15: replaced
-16: commit @2
-17: fired @2
-18: write @2
-19: deleted 2
-20: deleted 1
-21: commit @3
-22: read @3
-23: rows 0
-"#;
-
-static CATALOGUE_RUN: [Run; 1] = [(
-    "S c1",
-    CATALOGUE_FILES,
-    (0, 0),
-    Want::Ends(0, CATALOGUE_OUT),
-)];
+/// Fails with the place of the first whose output is another.
+fn all_told<R: Threads + Wait + Sync>(
+    rt: &R,
+    alloc: Global,
+    sessions: &[Worked],
+) -> Result<(), Fail> {
+    for at in 0..sessions.len() {
+        if !is_told(rt, alloc, sessions[at])? {
+            return Err(Fail::from(at));
+        }
+    }
+    Ok(())
+}
 
 #[test]
-fn a_catalogue_is_answered(rt: HostRuntime) -> Result<(), Fail> {
-    all_hold(&rt, rt.alloc(), &CATALOGUE_RUN)
+fn worked_sessions_are_answered(rt: HostRuntime) -> Result<(), Fail> {
+    all_told(&rt, rt.alloc(), sessions_of_one())
+}
+
+#[test]
+fn two_clients_that_write_take_turns(rt: HostRuntime) -> Result<(), Fail> {
+    assert!(rt; is_told(&rt, rt.alloc(), Worked::BothWrite)?);
+    Ok(())
 }

@@ -1,17 +1,15 @@
 //! Clients that wait in vain: the answers so far, and who is stuck.
-use super::{File, Run, SCHEMA, Want, all_hold};
+use super::all_hold;
 use std::test::Fail;
+use worked_runs::{File, ONE_TABLE, Run, WAITS, Want};
 
-/// It watches for a row, and waits until it is put.
-const WAITS: &str = "read\nwatch w get t id\nend\nadd s w\nwait s\n";
-
-const ALONE: &[File] = &[("S", &[(SCHEMA, 1)]), ("c1", &[(WAITS, 1)])];
+const ALONE: &[File] = &[("S", &[(ONE_TABLE, 1)]), ("c1", &[(WAITS, 1)])];
 
 const ALONE_OUT: &str = "client 1 c1\n1: read @0\n2: rows 0\n3: ended\n4: size 1\nstuck 1 line 5\n";
 
 /// Each waits for the row that the other is to put behind its own wait.
 const EACH_OTHER: &[File] = &[
-    ("S", &[(SCHEMA, 1)]),
+    ("S", &[(ONE_TABLE, 1)]),
     (
         "c1",
         &[(
@@ -35,7 +33,7 @@ client 2 c2\n1: read @0\n2: none\n3: ended\n4: size 1\nstuck 1 line 6\n";
 
 /// The first works on for long after the second is parked, and then wakes it.
 const STILL_WORKS: &[File] = &[
-    ("S", &[(SCHEMA, 1)]),
+    ("S", &[(ONE_TABLE, 1)]),
     ("c1", &[("read\nend\n", 10), (PUTS, 1)]),
     ("c2", &[(WAITS, 1)]),
 ];
@@ -48,7 +46,7 @@ client 2 c2\n1: read @0\n2: rows 0\n3: ended\n4: size 1\n5: fired w @1\n";
 /// The first ends, and commits on the way, so that only the second is stuck: its second wait is for
 /// a change that nobody makes.
 const SECOND: &[File] = &[
-    ("S", &[(SCHEMA, 1)]),
+    ("S", &[(ONE_TABLE, 1)]),
     ("c1", &[(PUTS, 1)]),
     (
         "c2",
@@ -82,7 +80,7 @@ fn who_waits_in_vain_is_told(rt: HostRuntime) -> Result<(), Fail> {
 
 static FAILING: [Run; 2] = [
     ("S c1", ALONE, (0, 3), Want::Front(ALONE_OUT, 2)),
-    ("S c1", ALONE, (0, 0), Want::AllOrNothing(9, ALONE_OUT)),
+    ("S c1", ALONE, (0, 0), Want::AllOrNothing(9, &[ALONE_OUT])),
 ];
 
 // With an allocation that is refused the status is 4 and nothing is written, and else it is 9.

@@ -1,12 +1,12 @@
 //! A wait on many watches.
-use super::{SCHEMA, Want, is_wanted, push_word, sink};
-use crate::run::run_loop;
-use mdb_datum::Text;
+use super::is_run;
 use mdb_ports::{CallList, FileList, MemFiles};
 use run_io::write_number;
 use std::alloc::{AllocError, Global};
 use std::sync::Wait;
 use std::test::Fail;
+use std::thread::Threads;
+use worked_runs::{ONE_TABLE, Want, list};
 
 /// How many watches the set has.
 const WATCHES: u64 = 100;
@@ -65,32 +65,22 @@ fn putting(alloc: Global, puts: u64) -> Result<Vec<u8>, AllocError> {
 
 /// The files `S`, `c1`, which waits, and `c2`, which puts this row again.
 fn files(alloc: Global, puts: u64) -> Result<MemFiles, AllocError> {
-    let mut list = FileList::new(alloc);
-    list.push((
-        Text::of(alloc, "S")?,
-        Vec::from_slice(alloc, SCHEMA.as_bytes())?,
-    ))?;
-    list.push((Text::of(alloc, "c1")?, waiting(alloc)?))?;
-    list.push((Text::of(alloc, "c2")?, putting(alloc, puts)?))?;
-    Ok(MemFiles::of(list, CallList::new(alloc)))
-}
-
-/// The words that name them, the one that waits as the first client.
-fn words(alloc: Global) -> Result<Vec<Text>, AllocError> {
-    let mut words = Vec::new(alloc);
-    push_word(alloc, &mut words, "S")?;
-    push_word(alloc, &mut words, "c1")?;
-    push_word(alloc, &mut words, "c2")?;
-    Ok(words)
+    let mut files = FileList::new(alloc);
+    list(alloc, &mut files, "S", ONE_TABLE.as_bytes())?;
+    list(alloc, &mut files, "c1", &waiting(alloc)?)?;
+    list(alloc, &mut files, "c2", &putting(alloc, puts)?)?;
+    Ok(MemFiles::of(files, CallList::new(alloc)))
 }
 
 /// Whether the run ends so where the row of a number is put again.
-fn is_told<R: Wait>(rt: &R, alloc: Global, puts: u64, want: Want) -> Result<bool, AllocError> {
-    let words = words(alloc)?;
+fn is_told<R: Threads + Wait + Sync>(
+    rt: &R,
+    alloc: Global,
+    puts: u64,
+    want: Want,
+) -> Result<bool, AllocError> {
     let mut files = files(alloc, puts)?;
-    let mut out = sink(alloc, 0)?;
-    let status = run_loop(rt, alloc, &words, &mut files, &mut out);
-    is_wanted(status, out.bytes(), want)
+    is_run(rt, alloc, "S c1 c2", &mut files, 0, want)
 }
 
 const COMMITTED: &str = "321: write @1\n322: replaced\n323: commit @2\n";

@@ -1,10 +1,11 @@
 //! Sessions that are carried out step by step.
-use super::{Case, Solo, Told, users};
+use super::{Solo, Told, answers_of, opened_of};
 use client_session::Stepped;
 use mdb_ports::OpenGate;
 use std::alloc::{AllocError, Global};
 use std::sync::Wait;
 use std::test::Fail;
+use worked_runs::{Worked, sessions_of_one};
 
 /// Takes steps till no line is left, at most so many, and tells whether the text is this then.
 fn tells_by_steps<R: Wait>(rt: &R, solo: &mut Solo, steps: usize, answers: &str) -> Told {
@@ -16,22 +17,19 @@ fn tells_by_steps<R: Wait>(rt: &R, solo: &mut Solo, steps: usize, answers: &str)
     Ok(false)
 }
 
-/// Whether a script is answered so, step by step, in a new database.
-fn is_answered_by_steps<R: Wait>(rt: &R, alloc: Global, case: &Case) -> Told {
-    let mut solo = Solo::opened(alloc, case.0)?;
-    let told = tells_by_steps(rt, &mut solo, case.0.len() + 1, case.1);
+/// Whether a worked session is answered so, step by step.
+fn is_answered_by_steps<R: Wait>(rt: &R, alloc: Global, worked: Worked) -> Told {
+    let answers = answers_of(alloc, worked)?;
+    let (mut solo, length) = opened_of(alloc, worked)?;
+    let told = tells_by_steps(rt, &mut solo, length.saturating_add(1), &answers);
     solo.close(rt);
     told
 }
 
-/// Fails with the place of the first case that is answered otherwise.
-pub(super) fn all_answered_by_steps<R: Wait>(
-    rt: &R,
-    alloc: Global,
-    cases: &[Case],
-) -> Result<(), Fail> {
-    for at in 0..cases.len() {
-        if !is_answered_by_steps(rt, alloc, &cases[at])? {
+/// Fails with the place of the first that is answered otherwise.
+fn all_answered_by_steps<R: Wait>(rt: &R, alloc: Global, sessions: &[Worked]) -> Result<(), Fail> {
+    for at in 0..sessions.len() {
+        if !is_answered_by_steps(rt, alloc, sessions[at])? {
             return Err(Fail::from(at));
         }
     }
@@ -40,7 +38,7 @@ pub(super) fn all_answered_by_steps<R: Wait>(
 
 #[test]
 fn worked_sessions_are_answered_by_steps(rt: HostRuntime) -> Result<(), Fail> {
-    all_answered_by_steps(&rt, rt.alloc(), &users::CASES)
+    all_answered_by_steps(&rt, rt.alloc(), sessions_of_one())
 }
 
 /// Takes a step, and then runs the rest.

@@ -12,7 +12,7 @@ use Rattle.run_io.proofs.LoadAnswers.{inputs_stopped}
 use Rattle.run_io.proofs.inputs.read_inputs.Goals as goal
 
 pub returns-in_err-scripts : goal.returns-in_err-scripts
-returns-in_err-scripts c =
+returns-in_err-scripts g c =
     let contents = c.args.contents.now in
     let e = c.in_err-scripts.field-0.0 in
     let p = err_from_is_err_and c.from_residual-in_err-scripts.result c.from_residual-in_err-scripts.ensures.1 in
