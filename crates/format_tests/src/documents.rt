@@ -127,55 +127,29 @@ static UNORDERED: [(&str, &str); 5] = [
     ),
 ];
 
-#[test]
-fn a_reader_reads_one_document_after_another(rt: HostRuntime) -> Result<(), Fail> {
-    let mut reader = DocReader::new(rt.alloc());
-    for (text, want) in &REWRITTEN {
-        assert!(rt;
-            is_read_again(&mut reader, rt.alloc(), text, want)?,
-            "{text}"
-        );
+/// Whether one reader reads each text, one after another, as a document with its compact text.
+fn are_read_again(alloc: Global, cases: &[(&str, &str)]) -> Result<bool, DocError> {
+    let mut reader = DocReader::new(alloc);
+    for (text, want) in cases {
+        if !is_read_again(&mut reader, alloc, text, want)? {
+            return Ok(false);
+        }
     }
+    Ok(true)
+}
+
+#[test]
+fn names_may_come_in_any_order(rt: HostRuntime) -> Result<(), Fail> {
     for (text, want) in &UNORDERED {
-        assert!(rt;
-            is_read_again(&mut reader, rt.alloc(), text, want)?,
-            "{text}"
-        );
         assert!(rt; is_rewritten(rt.alloc(), text, want)?, "{text}");
     }
     Ok(())
 }
 
 #[test]
-fn a_reader_refuses_what_is_no_document(rt: HostRuntime) -> Result<(), Fail> {
-    let mut reader = DocReader::new(rt.alloc());
-    for bytes in &NO_JSON {
-        assert!(rt;
-            is_refused_again(&mut reader, bytes, Some(DocError::Syntax))?,
-            "{bytes:?}"
-        );
-    }
-    for bytes in &NO_TEXT {
-        assert!(rt;
-            is_refused_again(&mut reader, bytes, Some(DocError::Syntax))?,
-            "{bytes:?}"
-        );
-    }
-    for text in &NOT_WHOLE {
-        assert!(rt;
-            is_refused_again(&mut reader, text.as_bytes(), Some(DocError::NotWhole))?,
-            "{text}"
-        );
-    }
-    for case in &NESTED {
-        let text = nested(rt.alloc(), case.0, case.1)?;
-        assert!(rt;
-            is_refused_again(&mut reader, &text, case.2)?,
-            "{} around {}",
-            case.0,
-            case.1
-        );
-    }
+fn a_reader_reads_one_document_after_another(rt: HostRuntime) -> Result<(), Fail> {
+    assert!(rt; are_read_again(rt.alloc(), &REWRITTEN)?);
+    assert!(rt; are_read_again(rt.alloc(), &UNORDERED)?);
     Ok(())
 }
 
@@ -305,6 +279,57 @@ static NESTED: [Nested; 11] = [
     (100, "{}", Some(DocError::Deep)),
     (101, "!", Some(DocError::Syntax)),
 ];
+
+/// Whether one reader refuses each of some bytes as no JSON.
+fn are_no_json_again(reader: &mut DocReader, cases: &[&[u8]]) -> Result<bool, DocError> {
+    for bytes in cases {
+        if !is_refused_again(reader, bytes, Some(DocError::Syntax))? {
+            return Ok(false);
+        }
+    }
+    Ok(true)
+}
+
+/// Whether it refuses each of some texts for a number that isn't whole.
+fn are_not_whole_again(reader: &mut DocReader, cases: &[&str]) -> Result<bool, DocError> {
+    for text in cases {
+        if !is_refused_again(reader, text.as_bytes(), Some(DocError::NotWhole))? {
+            return Ok(false);
+        }
+    }
+    Ok(true)
+}
+
+/// Whether it judges each of some lists in lists so.
+fn are_judged_again(
+    reader: &mut DocReader,
+    alloc: Global,
+    cases: &[Nested],
+) -> Result<bool, DocError> {
+    for case in cases {
+        let text = nested(alloc, case.0, case.1)?;
+        if !is_refused_again(reader, &text, case.2)? {
+            return Ok(false);
+        }
+    }
+    Ok(true)
+}
+
+/// Whether one reader refuses all that a reading of its own refuses, for the same cause.
+fn refuses_the_same(alloc: Global) -> Result<bool, DocError> {
+    let mut reader = DocReader::new(alloc);
+    let syntax = are_no_json_again(&mut reader, &NO_JSON)?;
+    let bytes = are_no_json_again(&mut reader, &NO_TEXT)?;
+    let whole = are_not_whole_again(&mut reader, &NOT_WHOLE)?;
+    let nested = are_judged_again(&mut reader, alloc, &NESTED)?;
+    Ok(syntax && bytes && whole && nested)
+}
+
+#[test]
+fn a_reader_refuses_what_is_no_document(rt: HostRuntime) -> Result<(), Fail> {
+    assert!(rt; refuses_the_same(rt.alloc())?);
+    Ok(())
+}
 
 #[test]
 fn nesting_is_refused_past_its_limit(rt: HostRuntime) -> Result<(), Fail> {

@@ -25,17 +25,17 @@ type Case = (&'static str, &'static str);
 const WHOLE: &str = "@";
 
 /// What stands in `tables`, at the place of `@`, in each version of the format.
-const TABLES: [&str; 2] = [r#"{"memdb":1,"tables":{@}}"#, r#"{"memdb":2,"tables":{@}}"#];
+static TABLES: [&str; 2] = [r#"{"memdb":1,"tables":{@}}"#, r#"{"memdb":2,"tables":{@}}"#];
 
 /// What stands in `indexes` of the table `t`, at the place of `@`. In version 2 the table is tracked.
-const INDEXES: [&str; 2] = [
+static INDEXES: [&str; 2] = [
     r#"{"memdb":1,"tables":{"t":{"indexes":{@}}}}"#,
     r#"{"memdb":2,"tables":{"t":{"tracked":true,"indexes":{@}}}}"#,
 ];
 
 /// The indexer of the index `id` of the table `t`, at the place of `@`. In version 2 the table is
 /// tracked.
-const INDEXER: [&str; 2] = [
+static INDEXER: [&str; 2] = [
     r#"{"memdb":1,"tables":{"t":{"indexes":{"id":{"unique":true,"indexer":@}}}}}"#,
     r#"{"memdb":2,"tables":{"t":{"tracked":true,"indexes":{"id":{"unique":true,"indexer":@}}}}}"#,
 ];

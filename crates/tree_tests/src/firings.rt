@@ -3,6 +3,7 @@ ghost use Rattle.std.specs.Prelude.{◌≡◌, ◌+◌, ◌≤◌, ◌^◌, IfOk
 ghost use Rattle.std.specs.Arc.{arc_value};
 ghost use Rattle.radix_node.specs.Cells.{AreBelow, AreCellsOf, AreOf};
 
+use crate::ending::holds;
 use crate::txns::written::{has, row_of};
 use mdb_datum::Row;
 use notify_walk::fire_all;
@@ -146,39 +147,32 @@ fn fired_by(notice: &Notice, front: &Front, by: u64) -> Result<usize, AllocError
     fired(notice, &log)
 }
 
-/// How many have fired before a firing, after it, and after a second one.
-fn fired_in_turn(notice: &Notice, front: &Front) -> Result<[usize; 3], AllocError>
+/// Whether no cell has fired before a firing, and both after it and after a second one.
+fn both_fire(notice: &Notice, front: &Front) -> Result<bool, AllocError>
     requires { AreCellsOf front.now.book notice.now }
 {
     let before = fired(notice, front)?;
-    let after = fired_by(notice, front, 1)?;
-    Ok([before, after, fired_by(notice, front, 2)?])
+    Ok(before == 0 && fired_by(notice, front, 1)? == 2 && fired_by(notice, front, 2)? == 2)
 }
 
-/// The same of the notice of an insert.
-fn firings(alloc: Global) -> Result<[usize; 3], AllocError> {
+/// Whether the notice of an insert fires so, and has the watch of the missing key, and not that of
+/// the leaf that stays.
+fn is_noticed_so(alloc: Global, row: &Row) -> Result<bool, AllocError> {
+    let (notice, front, (missing, leaf)) = noticed(alloc, row)?;
+    Ok(has(&notice, missing) && !has(&notice, leaf) && both_fire(&notice, &front)?)
+}
+
+/// The same of a row without members.
+fn is_bare_noticed_so(alloc: Global) -> Result<bool, AllocError> {
     let row = row(alloc)?;
-    let (notice, front, _) = noticed(alloc, &row)?;
-    fired_in_turn(&notice, &front)
+    is_noticed_so(alloc, &row)
 }
 
 #[test]
-fn all_cells_of_a_notice_fire(rt: HostRuntime) -> Result<(), Fail> {
-    assert!(rt; firings(rt.alloc())? == [0, 2, 2]);
-    Ok(())
-}
-
-/// Whether the notice has the watch of the missing key, and that of the leaf that stays.
-fn told(alloc: Global) -> Result<[bool; 2], AllocError> {
-    let row = row(alloc)?;
-    let (notice, _, (missing, leaf)) = noticed(alloc, &row)?;
-    Ok([has(&notice, missing), has(&notice, leaf)])
-}
-
-#[test]
-fn a_missing_key_is_noticed_and_a_leaf_that_stays_is_not(rt: HostRuntime) -> Result<(), Fail> {
-    assert!(rt; told(rt.alloc())? == [true, false]);
-    Ok(())
+fn all_cells_of_a_notice_fire_which_has_the_missing_key_and_no_leaf_that_stays(
+    rt: HostRuntime,
+) -> Result<(), Fail> {
+    holds(is_bare_noticed_so(rt.alloc()))
 }
 
 /// The notice of a transaction without writes.
@@ -191,15 +185,21 @@ fn noticed_nothing(tree: &Tree, front: &Front) -> Result<Notice, AllocError>
     Ok(notice)
 }
 
-/// How many cells of an empty notice fire.
-fn of_nothing(alloc: Global) -> Result<usize, AllocError> {
+/// Whether no cell of it fires.
+fn fires_nothing(tree: &Tree, front: &Front) -> Result<bool, AllocError>
+    requires { AreOf front.now.book tree.now }
+{
+    let notice = noticed_nothing(tree, front)?;
+    Ok(fired_by(&notice, front, 1)? == 0)
+}
+
+/// The same of the tree without words.
+fn empty_fires_nothing(alloc: Global) -> Result<bool, AllocError> {
     let (tree, front, _ids) = empty(alloc)?;
-    let notice = noticed_nothing(&tree, &front)?;
-    fired_by(&notice, &front, 1)
+    fires_nothing(&tree, &front)
 }
 
 #[test]
 fn an_empty_notice_fires_nothing(rt: HostRuntime) -> Result<(), Fail> {
-    assert!(rt; of_nothing(rt.alloc())? == 0);
-    Ok(())
+    holds(empty_fires_nothing(rt.alloc()))
 }

@@ -10,11 +10,12 @@ mod refused_in_place;
 mod run;
 pub mod written;
 
+use crate::ending::{holds, none_wrong};
 use mdb_datum::Row;
 use radix_node::Tree;
 use std::alloc::{AllocError, Global};
 use std::test::Fail;
-use written::{Work, frozen, nodes_are, row, three_writes, work_of};
+use written::{Work, nodes_are, row, three_writes, work_of};
 
 /// A node of a tree: a path that leads to it, its own prefix, whether it has a leaf, and the labels
 /// of its edges.
@@ -98,47 +99,31 @@ const ROOT_KEYS: &[&[u8]] = &[b"ab", b"ac", b""];
 
 const ONE: &[Line] = &[(b"", b"", false, b"a"), (b"a", b"b", true, b"")];
 
-/// What is shown, keys that are put, keys that are taken out then, and the nodes that are left.
+/// Keys that are put, keys that are taken out then, and the nodes that are left.
 type Shape = (
-    &'static str,
     &'static [&'static [u8]],
     &'static [&'static [u8]],
     &'static [Line<'static>],
 );
 
 static SHAPES: [Shape; 5] = [
-    (
-        "a missing key goes beside the others",
-        BESIDE_KEYS,
-        &[],
-        BESIDE,
-    ),
-    (
-        "a node is split where the key parts",
-        FORKED_KEYS,
-        &[],
-        FORKED,
-    ),
-    (
-        "a node left with one edge is merged",
-        OLD_KEYS,
-        &[b"football\0"],
-        FOO,
-    ),
-    (
-        "a missing key takes nothing",
-        FORKED_KEYS,
-        &[b"foo", b"g"],
-        FORKED,
-    ),
-    ("the root is not merged", ROOT_KEYS, &[b"ac", b""], ONE),
+    // a missing key goes beside the others
+    (BESIDE_KEYS, &[], BESIDE),
+    // a node is split where the key parts
+    (FORKED_KEYS, &[], FORKED),
+    // a node left with one edge is merged
+    (OLD_KEYS, &[b"football\0"], FOO),
+    // a missing key takes nothing
+    (FORKED_KEYS, &[b"foo", b"g"], FORKED),
+    // the root is not merged
+    (ROOT_KEYS, &[b"ac", b""], ONE),
 ];
 
-/// The name of the first shape that is another one.
-fn first_wrong_shape(alloc: Global) -> Result<Option<&'static str>, AllocError> {
-    for (name, keys, taken, nodes) in &SHAPES {
+/// The place of the first shape that is another one.
+fn first_wrong_shape(alloc: Global) -> Result<Option<usize>, AllocError> {
+    for (at, (keys, taken, nodes)) in SHAPES.iter().enumerate() {
         if !nodes_after(alloc, keys, taken, nodes)? {
-            return Ok(Some(*name));
+            return Ok(Some(at));
         }
     }
     Ok(None)
@@ -146,9 +131,7 @@ fn first_wrong_shape(alloc: Global) -> Result<Option<&'static str>, AllocError> 
 
 #[test]
 fn keys_that_come_and_go_leave_these_nodes(rt: HostRuntime) -> Result<(), Fail> {
-    let wrong = first_wrong_shape(rt.alloc())?;
-    assert!(rt; wrong.is_none(), "{wrong:?}");
-    Ok(())
+    none_wrong(rt.alloc(), first_wrong_shape(rt.alloc()))
 }
 
 /// What each prefix takes from the forked tree, and the nodes that are left.
@@ -183,11 +166,11 @@ fn takes(alloc: Global, prefix: &[u8], count: u64, nodes: &[Line]) -> Result<boo
     takes_from(&mut work, prefix, count, nodes)
 }
 
-/// The first prefix that takes others.
-fn first_wrong_taken(alloc: Global) -> Result<Option<&'static [u8]>, AllocError> {
-    for (prefix, count, nodes) in &TAKEN {
+/// The place of the first prefix that takes others.
+fn first_wrong_taken(alloc: Global) -> Result<Option<usize>, AllocError> {
+    for (at, (prefix, count, nodes)) in TAKEN.iter().enumerate() {
         if !takes(alloc, prefix, *count, nodes)? {
-            return Ok(Some(*prefix));
+            return Ok(Some(at));
         }
     }
     Ok(None)
@@ -195,9 +178,7 @@ fn first_wrong_taken(alloc: Global) -> Result<Option<&'static [u8]>, AllocError>
 
 #[test]
 fn a_prefix_takes_its_node_with_all_under_it(rt: HostRuntime) -> Result<(), Fail> {
-    let wrong = first_wrong_taken(rt.alloc())?;
-    assert!(rt; wrong.is_none(), "{wrong:?}");
-    Ok(())
+    none_wrong(rt.alloc(), first_wrong_taken(rt.alloc()))
 }
 
 /// In a scattered order, since 97 is odd.
@@ -209,19 +190,6 @@ fn put_all_bytes(work: &mut Work, row: &Row) -> Result<(), AllocError> {
     Ok(())
 }
 
-/// A transaction with these keys.
-fn work_of_bytes(alloc: Global, row: &Row) -> Result<Work, AllocError> {
-    let mut work = Work::new(alloc)?;
-    put_all_bytes(&mut work, row)?;
-    Ok(work)
-}
-
-/// The tree of these keys.
-fn tree_of_bytes(alloc: Global) -> Result<Tree, AllocError> {
-    let row = row(alloc, 7)?;
-    frozen(work_of_bytes(alloc, &row)?)
-}
-
 /// Whether the node under `k` has 256 edges.
 fn has_all_bytes(tree: &Tree) -> bool {
     match tree.seek(b"k") {
@@ -230,11 +198,21 @@ fn has_all_bytes(tree: &Tree) -> bool {
     }
 }
 
+/// Whether it has, once these keys are put.
+fn takes_all_bytes(work: &mut Work, row: &Row) -> Result<bool, AllocError> {
+    put_all_bytes(work, row)?;
+    Ok(has_all_bytes(work.txn().tree()))
+}
+
+/// The same in a new transaction.
+fn has_edge_for_each_byte(alloc: Global) -> Result<bool, AllocError> {
+    let row = row(alloc, 7)?;
+    takes_all_bytes(&mut Work::new(alloc)?, &row)
+}
+
 #[test]
 fn a_node_may_have_an_edge_for_each_byte(rt: HostRuntime) -> Result<(), Fail> {
-    let tree = tree_of_bytes(rt.alloc())?;
-    assert!(rt; has_all_bytes(&tree));
-    Ok(())
+    holds(has_edge_for_each_byte(rt.alloc()))
 }
 
 /// Whether three writes, of which the last takes out the key of the first, leave one key.
@@ -246,8 +224,7 @@ fn leave_one_key(alloc: Global) -> Result<bool, AllocError> {
 
 #[test]
 fn writes_are_made_in_turn(rt: HostRuntime) -> Result<(), Fail> {
-    assert!(rt; leave_one_key(rt.alloc())?);
-    Ok(())
+    holds(leave_one_key(rt.alloc()))
 }
 
 /// The tree after the keys that begin with `foot` are taken out.
@@ -272,6 +249,5 @@ fn stays(alloc: Global) -> Result<bool, AllocError> {
 
 #[test]
 fn a_tree_that_was_given_is_not_changed(rt: HostRuntime) -> Result<(), Fail> {
-    assert!(rt; stays(rt.alloc())?);
-    Ok(())
+    holds(stays(rt.alloc()))
 }

@@ -2,6 +2,7 @@
 mod built;
 mod drawn;
 
+use crate::ending::{holds, none_wrong};
 use built::{Entry, chain, empty_tree, entries_of, tree_of, tree_of_keys};
 use drawn::{byte_entries, drawn_entries, drawn_key, key_after, key_before};
 use mdb_datum::{Datum, Row};
@@ -112,15 +113,12 @@ fn has_no_ends(alloc: Global) -> Result<bool, AllocError> {
 
 #[test]
 fn an_empty_tree_gives_the_end_at_once(rt: HostRuntime) -> Result<(), Fail> {
-    let wrong = first_wrong_of(rt.alloc(), &[], NOTHING)?;
-    assert!(rt; wrong.is_none(), "{wrong:?}");
-    Ok(())
+    none_wrong(rt.alloc(), first_wrong_of(rt.alloc(), &[], NOTHING))
 }
 
 #[test]
 fn an_empty_tree_has_no_ends(rt: HostRuntime) -> Result<(), Fail> {
-    assert!(rt; has_no_ends(rt.alloc())?);
-    Ok(())
+    holds(has_no_ends(rt.alloc()))
 }
 
 /// The keys of texts end with 00. The first two are those of 255 and 256, each with the text after
@@ -155,9 +153,7 @@ const WALKS: &[Case] = &[
 
 #[test]
 fn rows_come_in_the_order_of_their_keys(rt: HostRuntime) -> Result<(), Fail> {
-    let wrong = first_wrong_of(rt.alloc(), STORED, WALKS)?;
-    assert!(rt; wrong.is_none(), "{wrong:?}");
-    Ok(())
+    none_wrong(rt.alloc(), first_wrong_of(rt.alloc(), STORED, WALKS))
 }
 
 /// Whether a walk gives half of the rows of these numbers, and the others after another walk has
@@ -196,9 +192,7 @@ fn first_wrong_half_stored(alloc: Global) -> Result<Option<usize>, AllocError> {
 
 #[test]
 fn a_walk_may_be_left_half_way_and_others_go_beside_it(rt: HostRuntime) -> Result<(), Fail> {
-    let wrong = first_wrong_half_stored(rt.alloc())?;
-    assert!(rt; wrong.is_none(), "{wrong:?}");
-    Ok(())
+    none_wrong(rt.alloc(), first_wrong_half_stored(rt.alloc()))
 }
 
 /// The two keys part after `fooba`, the bytes of one edge.
@@ -221,9 +215,7 @@ const WITHIN: &[Case] = &[
 
 #[test]
 fn a_prefix_may_end_within_an_edge(rt: HostRuntime) -> Result<(), Fail> {
-    let wrong = first_wrong_of(rt.alloc(), PARTED, WITHIN)?;
-    assert!(rt; wrong.is_none(), "{wrong:?}");
-    Ok(())
+    none_wrong(rt.alloc(), first_wrong_of(rt.alloc(), PARTED, WITHIN))
 }
 
 /// Whether these are the numbers of the first and of the last row under a prefix.
@@ -251,9 +243,7 @@ fn first_wrong_ends(alloc: Global) -> Result<Option<usize>, AllocError> {
 
 #[test]
 fn the_first_and_the_last_row_under_a_prefix_are_lent(rt: HostRuntime) -> Result<(), Fail> {
-    let wrong = first_wrong_ends(rt.alloc())?;
-    assert!(rt; wrong.is_none(), "{wrong:?}");
-    Ok(())
+    none_wrong(rt.alloc(), first_wrong_ends(rt.alloc()))
 }
 
 /// A text, and the number of the row under the longest key that begins it.
@@ -279,9 +269,7 @@ fn first_wrong_begun(alloc: Global) -> Result<Option<usize>, AllocError> {
 
 #[test]
 fn the_longest_key_that_begins_a_text_is_found(rt: HostRuntime) -> Result<(), Fail> {
-    let wrong = first_wrong_begun(rt.alloc())?;
-    assert!(rt; wrong.is_none(), "{wrong:?}");
-    Ok(())
+    none_wrong(rt.alloc(), first_wrong_begun(rt.alloc()))
 }
 
 /// Whether a key is one that a walk gives.
@@ -371,53 +359,46 @@ const BOUNDS: &[&[u8]] = &[
     b"\xff\x00",
 ];
 
-/// The first bound from which a walk gives other rows.
+/// The place of the first bound from which a walk gives other rows.
 fn first_wrong_bound(
     alloc: Global,
     tree: &Tree,
     entries: &[Entry],
-) -> Result<Option<&'static [u8]>, AllocError> {
-    for bound in BOUNDS {
+) -> Result<Option<usize>, AllocError> {
+    for (at, bound) in BOUNDS.iter().enumerate() {
         if !are_filters(alloc, tree, entries, bound)? {
-            return Ok(Some(*bound));
+            return Ok(Some(at));
         }
     }
     Ok(None)
 }
 
 /// The same in the tree of entries.
-fn first_wrong_bound_of(
-    alloc: Global,
-    entries: &[Entry],
-) -> Result<Option<&'static [u8]>, AllocError> {
+fn first_wrong_bound_of(alloc: Global, entries: &[Entry]) -> Result<Option<usize>, AllocError> {
     let tree = tree_of(alloc, entries)?;
     first_wrong_bound(alloc, &tree, entries)
 }
 
 /// The same in the tree of nested keys.
-fn first_wrong_nested(alloc: Global) -> Result<Option<&'static [u8]>, AllocError> {
+fn first_wrong_nested(alloc: Global) -> Result<Option<usize>, AllocError> {
     let entries = entries_of(alloc, NESTED)?;
     first_wrong_bound_of(alloc, &entries)
 }
 
 #[test]
 fn bounds_hold_between_keys_and_at_prefixes_of_them(rt: HostRuntime) -> Result<(), Fail> {
-    let wrong = first_wrong_nested(rt.alloc())?;
-    assert!(rt; wrong.is_none(), "{wrong:?}");
-    Ok(())
+    none_wrong(rt.alloc(), first_wrong_nested(rt.alloc()))
 }
 
 /// The same in the tree of all keys of one byte, which are edges of one node.
-fn first_wrong_wide(alloc: Global) -> Result<Option<&'static [u8]>, AllocError> {
+fn first_wrong_wide(alloc: Global) -> Result<Option<usize>, AllocError> {
     let entries = byte_entries(alloc)?;
     first_wrong_bound_of(alloc, &entries)
 }
 
 #[test]
 fn walks_go_through_a_node_with_256_edges(rt: HostRuntime) -> Result<(), Fail> {
-    let wrong = first_wrong_wide(rt.alloc())?;
-    assert!(rt; wrong.is_none(), "{wrong:?}");
-    Ok(())
+    none_wrong(rt.alloc(), first_wrong_wide(rt.alloc()))
 }
 
 /// Whether all walks from just before a key give what the entries give.
@@ -475,12 +456,12 @@ fn first_wrong_key_drawn(
     first_wrong_key_of(alloc, &entries)
 }
 
-/// The first of so many drawn trees in which a walk gives other rows, and the place of the key.
-fn first_wrong_tree(alloc: Global, trees: u8, keys: u8) -> Result<Option<(u8, usize)>, AllocError> {
+/// The first of so many drawn trees in which a walk gives other rows.
+fn first_wrong_tree(alloc: Global, trees: usize, keys: u8) -> Result<Option<usize>, AllocError> {
     let mut seed = 2;
     for tree in 0..trees {
-        if let Some(at) = first_wrong_key_drawn(alloc, keys, &mut seed)? {
-            return Ok(Some((tree, at)));
+        if first_wrong_key_drawn(alloc, keys, &mut seed)?.is_some() {
+            return Ok(Some(tree));
         }
     }
     Ok(None)
@@ -488,18 +469,14 @@ fn first_wrong_tree(alloc: Global, trees: u8, keys: u8) -> Result<Option<(u8, us
 
 #[test]
 fn bounds_hold_at_before_and_after_each_key_of_drawn_trees(rt: HostRuntime) -> Result<(), Fail> {
-    let wrong = first_wrong_tree(rt.alloc(), 20, 16)?;
-    assert!(rt; wrong.is_none(), "{wrong:?}");
-    Ok(())
+    none_wrong(rt.alloc(), first_wrong_tree(rt.alloc(), 20, 16))
 }
 
 #[test]
 fn bounds_hold_at_before_and_after_each_key_of_200_small_trees(
     rt: HostRuntime,
 ) -> Result<(), Fail> {
-    let wrong = first_wrong_tree(rt.alloc(), 200, 5)?;
-    assert!(rt; wrong.is_none(), "{wrong:?}");
-    Ok(())
+    none_wrong(rt.alloc(), first_wrong_tree(rt.alloc(), 200, 5))
 }
 
 /// Whether all walks from a drawn key or prefix give what the entries give.
@@ -519,7 +496,7 @@ fn first_wrong_draw(
     tree: &Tree,
     entries: &[Entry],
     seed: &mut u32,
-) -> Result<Option<u16>, AllocError> {
+) -> Result<Option<usize>, AllocError> {
     for draw in 0..500 {
         if !are_filters_at_a_draw(alloc, tree, entries, seed)? {
             return Ok(Some(draw));
@@ -533,16 +510,16 @@ fn first_wrong_of_many(
     alloc: Global,
     entries: &[Entry],
     seed: &mut u32,
-) -> Result<Option<u16>, Fail> {
+) -> Result<Option<usize>, AllocError> {
     if entries.len() < 80 {
-        return Err(Fail::from("few keys"));
+        return Ok(Some(500));
     }
     let tree = tree_of(alloc, entries)?;
-    Ok(first_wrong_draw(alloc, &tree, entries, seed)?)
+    first_wrong_draw(alloc, &tree, entries, seed)
 }
 
-/// The same of drawn entries.
-fn first_wrong_drawn(alloc: Global) -> Result<Option<u16>, Fail> {
+/// The same of drawn entries. Where they aren't many, the place is 500.
+fn first_wrong_drawn(alloc: Global) -> Result<Option<usize>, AllocError> {
     let mut seed = 1;
     let entries = drawn_entries(alloc, 160, &mut seed)?;
     first_wrong_of_many(alloc, &entries, &mut seed)
@@ -550,9 +527,7 @@ fn first_wrong_drawn(alloc: Global) -> Result<Option<u16>, Fail> {
 
 #[test]
 fn two_thousand_walks_give_what_the_sorted_keys_give(rt: HostRuntime) -> Result<(), Fail> {
-    let wrong = first_wrong_drawn(rt.alloc())?;
-    assert!(rt; wrong.is_none(), "{wrong:?}");
-    Ok(())
+    none_wrong(rt.alloc(), first_wrong_drawn(rt.alloc()))
 }
 
 /// The longest key that the layers above make, whose prefixes are the deepest tree.
@@ -613,8 +588,7 @@ fn longest_goes_deep(alloc: Global) -> Result<bool, AllocError> {
 
 #[test]
 fn walks_go_deep_on_the_main_stack(rt: HostRuntime) -> Result<(), Fail> {
-    assert!(rt; longest_goes_deep(rt.alloc())?);
-    Ok(())
+    holds(longest_goes_deep(rt.alloc()))
 }
 
 /// The number of the next row, for which a walk is asked again where it refuses once.
@@ -644,21 +618,25 @@ fn gives_chain_again(alloc: Global) -> Result<bool, AllocError> {
 
 #[test]
 fn a_step_that_was_refused_gives_its_row_the_next_time(rt: HostRuntime) -> Result<(), Fail> {
-    assert!(rt; gives_chain_again(rt.alloc())?);
-    Ok(())
+    holds(gives_chain_again(rt.alloc()))
 }
 
-/// Whether they do in a thread, which is the only owner of the tree, and lets go of its nodes.
-fn goes_deep_elsewhere<R: Threads>(rt: &R, alloc: Global, tree: Tree) -> Result<bool, Fail> {
-    let Ok(child) = spawn(rt, move || goes_deep(alloc, &tree)) else {
-        return Err(Fail::from("no thread"));
-    };
-    Ok(child.join(rt)?)
+/// Whether they do in a thread, which is the only owner of the tree, and lets go of its nodes. That
+/// there is no thread counts as want of memory.
+fn goes_deep_elsewhere<R: Threads>(rt: &R, alloc: Global, tree: Tree) -> Result<bool, AllocError> {
+    match spawn(rt, move || goes_deep(alloc, &tree)) {
+        Ok(child) => child.join(rt),
+        Err(_) => Err(AllocError),
+    }
+}
+
+/// The same of the deepest tree.
+fn longest_goes_deep_elsewhere<R: Threads>(rt: &R, alloc: Global) -> Result<bool, AllocError> {
+    let tree = chain(alloc, &LONGEST)?;
+    goes_deep_elsewhere(rt, alloc, tree)
 }
 
 #[test]
 fn walks_go_deep_in_a_thread(rt: HostRuntime) -> Result<(), Fail> {
-    let tree = chain(rt.alloc(), &LONGEST)?;
-    assert!(rt; goes_deep_elsewhere(&rt, rt.alloc(), tree)?);
-    Ok(())
+    holds(longest_goes_deep_elsewhere(&rt, rt.alloc()))
 }

@@ -2,6 +2,4 @@
 #![tactic(auto)]
 
 #[cfg(test)]
-mod sets;
-#[cfg(test)]
 mod txns;

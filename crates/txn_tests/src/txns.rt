@@ -10,6 +10,7 @@ mod drawn;
 mod four_callers;
 mod late;
 mod long_run;
+mod sets;
 mod tracked;
 mod watches;
 mod without_memory;

@@ -8,7 +8,7 @@ use std::alloc::{AllocError, Global};
 use std::test::Fail;
 
 /// Arguments, and their exact key in hexadecimal or the refusal.
-const EXACT: [(Sample, &str, &str); 28] = [
+static EXACT: [(Sample, &str, &str); 28] = [
     (Sample::Str(true), "[\"Ann\"]", "616e6e00"),
     (Sample::Str(false), "[\"\"]", "00"),
     (Sample::Str(false), "[]", "ArgCount"),
@@ -48,7 +48,7 @@ const EXACT: [(Sample, &str, &str); 28] = [
 ];
 
 /// Arguments, and their key in the prefix form, in hexadecimal, or the refusal.
-const PREFIXES: [(Sample, &str, &str); 23] = [
+static PREFIXES: [(Sample, &str, &str); 23] = [
     (Sample::Str(false), "[\"ann\"]", "616e6e"),
     (Sample::Str(false), "[\"\"]", ""),
     (Sample::Str(false), "[1]", "ArgKind"),
@@ -83,7 +83,7 @@ const PREFIXES: [(Sample, &str, &str); 23] = [
 ];
 
 /// Numbers that no text can give: one past the numbers of 8 bytes, and the ends of `i128`.
-const PAST: [(Sample, i128); 6] = [
+static PAST: [(Sample, i128); 6] = [
     (Sample::Uint(Width::Eight), 18_446_744_073_709_551_616),
     (Sample::Uint(Width::Eight), i128::MAX),
     (Sample::Uint(Width::Eight), i128::MIN),

@@ -1,8 +1,7 @@
 //! What a kind is made of: an empty name, a number that is no width, a list or an object as a
 //! scalar and no parts at all make none.
 
-use super::answers::items_in;
-use mdb_datum::{Datum, Text};
+use mdb_datum::{DocError, Text, read_doc};
 use mdb_encode::{Field, Parts, Scalar, Width};
 use std::alloc::{AllocError, Global};
 use std::test::Fail;
@@ -23,10 +22,20 @@ fn width_bytes(number: i128) -> u8 {
     }
 }
 
-/// Whether a document is a scalar.
-fn is_scalar(document: Datum) -> bool {
-    Scalar::of(document).is_some()
+/// Whether a text is a scalar's.
+fn is_scalar(alloc: Global, text: &str) -> Result<bool, DocError> {
+    Ok(Scalar::of(read_doc(alloc, text.as_bytes())?).is_some())
 }
+
+/// Texts of scalars, and of what is none.
+static SCALARS: [(&str, bool); 6] = [
+    ("null", true),
+    ("false", true),
+    ("-1", true),
+    ("\"on\"", true),
+    ("[1]", false),
+    ("{}", false),
+];
 
 #[test]
 fn a_name_is_not_empty(rt: HostRuntime) -> Result<(), Fail> {
@@ -47,13 +56,9 @@ fn widths_are_four(rt: HostRuntime) {
 
 #[test]
 fn scalars_are_no_lists(rt: HostRuntime) -> Result<(), Fail> {
-    let text = Text::of(rt.alloc(), "on")?;
-    assert!(rt; is_scalar(Datum::Nil));
-    assert!(rt; is_scalar(Datum::Flag(false)));
-    assert!(rt; is_scalar(Datum::Whole(-1)));
-    assert!(rt; is_scalar(Datum::Str(text)));
-    let items = items_in(rt.alloc(), "[1]")?;
-    assert!(rt; !is_scalar(Datum::Items(items)));
+    for (text, want) in &SCALARS {
+        assert!(rt; is_scalar(rt.alloc(), text)? == *want, "{text}");
+    }
     Ok(())
 }
 

@@ -6,7 +6,7 @@ use mdb_encode::Width;
 use std::test::Fail;
 
 /// Rows, and their keys in hexadecimal or the refusal.
-const ROWS: [(Sample, &str, &str); 98] = [
+static ROWS: [(Sample, &str, &str); 98] = [
     (Sample::Str(false), "{\"f\":\"ann\"}", "616e6e00;"),
     (Sample::Str(false), "{\"f\":\"Ann\"}", "416e6e00;"),
     (Sample::Str(true), "{\"f\":\"Ann@[Z\"}", "616e6e405b7a00;"),

@@ -10,7 +10,7 @@ const FILE: &str = r#"{"memdb":1,"tables":{
 "mail":{"indexer":$},"tags":{"indexer":$}}}}}"#;
 
 /// Names, and the places of the tables of these names.
-const TABLE_PLACES: [(&str, Option<usize>); 11] = [
+static TABLE_PLACES: [(&str, Option<usize>); 11] = [
     ("keys", Some(0)),
     ("notes", Some(1)),
     ("rules", Some(2)),
@@ -25,7 +25,7 @@ const TABLE_PLACES: [(&str, Option<usize>); 11] = [
 ];
 
 /// Names, and the places of the indexes of these names in the table `users`.
-const INDEX_PLACES: [(&str, Option<usize>); 10] = [
+static INDEX_PLACES: [(&str, Option<usize>); 10] = [
     ("age", Some(0)),
     ("id", Some(1)),
     ("mail", Some(2)),

@@ -2,7 +2,7 @@
 use super::*;
 
 /// The file as a whole.
-const FILES: [Case; 36] = [
+static FILES: [Case; 36] = [
     (r#""#, "syntax"),
     (r#"{"#, "syntax"),
     (r#"{"memdb":1,"tables":{}}}"#, "syntax"),
@@ -53,7 +53,7 @@ const FILES: [Case; 36] = [
 ];
 
 /// A table as a whole.
-const OF_TABLES: [Case; 11] = [
+static OF_TABLES: [Case; 11] = [
     (r#""t":null"#, "bad-shape t"),
     (r#""t":[]"#, "bad-shape t"),
     (r#""t":{}"#, "bad-shape t"),
@@ -77,7 +77,7 @@ const OF_TABLES: [Case; 11] = [
 ];
 
 /// An index of the table `t`.
-const OF_INDEXES: [Case; 17] = [
+static OF_INDEXES: [Case; 17] = [
     (r#""id":null"#, "bad-shape t id"),
     (r#""id":[]"#, "bad-shape t id"),
     (r#""id":{}"#, "bad-shape t id"),
@@ -122,7 +122,7 @@ const OF_INDEXES: [Case; 17] = [
 ];
 
 /// The indexer of the index `id` of the table `t`.
-const OF_INDEXERS: [Case; 52] = [
+static OF_INDEXERS: [Case; 52] = [
     (r#"null"#, "bad-shape t id"),
     (r#""text""#, "bad-shape t id"),
     (r#"["text"]"#, "bad-shape t id"),
@@ -260,7 +260,7 @@ fn bytes_that_are_no_text_are_no_syntax(rt: HostRuntime) -> Result<(), AllocErro
 }
 
 /// Names with escapes, at the place of a table's name.
-const ESCAPED: [Case; 2] = [
+static ESCAPED: [Case; 2] = [
     (r#""a\"\n\u0041":1"#, "bad-name a\"\nA"),
     (r#""a\\b":1"#, "bad-name a\\b"),
 ];

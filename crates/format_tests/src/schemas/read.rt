@@ -2,7 +2,7 @@
 use super::*;
 
 /// Whole files: of four tables, of two, and one whose members stand in any order.
-const FILES: [Case; 3] = [
+static FILES: [Case; 3] = [
     (
         r#"{"memdb":1,"tables":{
 "keys":{"indexes":{"id":{"unique":true,"indexer":{"kind":"uuid","field":"key"}}}},
@@ -40,7 +40,7 @@ const FILES: [Case; 3] = [
 ];
 
 /// Indexers of the index `id` of the table `t`.
-const INDEXERS: [Case; 16] = [
+static INDEXERS: [Case; 16] = [
     ("$", "a schema"),
     (
         r#"{"kind":"text","field":"a","lowercase":true}"#,
@@ -94,7 +94,7 @@ const BESIDE_ID: &str =
     r#"{"memdb":1,"tables":{"t":{"indexes":{"id":{"unique":true,"indexer":$},"x":{@}}}}}"#;
 
 /// Indexes that may not be `id`, and the same with other rules.
-const INDEXES_BESIDE_ID: [Case; 6] = [
+static INDEXES_BESIDE_ID: [Case; 6] = [
     (
         r#""indexer":{"kind":"text_list","field":"a","lowercase":true}"#,
         "a schema",

@@ -18,7 +18,7 @@ const TWO_TABLES: &str = r#"{"memdb":@,"tables":{
 "u":{"indexes":{"id":{"unique":true,"indexer":{"kind":"text","field":"name"}}}}}}"#;
 
 /// Members that version 2 refuses beside the indexes of `t`.
-const REFUSED_IN_TWO: [Case; 6] = [
+static REFUSED_IN_TWO: [Case; 6] = [
     (r#","tracked":1"#, "bad-shape t"),
     (r#","tracked":null"#, "bad-shape t"),
     (r#","tracked":"true""#, "bad-shape t"),
@@ -28,13 +28,13 @@ const REFUSED_IN_TWO: [Case; 6] = [
 ];
 
 /// Members that version 1 refuses there.
-const REFUSED_IN_ONE: [Case; 2] = [
+static REFUSED_IN_ONE: [Case; 2] = [
     (r#","tracked":true"#, "bad-shape t"),
     (r#","tracked":false"#, "bad-shape t"),
 ];
 
 /// Tables of version 2 that break two rules: the first in order is answered.
-const TWO_RULES: [Case; 3] = [
+static TWO_RULES: [Case; 3] = [
     // The table's name, then its shape.
     (
         r#""t_prefix":{"indexes":{},"tracked":1}"#,
@@ -46,14 +46,14 @@ const TWO_RULES: [Case; 3] = [
 ];
 
 /// The two tables in each version.
-const VERSIONS: [Case; 3] = [
+static VERSIONS: [Case; 3] = [
     ("1", "bad-shape t"),
     ("2", "a schema"),
     ("3", "bad-version"),
 ];
 
 /// What stands beside the indexes of `t` in version 2, and whether the table is tracked.
-const READ: [(&str, bool); 4] = [
+static READ: [(&str, bool); 4] = [
     ("", false),
     (r#","tracked":false"#, false),
     (r#","tracked":true"#, true),

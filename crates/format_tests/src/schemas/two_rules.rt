@@ -2,7 +2,7 @@
 use super::*;
 
 /// Of the file as a whole.
-const FILES: [Case; 9] = [
+static FILES: [Case; 9] = [
     // The syntax, then the version.
     (r#"{"memdb":3,"tables":{}"#, "syntax"),
     // A number that isn't whole far within, then the shape.
@@ -28,7 +28,7 @@ const FILES: [Case; 9] = [
 ];
 
 /// Of two tables.
-const OF_TABLES: [Case; 6] = [
+static OF_TABLES: [Case; 6] = [
     // A width in table `a`, then the name of table `b!`.
     (
         r#""b!":{},"a":{"indexes":{"id":{"unique":true,"indexer":{"kind":"uint","field":"n","width":3}}}}"#,
@@ -59,7 +59,7 @@ const OF_TABLES: [Case; 6] = [
 ];
 
 /// Of the table `t`, by its indexes.
-const OF_INDEXES: [Case; 11] = [
+static OF_INDEXES: [Case; 11] = [
     // No `id`, then the name of an index.
     (r#""a b":{"indexer":$}"#, "no-id t"),
     (r#""x_prefix":1"#, "no-id t"),
@@ -109,7 +109,7 @@ const OF_INDEXES: [Case; 11] = [
 ];
 
 /// Of the indexer of the index `id` of the table `t`.
-const OF_INDEXERS: [Case; 14] = [
+static OF_INDEXERS: [Case; 14] = [
     // The kind, then the members.
     (r#"{"kind":"blob","x":1}"#, "unknown-kind t id"),
     // The members, then the width.

@@ -1,7 +1,7 @@
 //! A lawful line of each command.
 use super::*;
 
-const COMMANDS: [Case; 31] = [
+static COMMANDS: [Case; 31] = [
     ("read", "1 read;"),
     ("write", "1 write;"),
     ("end", "1 end;"),
@@ -53,7 +53,7 @@ fn each_command_is_read(rt: HostRuntime) -> Result<(), AllocError> {
 }
 
 /// Names of 1 and of 64 bytes, and an index's name of 71.
-const NAMES: [Case; 5] = [
+static NAMES: [Case; 5] = [
     ("check _", "1 check _;"),
     ("check -", "1 check -;"),
     ("check Az09_-", "1 check Az09_-;"),
@@ -73,7 +73,7 @@ fn names_are_words(rt: HostRuntime) -> Result<(), AllocError> {
 }
 
 /// A document is the rest of the line; of several members of one name the last counts.
-const DOCUMENTS: [Case; 4] = [
+static DOCUMENTS: [Case; 4] = [
     ("insert t {}", "1 insert t {};"),
     (
         "insert t { \"b\" : 1 , \"a\" : [ 2 ] } \t ",

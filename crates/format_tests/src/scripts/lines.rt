@@ -1,7 +1,7 @@
 //! Lines, blanks, comments, and their numbers.
 use super::*;
 
-const LINES: [Case; 19] = [
+static LINES: [Case; 19] = [
     ("", ""),
     ("\n", ""),
     ("read", "1 read;"),
@@ -29,7 +29,7 @@ fn lines_are_numbered_from_one(rt: HostRuntime) -> Result<(), AllocError> {
 }
 
 /// What is no blank and no end of a line.
-const OTHER_BYTES: [Case; 9] = [
+static OTHER_BYTES: [Case; 9] = [
     ("read\r\r\n", "unknown-word 1"),
     ("read\r ", "unknown-word 1"),
     ("read\rwrite", "unknown-word 1"),
@@ -47,7 +47,7 @@ fn other_bytes_belong_to_words(rt: HostRuntime) -> Result<(), AllocError> {
 }
 
 /// The first line that breaks a rule is told.
-const TWO_LINES: [Case; 4] = [
+static TWO_LINES: [Case; 4] = [
     ("read\nreads\ncheck", "unknown-word 2"),
     ("check\nreads", "bad-shape 1"),
     ("# a\r\n\r\n# b\r\ncheck ,", "bad-name 4"),
@@ -79,7 +79,7 @@ fn are_told(alloc: Global, feeds: usize, last: &str, wanted: &str) -> Result<boo
 }
 
 /// So many line feeds, what follows them, and what the file is told as.
-const LONG_FILES: [(usize, &str, &str); 5] = [
+static LONG_FILES: [(usize, &str, &str); 5] = [
     (100_000, "", ""),
     (100_001, "", "too-many-lines"),
     (99_999, "read", "100000 read;"),

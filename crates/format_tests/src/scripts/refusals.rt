@@ -1,7 +1,7 @@
 //! Lines that break a rule, and which rule is told where they break several.
 use super::*;
 
-const WORDS: [Case; 13] = [
+static WORDS: [Case; 13] = [
     ("reads", "unknown-word 1"),
     ("Read", "unknown-word 1"),
     ("until", "unknown-word 1"),
@@ -22,7 +22,7 @@ fn unknown_words_are_told(rt: HostRuntime) -> Result<(), AllocError> {
     check_all(&rt, rt.alloc(), &WORDS)
 }
 
-const SHAPES: [Case; 44] = [
+static SHAPES: [Case; 44] = [
     ("read x", "bad-shape 1"),
     ("write #", "bad-shape 1"),
     ("end end", "bad-shape 1"),
@@ -74,7 +74,7 @@ fn other_shapes_are_told(rt: HostRuntime) -> Result<(), AllocError> {
     check_all(&rt, rt.alloc(), &SHAPES)
 }
 
-const NAMES: [Case; 26] = [
+static NAMES: [Case; 26] = [
     ("insert , {}", "bad-name 1"),
     ("insert t.u {", "bad-name 1"),
     ("delete ä {}", "bad-name 1"),
@@ -114,7 +114,7 @@ fn other_names_are_told(rt: HostRuntime) -> Result<(), AllocError> {
     check_all(&rt, rt.alloc(), &NAMES)
 }
 
-const DOCUMENTS: [Case; 18] = [
+static DOCUMENTS: [Case; 18] = [
     ("insert t {", "bad-doc 1"),
     ("insert t []", "bad-doc 1"),
     ("insert t null", "bad-doc 1"),

@@ -2,7 +2,7 @@
 use super::played::{RULES, filled, tell_answer, write};
 use super::words::ask_of;
 use super::work::{Base, Work};
-use super::{Told, asked, right};
+use super::{Told, Wrong, asked, none_wrong};
 use mdb_schema::{Answer, AskError, Query};
 use std::alloc::Global;
 use std::test::Fail;
@@ -78,28 +78,30 @@ fn are_told(alloc: Global, table: &Base, txn: &mut Work, case: &Case) -> Told {
     are_both_told(alloc, table, txn, &query, &case.3)
 }
 
-/// Fails with the first answer that is another one.
-fn each_is_told(alloc: Global, table: &Base, txn: &mut Work) -> Result<(), Fail> {
-    for case in &CASES {
-        right(are_told(alloc, table, txn, case)?, case.2)?;
-    }
-    Ok(())
-}
-
-/// The same after the writes in a change of the table.
-fn change_by(alloc: Global, table: &Base, txn: &mut Work) -> Result<(), Fail> {
+/// The arguments of the first question with another answer, after the writes in a change.
+fn first_wrong_in(alloc: Global, table: &Base, txn: &mut Work) -> Wrong {
     write(alloc, txn, WRITES)?;
-    each_is_told(alloc, table, txn)
+    for case in &CASES {
+        if !are_told(alloc, table, txn, case)? {
+            return Ok(Some(case.2));
+        }
+    }
+    Ok(None)
 }
 
 /// The same in a new change.
-fn change(alloc: Global, table: &Base) -> Result<(), Fail> {
+fn first_wrong_of(alloc: Global, table: &Base) -> Wrong {
     let mut txn = table.txn()?;
-    change_by(alloc, table, &mut txn)
+    first_wrong_in(alloc, table, &mut txn)
+}
+
+/// The same of a change of those rows.
+fn first_wrong(alloc: Global) -> Wrong {
+    let table = filled(alloc, RULES, ROWS)?;
+    first_wrong_of(alloc, &table)
 }
 
 #[test]
 fn a_change_answers_of_its_own_rows(rt: HostRuntime) -> Result<(), Fail> {
-    let table = filled(rt.alloc(), RULES, ROWS)?;
-    change(rt.alloc(), &table)
+    none_wrong(first_wrong(rt.alloc()))
 }

@@ -1,7 +1,7 @@
 //! Writes near the end of the ids, and the notices of a change.
 
 use super::work::{Base, Work};
-use super::{SCHEMA, Told, asked, def_of, right, row_of};
+use super::{SCHEMA, Told, Wrong, asked, def_of, none_wrong, row_of};
 use mdb_schema::{Ask, WriteError};
 use std::alloc::{AllocError, Global};
 use std::test::Fail;
@@ -47,12 +47,19 @@ static PUTS: [Case; 4] = [
     (5_000, r#"{"tags":["a"]}"#, Err(WriteError::NoId)),
 ];
 
+/// The first row whose put is answered otherwise.
+fn first_wrong_put(alloc: Global) -> Wrong {
+    for case in &PUTS {
+        if !is_put(alloc, case)? {
+            return Ok(Some(case.1));
+        }
+    }
+    Ok(None)
+}
+
 #[test]
 fn a_put_without_ids_is_refused_last(rt: HostRuntime) -> Result<(), Fail> {
-    for case in &PUTS {
-        right(is_put(rt.alloc(), case)?, case.1)?;
-    }
-    Ok(())
+    none_wrong(first_wrong_put(rt.alloc()))
 }
 
 /// Rows of which one is listed twice by the tags that begin with `a`.
@@ -102,12 +109,19 @@ static WIPES: [Wipe; 4] = [
     (2 * A_ROW, r#"["c"]"#, Ok(0)),
 ];
 
+/// The first tag whose wipe is answered otherwise.
+fn first_wrong_wipe(alloc: Global) -> Wrong {
+    for case in &WIPES {
+        if !is_wiped(alloc, case)? {
+            return Ok(Some(case.1));
+        }
+    }
+    Ok(None)
+}
+
 #[test]
 fn a_wipe_wants_ids_for_each_row_once(rt: HostRuntime) -> Result<(), Fail> {
-    for case in &WIPES {
-        right(is_wiped(rt.alloc(), case)?, case.1)?;
-    }
-    Ok(())
+    none_wrong(first_wrong_wipe(rt.alloc()))
 }
 
 /// Whether the notices of two indexes have so many cells.
@@ -174,16 +188,23 @@ fn is_noticed(alloc: Global, table: &Base, case: &Noticed) -> Told {
     Ok(have(&notices, case.1, case.2))
 }
 
-/// Fails with the first row that has other notices.
-fn each_is_noticed(alloc: Global, table: &Base) -> Result<(), Fail> {
+/// The first row that has other notices.
+fn first_wrong_noticed(alloc: Global, table: &Base) -> Wrong {
     for case in &NOTICED {
-        right(is_noticed(alloc, table, case)?, case.0)?;
+        if !is_noticed(alloc, table, case)? {
+            return Ok(Some(case.0));
+        }
     }
-    Ok(())
+    Ok(None)
+}
+
+/// The same in the table of those rows.
+fn first_wrong_notices(alloc: Global) -> Wrong {
+    let table = filled(alloc)?;
+    first_wrong_noticed(alloc, &table)
 }
 
 #[test]
 fn each_index_has_a_notice(rt: HostRuntime) -> Result<(), Fail> {
-    let table = filled(rt.alloc())?;
-    each_is_noticed(rt.alloc(), &table)
+    none_wrong(first_wrong_notices(rt.alloc()))
 }

@@ -1,13 +1,16 @@
 //! Rows of the longest keys and of the most, and of one too many.
-use super::played::{USERS, play, write};
+use super::played::{USERS, first_wrong as first_wrong_line, play, write};
 use super::work::Work;
-use super::{Told, begun, right};
+use super::{Told, Wrong, begun, none_wrong};
 use std::alloc::{AllocError, Global};
 use std::test::Fail;
 
 /// So many letters of a name that is asked for or put, or so many tags of a row; and how that is
-/// answered. A key has one byte more than the letters.
-static CASES: [(&str, usize, &str); 6] = [
+/// answered.
+type Case = (&'static str, usize, &'static str);
+
+/// A key has one byte more than the letters.
+static CASES: [Case; 6] = [
     ("get", 1_023, " => rows 0\n"),
     ("get", 1_024, " => refused too-long\n"),
     ("name", 1_023, " => inserted\n"),
@@ -59,7 +62,7 @@ fn is_told(alloc: Global, txn: &mut Work, command: &str, answer: &str) -> Told {
 }
 
 /// The command of a case.
-fn command_of(alloc: Global, case: &(&str, usize, &str)) -> Result<String, AllocError> {
+fn command_of(alloc: Global, case: &Case) -> Result<String, AllocError> {
     match case.0 {
         "get" => with_question(alloc, case.1),
         "name" => with_name(alloc, case.1),
@@ -68,23 +71,30 @@ fn command_of(alloc: Global, case: &(&str, usize, &str)) -> Result<String, Alloc
 }
 
 /// Whether a case is answered as it says.
-fn is_case_told(alloc: Global, txn: &mut Work, case: &(&str, usize, &str)) -> Told {
+fn is_case_told(alloc: Global, txn: &mut Work, case: &Case) -> Told {
     let command = command_of(alloc, case)?;
     is_told(alloc, txn, &command, case.2)
 }
 
-/// Fails with the first case that isn't.
-fn each_is_told(alloc: Global, txn: &mut Work) -> Result<(), Fail> {
+/// The answer of the first case that isn't.
+fn first_wrong_in(alloc: Global, txn: &mut Work) -> Wrong {
     for case in &CASES {
-        right(is_case_told(alloc, txn, case)?, case.2)?;
+        if !is_case_told(alloc, txn, case)? {
+            return Ok(Some(case.2));
+        }
     }
-    Ok(())
+    Ok(None)
+}
+
+/// The same on a new table.
+fn first_wrong(alloc: Global) -> Wrong {
+    let mut txn = begun(alloc, USERS)?;
+    first_wrong_in(alloc, &mut txn)
 }
 
 #[test]
 fn a_name_has_at_most_1023_letters_and_a_row_256_tags(rt: HostRuntime) -> Result<(), Fail> {
-    let mut txn = begun(rt.alloc(), USERS)?;
-    each_is_told(rt.alloc(), &mut txn)
+    none_wrong(first_wrong(rt.alloc()))
 }
 
 /// With the name behind it the tag of this row is that of another row's last tag.
@@ -103,15 +113,22 @@ fn is_refused_for_the_last(alloc: Global, txn: &mut Work) -> Told {
     is_told(alloc, txn, &command, " => refused key-taken tags\n")
 }
 
-/// Fails where the refused row leaves something.
-fn refuse_the_last(alloc: Global, txn: &mut Work) -> Result<(), Fail> {
+/// What is wrong where such a row isn't refused, or leaves something.
+fn refuse_the_last(alloc: Global, txn: &mut Work) -> Wrong {
     write(alloc, txn, OTHER)?;
-    right(is_refused_for_the_last(alloc, txn)?, "the refused row")?;
-    write(alloc, txn, LEFT)
+    if !is_refused_for_the_last(alloc, txn)? {
+        return Ok(Some("the refused row"));
+    }
+    first_wrong_line(alloc, txn, LEFT)
+}
+
+/// The same on a new table.
+fn refuse_the_last_anew(alloc: Global) -> Wrong {
+    let mut txn = begun(alloc, USERS)?;
+    refuse_the_last(alloc, &mut txn)
 }
 
 #[test]
 fn the_last_of_256_tags_may_be_taken(rt: HostRuntime) -> Result<(), Fail> {
-    let mut txn = begun(rt.alloc(), USERS)?;
-    refuse_the_last(rt.alloc(), &mut txn)
+    none_wrong(refuse_the_last_anew(rt.alloc()))
 }

@@ -3,7 +3,7 @@
 use super::drawn::{NAMES, Question, Random, SCHEMA, Write, whole};
 use super::plain::PlainTable;
 use super::work::{Base, Work};
-use super::{Told, begun, def_of, right};
+use super::{Told, Wrong, begun, def_of, none_wrong};
 use mdb_datum::Row;
 use mdb_schema::{Answer, AskError, Rows, WriteError};
 use radix_iter::Walk;
@@ -223,7 +223,15 @@ fn is_run_alike(alloc: Global) -> Told {
     is_run_by(alloc, &mut txn)
 }
 
+/// What is wrong where it isn't.
+fn wrong_run(alloc: Global) -> Wrong {
+    match is_run_alike(alloc)? {
+        true => Ok(None),
+        false => Ok(Some("another answer")),
+    }
+}
+
 #[test]
 fn a_long_run_is_as_on_a_plain_list(rt: HostRuntime) -> Result<(), Fail> {
-    right(is_run_alike(rt.alloc())?, "another answer")
+    none_wrong(wrong_run(rt.alloc()))
 }

@@ -1,6 +1,6 @@
 //! What a change may do in place.
 use super::work::Work;
-use super::{SCHEMA, Told, asked, begun, right, row_of};
+use super::{SCHEMA, Told, Wrong, asked, begun, none_wrong, row_of};
 use mdb_datum::Row;
 use mdb_schema::{Ask, Query};
 use std::alloc::{AllocError, Global};
@@ -28,12 +28,21 @@ fn draws_none(alloc: Global, index: &str) -> Result<bool, AllocError> {
     is_asked_between(alloc, &mut work, index)
 }
 
+static INDEXES: [&str; 2] = ["id", "tags"];
+
+/// The first index for which one does.
+fn first_wrong(alloc: Global) -> Wrong {
+    for index in &INDEXES {
+        if !draws_none(alloc, index)? {
+            return Ok(Some(*index));
+        }
+    }
+    Ok(None)
+}
+
 // No clause says it: a question that is answered from a tree that was given ends what a change owns,
 // and all proofs pass.
 #[test]
 fn a_question_leaves_a_change_its_own_nodes(rt: HostRuntime) -> Result<(), Fail> {
-    for index in ["id", "tags"] {
-        right(draws_none(rt.alloc(), index)?, index)?;
-    }
-    Ok(())
+    none_wrong(first_wrong(rt.alloc()))
 }

@@ -6,12 +6,11 @@
 //! their rows.
 use super::words::{MEMORY, ask_of, ask_word, told_index, wipe_word, write_word};
 use super::work::{Base, Work};
-use super::{asked, begun, row_of};
+use super::{Told, Wrong, asked, begun, row_of};
 use mdb_datum::Row;
 use mdb_schema::{Answer, AskError, Query, Rows, WriteError};
 use std::alloc::{AllocError, Global};
 use std::str;
-use std::test::Fail;
 use table_index::WipeError;
 
 /// A table of a UUID key.
@@ -31,36 +30,42 @@ pub const USERS: &str = r#"{"memdb":1,"tables":{
     "mail":{"unique":true,"allow_missing":true,"indexer":{"kind":"text","field":"mail"}},
     "tags":{"allow_missing":true,"indexer":{"kind":"text_list","field":"tags"}}}}}}"#;
 
-/// Plays a script on a table without rows.
-pub fn show(alloc: Global, schema: &str, script: &str) -> Result<(), Fail> {
+/// Plays a script on a table without rows, and gives the first line that is answered otherwise.
+pub fn first_wrong_of(alloc: Global, schema: &str, script: &'static str) -> Wrong {
     let mut txn = begun(alloc, schema)?;
-    write(alloc, &mut txn, script)
+    first_wrong(alloc, &mut txn, script)
 }
 
-/// Plays a script. It fails with the lines and the answers that came where they are others.
-pub fn write(alloc: Global, txn: &mut Work, script: &str) -> Result<(), Fail> {
-    same(play(alloc, txn, script)?, script)
-}
-
-/// The table after a script that is played on one without rows.
-pub fn filled(alloc: Global, schema: &str, script: &str) -> Result<Base, Fail> {
-    let mut txn = begun(alloc, schema)?;
-    stood(alloc, &mut txn, script)
-}
-
-/// The same after a script.
-fn stood(alloc: Global, txn: &mut Work, script: &str) -> Result<Base, Fail> {
-    write(alloc, txn, script)?;
-    Ok(txn.stand()?)
-}
-
-/// Fails with the lines and the answers that came where they aren't those of a script.
-fn same(answers: String, script: &str) -> Result<(), Fail> {
-    if answers.as_str() == script {
-        Ok(())
-    } else {
-        Err(Fail::from(answers))
+/// Plays a script up to the first line that is answered otherwise, and gives that line.
+pub fn first_wrong(alloc: Global, txn: &mut Work, script: &'static str) -> Wrong {
+    for line in script.lines() {
+        if !is_answered(alloc, txn, line)? {
+            return Ok(Some(line));
+        }
     }
+    Ok(None)
+}
+
+/// Whether a line is answered as it says.
+pub fn is_answered(alloc: Global, txn: &mut Work, line: &str) -> Told {
+    let mut out = String::new(alloc);
+    tell_line(alloc, txn, line, &mut out)?;
+    Ok(out.as_str().strip_suffix('\n') == Some(line))
+}
+
+/// Plays a script whose answers are known. Another one counts as want of memory, which ends a test.
+pub fn write(alloc: Global, txn: &mut Work, script: &'static str) -> Result<(), AllocError> {
+    match first_wrong(alloc, txn, script)? {
+        None => Ok(()),
+        Some(_) => Err(AllocError),
+    }
+}
+
+/// The table after such a script that is played on one without rows.
+pub fn filled(alloc: Global, schema: &str, script: &'static str) -> Result<Base, AllocError> {
+    let mut txn = begun(alloc, schema)?;
+    write(alloc, &mut txn, script)?;
+    txn.stand()
 }
 
 /// The lines of a script with the answers that come. A line without an answer gets one.

@@ -1,7 +1,7 @@
 //! A refused write leaves what each index lists.
-use super::played::{USERS, play, write};
+use super::played::{USERS, is_answered, play, write};
 use super::work::Work;
-use super::{Told, begun, right};
+use super::{Told, Wrong, begun, none_wrong};
 use std::alloc::Global;
 use std::test::Fail;
 
@@ -35,12 +35,6 @@ delete-all age [65536] => refused out-of-range
 delete-prefix id ["a"] => refused no-prefix-name
 delete-prefix age_prefix [1] => refused no-prefix-form"#;
 
-/// Whether a line is answered as it says.
-fn is_answered(alloc: Global, txn: &mut Work, line: &str) -> Told {
-    let answer = play(alloc, txn, line)?;
-    Ok(answer.as_str().strip_suffix('\n') == Some(line))
-}
-
 /// Whether each index lists these rows.
 fn lists(alloc: Global, txn: &mut Work, rows: &str) -> Told {
     let listed = play(alloc, txn, EACH_INDEX)?;
@@ -58,22 +52,24 @@ fn leaves_all(alloc: Global, txn: &mut Work, line: &str) -> Told {
     leaves(alloc, txn, line, &before)
 }
 
-/// Fails with the first line that changes what an index lists.
-fn each_leaves_all(alloc: Global, txn: &mut Work) -> Result<(), Fail> {
+/// The first line that changes what an index lists, after the puts of those rows.
+fn first_wrong_in(alloc: Global, txn: &mut Work) -> Wrong {
+    write(alloc, txn, ROWS)?;
     for line in REFUSED.lines() {
-        right(leaves_all(alloc, txn, line)?, line)?;
+        if !leaves_all(alloc, txn, line)? {
+            return Ok(Some(line));
+        }
     }
-    Ok(())
+    Ok(None)
 }
 
-/// The same after the puts of those rows.
-fn refuse_after_rows(alloc: Global, txn: &mut Work) -> Result<(), Fail> {
-    write(alloc, txn, ROWS)?;
-    each_leaves_all(alloc, txn)
+/// The same on a new table.
+fn first_wrong(alloc: Global) -> Wrong {
+    let mut txn = begun(alloc, USERS)?;
+    first_wrong_in(alloc, &mut txn)
 }
 
 #[test]
 fn a_refused_write_leaves_each_index(rt: HostRuntime) -> Result<(), Fail> {
-    let mut txn = begun(rt.alloc(), USERS)?;
-    refuse_after_rows(rt.alloc(), &mut txn)
+    none_wrong(first_wrong(rt.alloc()))
 }

@@ -2,7 +2,7 @@
 use super::played::{USERS, filled, write};
 use super::words::ask_of;
 use super::work::{Base, Work};
-use super::{Told, asked, right};
+use super::{Told, Wrong, asked, none_wrong};
 use mdb_schema::AskError;
 use std::alloc::{AllocError, Global};
 use std::test::Fail;
@@ -75,67 +75,88 @@ fn is_right(
 }
 
 /// Plays a write in a change.
-fn changed(alloc: Global, base: &Base, script: &str) -> Result<Work, Fail> {
+fn changed(alloc: Global, base: &Base, script: &'static str) -> Result<Work, AllocError> {
     let mut work = base.txn()?;
     write(alloc, &mut work, script)?;
     Ok(work)
 }
 
 /// The table and the notices after a write.
-fn written(alloc: Global, base: &Base, script: &str) -> Result<(Table, Notices), Fail> {
+fn written(
+    alloc: Global,
+    base: &Base,
+    script: &'static str,
+) -> Result<(Table, Notices), AllocError> {
     let work = changed(alloc, base, script)?;
-    Ok(work.freeze()?)
+    work.freeze()
 }
 
 /// Whether a watch moves by a write exactly where that is said.
-fn moves_so(alloc: Global, base: &Base, spot: &Spot, case: &Case) -> Result<bool, Fail> {
+fn moves_so(alloc: Global, base: &Base, spot: &Spot, case: &Case) -> Told {
     let (table, notices) = written(alloc, base, case.3)?;
-    Ok(is_right(alloc, &table, &notices, spot, case)?)
+    is_right(alloc, &table, &notices, spot, case)
 }
 
 /// The same of a question's watch.
-fn is_case_right(alloc: Global, base: &Base, case: &Case) -> Result<bool, Fail> {
+fn is_case_right(alloc: Global, base: &Base, case: &Case) -> Told {
     let watched = watch_of(alloc, base.table(), case)?;
     moves_so(alloc, base, &watched.spot, case)
 }
 
-/// Fails with the first watch that doesn't.
-fn each_is_right(alloc: Global, base: &Base) -> Result<(), Fail> {
+/// The arguments of the first question whose watch doesn't.
+fn first_wrong_of(alloc: Global, base: &Base) -> Wrong {
     for case in &CASES {
-        right(is_case_right(alloc, base, case)?, case.2)?;
+        if !is_case_right(alloc, base, case)? {
+            return Ok(Some(case.2));
+        }
     }
-    Ok(())
+    Ok(None)
+}
+
+/// The same of a table of those rows.
+fn first_wrong(alloc: Global) -> Wrong {
+    let base = filled(alloc, USERS, ROWS)?;
+    first_wrong_of(alloc, &base)
 }
 
 #[test]
 fn a_watch_moves_with_what_it_guards(rt: HostRuntime) -> Result<(), Fail> {
-    let base = filled(rt.alloc(), USERS, ROWS)?;
-    each_is_right(rt.alloc(), &base)
+    none_wrong(first_wrong(rt.alloc()))
 }
 
+/// A question's word, its index and its arguments.
+type Question = (&'static str, &'static str, &'static str);
+
 /// Questions that aren't watched, whatever other rule they break.
-static UNWATCHED: [(&str, &str, &str); 3] = [
+static UNWATCHED: [Question; 3] = [
     ("lower", "id", r#"["foo"]"#),
     ("reverse-lower", "none", "[]"),
     ("longest", "id", r#"["foo"]"#),
 ];
 
 /// Whether a question is refused since it can't be watched.
-fn is_unwatched(alloc: Global, base: &Base, case: &(&str, &str, &str)) -> Told {
+fn is_unwatched(alloc: Global, base: &Base, case: &Question) -> Told {
     let query = asked(alloc, ask_of(case.0), case.1, case.2)?;
     Ok(base.table().ask_watch(&query).err() == Some(AskError::Unwatchable))
 }
 
-/// Fails with the first question that is watched.
-fn each_is_unwatched(alloc: Global, base: &Base) -> Result<(), Fail> {
+/// The word of the first question that is watched.
+fn first_watched_of(alloc: Global, base: &Base) -> Wrong {
     for case in &UNWATCHED {
-        right(is_unwatched(alloc, base, case)?, case.0)?;
+        if !is_unwatched(alloc, base, case)? {
+            return Ok(Some(case.0));
+        }
     }
-    Ok(())
+    Ok(None)
+}
+
+/// The same of a table of those rows.
+fn first_watched(alloc: Global) -> Wrong {
+    let base = filled(alloc, USERS, ROWS)?;
+    first_watched_of(alloc, &base)
 }
 
 #[test]
 fn a_question_for_bounds_is_not_watched(rt: HostRuntime) -> Result<(), Fail> {
-    let base = filled(rt.alloc(), USERS, ROWS)?;
-    each_is_unwatched(rt.alloc(), &base)
+    none_wrong(first_watched(rt.alloc()))
 }

@@ -1,7 +1,7 @@
 //! Wipes, told by their counts and by those of the wipes that come after them.
-use super::played::write;
+use super::played::{first_wrong as first_wrong_line, write};
 use super::work::{Base, Work};
-use super::{SCHEMA, Told, asked, begun, right, table_of};
+use super::{SCHEMA, Told, Wrong, asked, begun, none_wrong, table_of};
 use mdb_schema::{Ask, AskError, Query};
 use std::alloc::Global;
 use std::test::Fail;
@@ -38,24 +38,33 @@ delete-all id [] => deleted 1
 "#,
 ];
 
-/// Plays a script after the puts of those rows.
-fn write_after_rows(alloc: Global, txn: &mut Work, script: &str) -> Result<(), Fail> {
+/// Plays a script after the puts of those rows, and gives the first line that is answered
+/// otherwise.
+fn first_wrong_after_rows(alloc: Global, txn: &mut Work, script: &'static str) -> Wrong {
     write(alloc, txn, ROWS)?;
-    write(alloc, txn, script)
+    first_wrong_line(alloc, txn, script)
 }
 
 /// The same on a new table.
-fn show_wiped(alloc: Global, script: &str) -> Result<(), Fail> {
+fn first_wrong_of(alloc: Global, script: &'static str) -> Wrong {
     let mut txn = begun(alloc, SCHEMA)?;
-    write_after_rows(alloc, &mut txn, script)
+    first_wrong_after_rows(alloc, &mut txn, script)
+}
+
+/// The same of all cases.
+fn first_wrong_wipe(alloc: Global) -> Wrong {
+    for script in &CASES {
+        let wrong = first_wrong_of(alloc, script)?;
+        if wrong.is_some() {
+            return Ok(wrong);
+        }
+    }
+    Ok(None)
 }
 
 #[test]
 fn each_listed_row_goes_once(rt: HostRuntime) -> Result<(), Fail> {
-    for case in &CASES {
-        show_wiped(rt.alloc(), case)?;
-    }
-    Ok(())
+    none_wrong(first_wrong_wipe(rt.alloc()))
 }
 
 /// A wipe of a table without rows: by prefix or not, of an index, with arguments; and the rule that
@@ -108,16 +117,23 @@ fn is_told(alloc: Global, table: &Base, case: &Case) -> Told {
     is_refused(table, &query, case.0, case.3.map(WipeError::Refused))
 }
 
-/// Fails with the first wipe that isn't.
-fn each_is_told(alloc: Global, table: &Base) -> Result<(), Fail> {
+/// The index of the first wipe that isn't.
+fn first_wrong_rule_of(alloc: Global, table: &Base) -> Wrong {
     for case in &RULES {
-        right(is_told(alloc, table, case)?, case.1)?;
+        if !is_told(alloc, table, case)? {
+            return Ok(Some(case.1));
+        }
     }
-    Ok(())
+    Ok(None)
+}
+
+/// The same of a table without rows.
+fn first_wrong_rule(alloc: Global) -> Wrong {
+    let table = table_of(alloc, SCHEMA)?;
+    first_wrong_rule_of(alloc, &table)
 }
 
 #[test]
 fn a_broken_rule_is_told_before_a_change(rt: HostRuntime) -> Result<(), Fail> {
-    let table = table_of(rt.alloc(), SCHEMA)?;
-    each_is_told(rt.alloc(), &table)
+    none_wrong(first_wrong_rule(rt.alloc()))
 }

@@ -3,7 +3,7 @@
 use super::drawn::{NAMES, Random, SCHEMA, Write, whole};
 use super::mixed::told;
 use super::work::{Base, Work};
-use super::{Told, begun};
+use super::{Told, Wrong, begun, none_wrong};
 use mdb_schema::WriteError;
 use std::alloc::{AllocError, Global};
 use std::test::Fail;
@@ -11,6 +11,9 @@ use table_index::WipeError;
 
 /// What is told where a write was refused, and left what it should.
 const REFUSED: &str = "a write was refused, and all is kept";
+
+/// What is told where it didn't.
+const LOST: &str = "a write left something else";
 
 /// The texts of the rows of an index.
 fn rows_of(alloc: Global, table: &Base, name: &'static str) -> Result<Vec<u8>, AllocError> {
@@ -72,42 +75,55 @@ fn one_spoils_anew(
     Ok((right, txn.spoiled()))
 }
 
-/// The same, and whether each index of the table lists the same rows as before. Where a write was
-/// refused, and they do, it is an error.
-fn is_kept(alloc: Global, random: &mut Random, table: &Base) -> Result<bool, Fail> {
-    let before = listed(alloc, table)?;
-    let (right, spoiled) = one_spoils_anew(alloc, random, table)?;
-    let kept = right && listed(alloc, table)? == before;
-    if kept && spoiled {
-        return Err(Fail::new(REFUSED));
+/// What is told of a change, and of whether all is kept that should be.
+fn told_of(kept: bool, spoiled: bool) -> Option<&'static str> {
+    match (kept, spoiled) {
+        (true, false) => None,
+        (true, true) => Some(REFUSED),
+        _ => Some(LOST),
     }
-    Ok(kept)
 }
 
-/// The same of the table of a change. Where that is spoiled, it is an error.
-fn is_kept_by(alloc: Global, random: &mut Random, txn: &mut Work) -> Result<bool, Fail> {
+/// Whether each index of a table lists these rows.
+fn lists(alloc: Global, table: &Base, rows: &Vec<Vec<u8>>) -> Told {
+    Ok(listed(alloc, table)? == *rows)
+}
+
+/// What is told of a new change, and of whether each index of the table lists the same rows as
+/// before it.
+fn told_of_new(alloc: Global, random: &mut Random, table: &Base) -> Wrong {
+    let before = listed(alloc, table)?;
+    let (right, spoiled) = one_spoils_anew(alloc, random, table)?;
+    let kept = right && lists(alloc, table, &before)?;
+    Ok(told_of(kept, spoiled))
+}
+
+/// The same of the table of a change. Where that is spoiled, a write was refused.
+fn told_of_next(alloc: Global, random: &mut Random, txn: &mut Work) -> Wrong {
     if txn.spoiled() {
-        return Err(Fail::new(REFUSED));
+        return Ok(Some(REFUSED));
     }
     let table = txn.stand()?;
-    is_kept(alloc, random, &table)
+    told_of_new(alloc, random, &table)
 }
 
 /// The same after drawn writes in the change, of which one alone may spoil it.
-fn is_kept_after(alloc: Global, txn: &mut Work) -> Result<bool, Fail> {
+fn told_of_both(alloc: Global, txn: &mut Work) -> Wrong {
     let mut random = Random(0x2545_f491_4f6c_dd1d);
-    Ok(one_spoils(alloc, &mut random, txn)? && is_kept_by(alloc, &mut random, txn)?)
+    if !one_spoils(alloc, &mut random, txn)? {
+        return Ok(Some(LOST));
+    }
+    told_of_next(alloc, &mut random, txn)
 }
 
 /// The same on a new table.
-fn is_always_kept(alloc: Global) -> Result<bool, Fail> {
+fn told_of_all(alloc: Global) -> Wrong {
     let mut txn = begun(alloc, SCHEMA)?;
-    is_kept_after(alloc, &mut txn)
+    told_of_both(alloc, &mut txn)
 }
 
 // Where an allocation fails it ends in an error, which tells a refused write.
 #[test]
 fn a_refused_write_leaves_the_table(rt: HostRuntime) -> Result<(), Fail> {
-    assert!(rt; is_always_kept(rt.alloc())?);
-    Ok(())
+    none_wrong(told_of_all(rt.alloc()))
 }

@@ -5,7 +5,8 @@
 ghost use Rattle.std.specs.Prelude.{◌≡◌, ◌+◌, ◌*◌, ◌≤◌, ◌^◌, IfOk, OnOk, false, length};
 ghost use Rattle.radix_node.specs.Cells.{AreBelow, AreCellsOf, AreOf};
 
-use super::{Work, empty, has_moved, row};
+use super::{empty, has_moved, row};
+use crate::ending::holds;
 use mdb_datum::Row;
 use notify_walk::fire_all;
 use radix_node::{Ids, Tree};
@@ -167,54 +168,109 @@ fn count_moved(tree: &Tree, from: u64, to: u64, front: &Front) -> Result<u64, Al
     Ok(count)
 }
 
-/// What a commit tells: how many cells are listed, and whether there are trees.
-type Told = (Option<u32>, bool);
+/// Whether a notice lists so many cells, and else has trees.
+fn lists(notice: &Notice, count: Option<u32>) -> bool {
+    notice.listed() == count && notice.trees().is_some() == count.is_none()
+}
 
-/// What the end of all keys tells, where the tree has the keys of 18 first bytes and one key more,
-/// and how many watches of all keys have moved after the firing.
-fn told(alloc: Global, first: &[u8]) -> Result<(Told, u64), AllocError>
+/// Whether, after the firing of a notice, both watches of each key of some first bytes have moved,
+/// and none of those of the others.
+fn fires_firsts(
+    old: &Tree,
+    notice: &Notice,
+    front: &Front,
+    gone: u64,
+    firsts: u64,
+) -> Result<bool, AllocError>
+    requires of { AreOf front.now.book old.now }
+    requires cells { AreCellsOf front.now.book notice.now }
+    requires within { gone ≤ firsts }
+    requires few { firsts ≤ 64 }
+{
+    let log = fire_all(notice, front, 1, &mut false);
+    let moved = count_moved(old, 0, gone * SECONDS, &log)?;
+    let others = count_moved(old, gone * SECONDS, firsts * SECONDS, &log)?;
+    Ok(moved == 2 * gone * SECONDS && others == 0)
+}
+
+/// Whether the end of all keys lists so many cells, and fires the watches of all keys, where the
+/// tree has those of 18 first bytes and one key more.
+fn ends_so(
+    tree: &Tree,
+    front: &Front,
+    ids: &mut Ids,
+    first: &[u8],
+    count: Option<u32>,
+    row: &Row,
+) -> Result<bool, AllocError>
+    requires short { length first.now ≤ 2048 }
+    requires book { front.now.book ≡ ids.old.book }
+    requires of { AreOf ids.old.book tree.now }
+    requires below { AreBelow ids.old.next tree.now }
+    requires left { ids.old.next ≤ 1 }
+{
+    let old = with_keys(tree, front, ids, first, 18, row)?;
+    let (_, notice) = without_keys(&old, front, ids)?;
+    Ok(lists(&notice, count) && fires_firsts(&old, &notice, front, 18, 18)?)
+}
+
+/// The same from an empty tree on.
+fn end_from_empty(
+    alloc: Global,
+    first: &[u8],
+    count: Option<u32>,
+    row: &Row,
+) -> Result<bool, AllocError>
+    requires { length first.now ≤ 2048 }
+{
+    let (tree, front, mut ids) = empty(alloc)?;
+    ends_so(&tree, &front, &mut ids, first, count, row)
+}
+
+/// The same of a row without members.
+fn all_fire(alloc: Global, first: &[u8], count: Option<u32>) -> Result<bool, AllocError>
     requires { length first.now ≤ 2048 }
 {
     let row = row(alloc)?;
-    let (tree, front, mut ids) = empty(alloc)?;
-    let old = with_keys(&tree, &front, &mut ids, first, 18, &row)?;
-    let (_, notice) = without_keys(&old, &front, &mut ids)?;
-    let log = fire_all(&notice, &front, 1, &mut false);
-    let told = (notice.listed(), notice.trees().is_some());
-    Ok((told, count_moved(&old, 0, 18 * SECONDS, &log)?))
+    end_from_empty(alloc, first, count, &row)
 }
 
 #[test]
 fn a_notice_lists_8192_cells(rt: HostRuntime) -> Result<(), Fail> {
-    assert!(rt; told(rt.alloc(), b"")? == ((Some(8_192), false), 36 * SECONDS));
-    Ok(())
+    holds(all_fire(rt.alloc(), b"", Some(8_192)))
 }
 
 #[test]
 fn one_cell_more_is_found_by_a_walk(rt: HostRuntime) -> Result<(), Fail> {
-    assert!(rt; told(rt.alloc(), b"\x12")? == ((None, true), 36 * SECONDS));
-    Ok(())
+    holds(all_fire(rt.alloc(), b"\x12", None))
 }
 
-/// How many watches of the keys of the first 19 bytes of 36 have moved after these have gone, and of
-/// those that stay.
-fn moved(alloc: Global) -> Result<(Told, u64, u64), AllocError> {
-    let row = row(alloc)?;
+/// Whether the end of the keys of the first 19 bytes of 36 has trees, and fires the watches of
+/// these keys alone.
+fn parts_so(tree: &Tree, front: &Front, ids: &mut Ids, row: &Row) -> Result<bool, AllocError>
+    requires book { front.now.book ≡ ids.old.book }
+    requires of { AreOf ids.old.book tree.now }
+    requires below { AreBelow ids.old.next tree.now }
+    requires left { ids.old.next ≤ 1 }
+{
+    let old = with_keys(tree, front, ids, b"", 36, row)?;
+    let (_, notice) = without_firsts(&old, front, ids, 19)?;
+    Ok(lists(&notice, None) && fires_firsts(&old, &notice, front, 19, 36)?)
+}
+
+/// The same from an empty tree on.
+fn part_from_empty(alloc: Global, row: &Row) -> Result<bool, AllocError> {
     let (tree, front, mut ids) = empty(alloc)?;
-    let old = with_keys(&tree, &front, &mut ids, b"", 36, &row)?;
-    let (_, notice) = without_firsts(&old, &front, &mut ids, 19)?;
-    let log = fire_all(&notice, &front, 1, &mut false);
-    let told = (notice.listed(), notice.trees().is_some());
-    let gone = count_moved(&old, 0, 19 * SECONDS, &log)?;
-    Ok((
-        told,
-        gone,
-        count_moved(&old, 19 * SECONDS, 36 * SECONDS, &log)?,
-    ))
+    parts_so(&tree, &front, &mut ids, row)
+}
+
+/// The same of a row without members.
+fn first_fire(alloc: Global) -> Result<bool, AllocError> {
+    let row = row(alloc)?;
+    part_from_empty(alloc, &row)
 }
 
 #[test]
 fn a_walk_fires_what_has_left_alone(rt: HostRuntime) -> Result<(), Fail> {
-    assert!(rt; moved(rt.alloc())? == ((None, true), 38 * SECONDS, 0));
-    Ok(())
+    holds(first_fire(rt.alloc()))
 }

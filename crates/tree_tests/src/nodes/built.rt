@@ -8,13 +8,7 @@ use mdb_datum::Row;
 use radix_node::{Edge, Edges, Ids, Leaf, Node, NodeRef, Tree};
 use std::alloc::{AllocError, Global};
 use std::sync::Arc;
-use std::test::Fail;
 use watch_word::{Front, WatchCell, open_book, open_cell};
-
-/// The row that a text reads as.
-pub fn row(alloc: Global, text: &str) -> Result<Row, Fail> {
-    Ok(row_of(alloc, text)?)
-}
 
 /// A cell with an id, of a book of its own.
 pub fn cell(alloc: Global, id: u64) -> Result<Arc<WatchCell>, AllocError> {
@@ -38,9 +32,9 @@ pub fn leaf(alloc: Global, row: &Row, id: u64) -> Result<Arc<Leaf, Global>, Allo
 }
 
 /// A leaf of a row that a text reads as.
-fn leaf_by(alloc: Global, text: &str, id: u64) -> Result<Arc<Leaf, Global>, Fail> {
-    let row = row(alloc, text)?;
-    Ok(leaf(alloc, &row, id)?)
+fn leaf_by(alloc: Global, text: &str, id: u64) -> Result<Arc<Leaf, Global>, AllocError> {
+    let row = row_of(alloc, text)?;
+    leaf(alloc, &row, id)
 }
 
 /// A node of the prefix `p` with edges `a` and `b`, whose cell has this id.
@@ -49,9 +43,8 @@ fn with_leaf(
     leaf: Option<Arc<Leaf, Global>>,
     id: u64,
 ) -> Result<NodeRef, AllocError> {
-    let cell = cell(alloc, id)?;
     let edges = edges_by(alloc, b"ab")?;
-    Node::of(alloc, b"p", leaf, edges, cell)
+    Node::of(alloc, b"p", leaf, edges, cell(alloc, id)?)
 }
 
 /// Such a node without a leaf.
@@ -60,9 +53,9 @@ pub fn forked(alloc: Global, id: u64) -> Result<NodeRef, AllocError> {
 }
 
 /// Such a node with a leaf.
-pub fn leafed(alloc: Global, text: &str, leaf_id: u64, id: u64) -> Result<NodeRef, Fail> {
+pub fn leafed(alloc: Global, text: &str, leaf_id: u64, id: u64) -> Result<NodeRef, AllocError> {
     let leaf = leaf_by(alloc, text, leaf_id)?;
-    Ok(with_leaf(alloc, Some(leaf), id)?)
+    with_leaf(alloc, Some(leaf), id)
 }
 
 /// Edges by these labels.
@@ -79,7 +72,7 @@ pub fn edges_by(alloc: Global, labels: &[u8]) -> Result<Edges, AllocError>
 /// A tree without keys, whose root's cell has the id 7.
 pub fn empty_tree(alloc: Global) -> Result<Tree, AllocError> {
     let (book, front) = open_book(alloc)?;
-    Ok(Tree::empty(alloc, &front, &mut Ids::starting(book, 7))?)
+    Tree::empty(alloc, &front, &mut Ids::starting(book, 7))
 }
 
 /// The id that a new cell gets.

@@ -3,8 +3,9 @@ ghost use Rattle.std.specs.Prelude.{◌≤◌, length};
 ghost use Rattle.radix_node.specs.Edges.{EdgesRise};
 ghost use Rattle.radix_node.specs.Node.{edges_of, nodes_in};
 
-use super::built::{bare, cell, edge, edges_by, forked, leaf, leafed, row};
-use crate::txns::written::{is_node, is_row, labels_are};
+use super::built::{bare, cell, edge, edges_by, forked, leaf, leafed};
+use crate::ending::holds;
+use crate::txns::written::{is_node, is_row, labels_are, row_of};
 use mdb_datum::Row;
 use radix_node::{Edges, Left, Node, NodeRef};
 use std::alloc::{AllocError, Global};
@@ -41,23 +42,26 @@ fn takes_all_bytes(alloc: Global) -> Result<bool, AllocError> {
 
 #[test]
 fn all_256_labels_are_found_and_in_order(rt: HostRuntime) -> Result<(), Fail> {
-    assert!(rt; takes_all_bytes(rt.alloc())?);
-    Ok(())
+    holds(takes_all_bytes(rt.alloc()))
 }
 
 /// Whether labels of `abd` are at their places, and others go between them.
-fn are_placed(edges: &Edges) -> bool
+fn are_placed_in(edges: &Edges) -> bool
     requires { EdgesRise (nodes_in (edges_of edges.now)) }
 {
     let within = edges.find(b'c') == Err(2) && edges.find(b'd') == Ok(2);
     within && edges.find(0) == Err(0) && edges.find(255) == Err(3)
 }
 
+/// The same of edges that are put in another order.
+fn are_placed(alloc: Global) -> Result<bool, AllocError> {
+    let edges = edges_by(alloc, b"dab")?;
+    Ok(are_placed_in(&edges))
+}
+
 #[test]
 fn a_missing_label_has_the_place_where_it_would_go(rt: HostRuntime) -> Result<(), Fail> {
-    let edges = edges_by(rt.alloc(), b"dab")?;
-    assert!(rt; are_placed(&edges));
-    Ok(())
+    holds(are_placed(rt.alloc()))
 }
 
 /// Whether a put of an edge `b` gives an old one.
@@ -70,7 +74,10 @@ fn is_put(alloc: Global, edges: &mut Edges) -> Result<bool, AllocError>
 
 /// Whether the second of two edges is to this prefix.
 fn is_second(edges: &Edges, prefix: &[u8]) -> bool {
-    edges.len() == 2 && edges.get(1).is_some_and(|e| e.node().prefix() == prefix)
+    match edges.get(1) {
+        Some(edge) => edges.len() == 2 && edge.node().prefix() == prefix,
+        None => false,
+    }
 }
 
 /// Whether that edge is then in the old one's place.
@@ -82,8 +89,7 @@ fn is_replaced(alloc: Global) -> Result<bool, AllocError> {
 
 #[test]
 fn put_gives_the_old_edge(rt: HostRuntime) -> Result<(), Fail> {
-    assert!(rt; is_replaced(rt.alloc())?);
-    Ok(())
+    holds(is_replaced(rt.alloc()))
 }
 
 /// Whether one edge takes the place of the second and the third.
@@ -114,8 +120,7 @@ fn are_copied(alloc: Global) -> Result<bool, AllocError> {
 
 #[test]
 fn edges_are_copied_with_another_in_place_of_some(rt: HostRuntime) -> Result<(), Fail> {
-    assert!(rt; are_copied(rt.alloc())?);
-    Ok(())
+    holds(are_copied(rt.alloc()))
 }
 
 // ---- nodes
@@ -138,11 +143,15 @@ fn is_after(node: &Node, keys: &[(&[u8], Option<&[u8]>, usize)]) -> bool {
     true
 }
 
+/// The same of a node of the prefix `foo`.
+fn is_after_foo(alloc: Global) -> Result<bool, AllocError> {
+    let foo = bare(alloc, b"foo")?;
+    Ok(is_after(foo.node(), &AFTER_FOO))
+}
+
 #[test]
 fn what_a_key_has_after_a_prefix(rt: HostRuntime) -> Result<(), Fail> {
-    let foo = bare(rt.alloc(), b"foo")?;
-    assert!(rt; is_after(foo.node(), &AFTER_FOO));
-    Ok(())
+    holds(is_after_foo(rt.alloc()))
 }
 
 /// Whether a copy has another prefix.
@@ -165,15 +174,14 @@ fn changes_one_part(node: &Node, alloc: Global) -> Result<bool, AllocError> {
 }
 
 /// The same of a node with a leaf.
-fn leafed_changes(alloc: Global) -> Result<bool, Fail> {
+fn leafed_changes(alloc: Global) -> Result<bool, AllocError> {
     let node = leafed(alloc, "{\"n\":1}", 2, 1)?;
-    Ok(changes_one_part(node.node(), alloc)?)
+    changes_one_part(node.node(), alloc)
 }
 
 #[test]
 fn a_copy_changes_one_part(rt: HostRuntime) -> Result<(), Fail> {
-    assert!(rt; leafed_changes(rt.alloc())?);
-    Ok(())
+    holds(leafed_changes(rt.alloc()))
 }
 
 /// A copy with a leaf of a row.
@@ -194,16 +202,15 @@ fn gets_leaf(alloc: Global, row: &Row) -> Result<bool, AllocError> {
     has_leaf(node.node(), alloc, row)
 }
 
-/// The same of a row that a text reads as.
-fn gets_leaf_by(alloc: Global, text: &str) -> Result<bool, Fail> {
-    let row = row(alloc, text)?;
-    Ok(gets_leaf(alloc, &row)?)
+/// The same of a row of the number 2.
+fn gets_leaf_of_2(alloc: Global) -> Result<bool, AllocError> {
+    let row = row_of(alloc, "{\"n\":2}")?;
+    gets_leaf(alloc, &row)
 }
 
 #[test]
 fn a_copy_has_another_leaf(rt: HostRuntime) -> Result<(), Fail> {
-    assert!(rt; gets_leaf_by(rt.alloc(), "{\"n\":2}")?);
-    Ok(())
+    holds(gets_leaf_of_2(rt.alloc()))
 }
 
 /// Bounds, and how many cells have an id below: those of the edges' nodes have the id 1.
@@ -227,13 +234,12 @@ fn lists_each(node: &Node, alloc: Global) -> Result<bool, AllocError> {
 }
 
 /// The same of a node whose cell has the id 3, and its leaf's cell the id 5.
-fn lists_own(alloc: Global) -> Result<bool, Fail> {
+fn lists_own(alloc: Global) -> Result<bool, AllocError> {
     let node = leafed(alloc, "{}", 5, 3)?;
-    Ok(lists_each(node.node(), alloc)?)
+    lists_each(node.node(), alloc)
 }
 
 #[test]
 fn cells_are_listed_below_a_bound(rt: HostRuntime) -> Result<(), Fail> {
-    assert!(rt; lists_own(rt.alloc())?);
-    Ok(())
+    holds(lists_own(rt.alloc()))
 }

@@ -1,6 +1,7 @@
 //! A tree as deep as keys are long: one key for each number of letters from none to 2,048. The
 //! writes before the first tree is given change their path in place, and those after it copy it.
 use super::written::{Work, row};
+use crate::ending::holds;
 use mdb_datum::Row;
 use radix_node::Tree;
 use std::alloc::{AllocError, Global};
@@ -66,18 +67,20 @@ fn deep_run(alloc: Global, row: &Row, longest_first: bool) -> Result<bool, Alloc
     is_deep_run(&mut work, row, longest_first)
 }
 
+/// The same of a row of the number 1.
+fn deep_run_of_1(alloc: Global, longest_first: bool) -> Result<bool, AllocError> {
+    let row = row(alloc, 1)?;
+    deep_run(alloc, &row, longest_first)
+}
+
 #[test]
 fn a_tree_may_be_2049_nodes_deep(rt: HostRuntime) -> Result<(), Fail> {
-    let row = row(rt.alloc(), 1)?;
-    assert!(rt; deep_run(rt.alloc(), &row, true)?);
-    Ok(())
+    holds(deep_run_of_1(rt.alloc(), true))
 }
 
 #[test]
 fn a_deep_tree_may_grow_downward(rt: HostRuntime) -> Result<(), Fail> {
-    let row = row(rt.alloc(), 1)?;
-    assert!(rt; deep_run(rt.alloc(), &row, false)?);
-    Ok(())
+    holds(deep_run_of_1(rt.alloc(), false))
 }
 
 /// Two deep runs on threads, one of a row that is lent and one of a row that is moved there.
@@ -103,6 +106,5 @@ fn deep_runs<R: Threads + Sync>(rt: &R, alloc: Global) -> Result<bool, AllocErro
 
 #[test]
 fn a_deep_tree_may_be_made_in_a_thread(rt: HostRuntime) -> Result<(), Fail> {
-    assert!(rt; deep_runs(&rt, rt.alloc())?);
-    Ok(())
+    holds(deep_runs(&rt, rt.alloc()))
 }

@@ -3,6 +3,7 @@
 //! notice has the cells of its first tree that aren't in its last one, told by their ids.
 use super::run::{Plain, Random, is_same, is_same_row, put_both, take_all_both, take_both};
 use super::written::{Work, is_row};
+use crate::ending::holds;
 use radix_node::{Left, Tree};
 use radix_txn::Notice;
 use std::alloc::{AllocError, Global};
@@ -248,6 +249,5 @@ fn run(alloc: Global) -> Result<bool, AllocError> {
 
 #[test]
 fn twenty_transactions_are_as_on_a_sorted_map(rt: HostRuntime) -> Result<(), Fail> {
-    assert!(rt; run(rt.alloc())?);
-    Ok(())
+    holds(run(rt.alloc()))
 }

@@ -2,18 +2,16 @@
 //! functions walk.
 use super::Line;
 use super::written::{is_row, nodes_are, tree_of};
+use crate::ending::holds;
 use radix_node::Tree;
+use std::alloc::{AllocError, Global};
 use std::test::Fail;
 
-/// The words `foo`, `foot` and `football`, each ended by a byte 00.
+// ---- in the tree of the words `foo`, `foot` and `football`, each ended by a byte 00
+
 static FORKED: [&[u8]; 3] = [b"foo\0", b"foot\0", b"football\0"];
 
-/// Each begins the next one, and has its length for its number.
-static NESTED: [&[u8]; 4] = [b"", b"a", b"ab", b"abc"];
-
-// ---- the node of a prefix
-
-/// In the forked tree, of each prefix that leads to a node.
+/// Of each prefix that leads to a node.
 static NODES: [Line; 9] = [
     (b"", b"", false, b"f"),
     (b"f", b"oo", false, b"\0t"),
@@ -25,13 +23,6 @@ static NODES: [Line; 9] = [
     (b"footba", b"all\0", true, b""),
     (b"football\0", b"all\0", true, b""),
 ];
-
-#[test]
-fn a_prefix_leads_to_the_node_of_its_keys(rt: HostRuntime) -> Result<(), Fail> {
-    let tree = tree_of(rt.alloc(), &FORKED)?;
-    assert!(rt; nodes_are(&tree, &NODES));
-    Ok(())
-}
 
 static NOWHERE: [&[u8]; 6] = [b"g", b"fa", b"foo\0\0", b"fooz", b"footbz", b"football\0x"];
 
@@ -45,14 +36,16 @@ fn leads_nowhere(tree: &Tree, prefixes: &[&[u8]]) -> bool {
     true
 }
 
-#[test]
-fn a_prefix_of_no_key_leads_nowhere(rt: HostRuntime) -> Result<(), Fail> {
-    let tree = tree_of(rt.alloc(), &FORKED)?;
-    assert!(rt; leads_nowhere(&tree, &NOWHERE));
-    Ok(())
+/// Whether a prefix leads to the node of its keys, and a prefix of no key leads nowhere.
+fn leads_to_keys(alloc: Global) -> Result<bool, AllocError> {
+    let tree = tree_of(alloc, &FORKED)?;
+    Ok(nodes_are(&tree, &NODES) && leads_nowhere(&tree, &NOWHERE))
 }
 
-// ---- look-ups
+#[test]
+fn a_prefix_leads_to_the_node_of_its_keys_or_nowhere(rt: HostRuntime) -> Result<(), Fail> {
+    holds(leads_to_keys(rt.alloc()))
+}
 
 static THERE: [(&[u8], bool); 10] = [
     (b"foo\0", true),
@@ -77,12 +70,20 @@ fn finds(tree: &Tree, keys: &[(&[u8], bool)]) -> bool {
     true
 }
 
+/// The same of the tree of three words.
+fn finds_words(alloc: Global) -> Result<bool, AllocError> {
+    let tree = tree_of(alloc, &FORKED)?;
+    Ok(finds(&tree, &THERE) && tree.len() == 3)
+}
+
 #[test]
 fn whole_keys_alone_are_found(rt: HostRuntime) -> Result<(), Fail> {
-    let tree = tree_of(rt.alloc(), &FORKED)?;
-    assert!(rt; finds(&tree, &THERE) && tree.len() == 3);
-    Ok(())
+    holds(finds_words(rt.alloc()))
 }
+
+// ---- in the tree of keys that begin each other, each with its length for its number
+
+static NESTED: [&[u8]; 4] = [b"", b"a", b"ab", b"abc"];
 
 /// A key, and the number of the row under the longest key that is a prefix of it.
 static LONGEST: [(&[u8], u64); 6] = [
@@ -104,13 +105,6 @@ fn finds_longest(tree: &Tree, keys: &[(&[u8], u64)]) -> bool {
     true
 }
 
-#[test]
-fn the_longest_key_that_is_a_prefix_is_found(rt: HostRuntime) -> Result<(), Fail> {
-    let tree = tree_of(rt.alloc(), &NESTED)?;
-    assert!(rt; finds_longest(&tree, &LONGEST));
-    Ok(())
-}
-
 /// Whether each key that begins another one has its own row, and keys beside them have none.
 fn are_apart(tree: &Tree) -> bool {
     is_row(tree.get(b""), 0)
@@ -119,23 +113,30 @@ fn are_apart(tree: &Tree) -> bool {
         && tree.get(b"ac").is_none()
 }
 
-#[test]
-fn keys_that_begin_each_other_are_told_apart(rt: HostRuntime) -> Result<(), Fail> {
-    let tree = tree_of(rt.alloc(), &NESTED)?;
-    assert!(rt; are_apart(&tree));
-    Ok(())
+/// Whether both hold in the tree of those keys.
+fn tells_nested_apart(alloc: Global) -> Result<bool, AllocError> {
+    let tree = tree_of(alloc, &NESTED)?;
+    Ok(finds_longest(&tree, &LONGEST) && are_apart(&tree))
 }
+
+#[test]
+fn keys_that_begin_each_other_are_told_apart_and_the_longest_is_found(
+    rt: HostRuntime,
+) -> Result<(), Fail> {
+    holds(tells_nested_apart(rt.alloc()))
+}
+
+// ---- the longest key
 
 static LONG: [u8; 2048] = [b'k'; 2048];
 
 /// Whether the key of 2,048 bytes is there, and the one that is a byte shorter is not.
-fn has_long(tree: &Tree) -> bool {
-    tree.get(&LONG).is_some() && tree.get(&LONG[..2047]).is_none()
+fn has_long(alloc: Global) -> Result<bool, AllocError> {
+    let tree = tree_of(alloc, &[&LONG])?;
+    Ok(tree.get(&LONG).is_some() && tree.get(&LONG[..2047]).is_none())
 }
 
 #[test]
 fn a_key_of_2048_bytes_is_found(rt: HostRuntime) -> Result<(), Fail> {
-    let tree = tree_of(rt.alloc(), &[&LONG])?;
-    assert!(rt; has_long(&tree));
-    Ok(())
+    holds(has_long(rt.alloc()))
 }

@@ -1,6 +1,7 @@
 //! The cells that a write fires, on the trees of the words `foo`, `football` and `foot`, each ended
 //! by a byte 00. Each watch is told by its key.
 use super::written::{Work, has, put_number, work_of};
+use crate::ending::{holds, none_wrong};
 use radix_node::Tree;
 use radix_txn::Notice;
 use std::alloc::{AllocError, Global};
@@ -103,12 +104,19 @@ fn insert_tells(alloc: Global, (written, key, get, seek): Line) -> Result<bool, 
     ends_with(work, &old, (key, get, seek))
 }
 
+/// The place of the first insert that has others told.
+fn first_wrong_insert(alloc: Global) -> Result<Option<usize>, AllocError> {
+    for (at, line) in INSERTS.iter().enumerate() {
+        if !insert_tells(alloc, *line)? {
+            return Ok(Some(at));
+        }
+    }
+    Ok(None)
+}
+
 #[test]
 fn an_insert_fires_what_it_copies(rt: HostRuntime) -> Result<(), Fail> {
-    for line in &INSERTS {
-        assert!(rt; insert_tells(rt.alloc(), *line)?, "{line:?}");
-    }
-    Ok(())
+    none_wrong(rt.alloc(), first_wrong_insert(rt.alloc()))
 }
 
 /// A write that a transaction begins with.
@@ -155,8 +163,7 @@ fn merged(alloc: Global) -> Result<bool, AllocError> {
 
 #[test]
 fn a_merge_fires_the_child_and_keeps_its_leaf(rt: HostRuntime) -> Result<(), Fail> {
-    assert!(rt; merged(rt.alloc())?);
-    Ok(())
+    holds(merged(rt.alloc()))
 }
 
 static PUT_AGAIN: [Told; 1] = [(b"foo\0", true, true)];
@@ -169,8 +176,7 @@ fn put_again(alloc: Global) -> Result<bool, AllocError> {
 
 #[test]
 fn an_equal_row_fires_too(rt: HostRuntime) -> Result<(), Fail> {
-    assert!(rt; put_again(rt.alloc())?);
-    Ok(())
+    holds(put_again(rt.alloc()))
 }
 
 static PUT_ABOVE: [Told; 2] = [(b"foo", true, true), (b"foo\0", false, false)];
@@ -182,8 +188,7 @@ fn put_above(alloc: Global) -> Result<bool, AllocError> {
 
 #[test]
 fn a_leaf_above_others_leaves_them(rt: HostRuntime) -> Result<(), Fail> {
-    assert!(rt; put_above(rt.alloc())?);
-    Ok(())
+    holds(put_above(rt.alloc()))
 }
 
 static THREE: [&[u8]; 3] = [b"foo\0", b"football\0", b"foot\0"];
@@ -198,8 +203,7 @@ fn taken(alloc: Global) -> Result<bool, AllocError> {
 
 #[test]
 fn a_delete_by_prefix_fires_all_that_goes(rt: HostRuntime) -> Result<(), Fail> {
-    assert!(rt; taken(rt.alloc())?);
-    Ok(())
+    holds(taken(rt.alloc()))
 }
 
 /// Puts a key twice.
@@ -237,6 +241,5 @@ fn between(alloc: Global) -> Result<bool, AllocError> {
 
 #[test]
 fn cells_of_the_first_tree_alone_are_in_the_notice(rt: HostRuntime) -> Result<(), Fail> {
-    assert!(rt; between(rt.alloc())?);
-    Ok(())
+    holds(between(rt.alloc()))
 }

@@ -1,6 +1,7 @@
 //! What a transaction does to the nodes and leaves that it made.
 use super::FORKED_KEYS;
 use super::written::{Work, is_row, row};
+use crate::ending::holds;
 use mdb_datum::Row;
 use std::alloc::{AllocError, Global};
 use std::test::Fail;
@@ -37,8 +38,7 @@ fn puts_are_free(alloc: Global) -> Result<bool, AllocError> {
 
 #[test]
 fn the_second_put_of_a_key_draws_no_id(rt: HostRuntime) -> Result<(), Fail> {
-    assert!(rt; puts_are_free(rt.alloc())?);
-    Ok(())
+    holds(puts_are_free(rt.alloc()))
 }
 
 /// Whether a tree that was given between two puts of a key keeps the first row.
@@ -58,8 +58,7 @@ fn snapshot_stays(alloc: Global) -> Result<bool, AllocError> {
 
 #[test]
 fn a_leaf_that_was_given_is_not_changed(rt: HostRuntime) -> Result<(), Fail> {
-    assert!(rt; snapshot_stays(rt.alloc())?);
-    Ok(())
+    holds(snapshot_stays(rt.alloc()))
 }
 
 /// Stands 1,000 times, with a put and a delete before each, and tells whether each tree has the one
@@ -85,8 +84,7 @@ fn may_stand_often(alloc: Global) -> Result<bool, AllocError> {
 
 #[test]
 fn a_transaction_may_stand_a_thousand_times(rt: HostRuntime) -> Result<(), Fail> {
-    assert!(rt; may_stand_often(rt.alloc())?);
-    Ok(())
+    holds(may_stand_often(rt.alloc()))
 }
 
 /// Whether the put of a key draws ids after a tree was given, of which nothing is kept: it was put
@@ -109,6 +107,5 @@ fn stand_ends_ownership(alloc: Global) -> Result<bool, AllocError> {
 // proofs pass, and this test fails.
 #[test]
 fn what_was_given_is_the_transactions_own_no_longer(rt: HostRuntime) -> Result<(), Fail> {
-    assert!(rt; stand_ends_ownership(rt.alloc())?);
-    Ok(())
+    holds(stand_ends_ownership(rt.alloc()))
 }

@@ -1,12 +1,10 @@
 //! Each allocation may fail: a write that is refused leaves the pairs that were there, and spoils
 //! the transaction.
 use super::written::{Work, row_of};
+use crate::ending::{Outcome, is_whole};
 use mdb_datum::Row;
 use std::alloc::{AllocError, Global};
 use std::test::Fail;
-
-/// What is told where a write was refused, and left what it should.
-pub(super) const REFUSED: &str = "a write was refused, and all is kept";
 
 /// One write of a mixed run: an insert, a delete or a delete by prefix of a key of few letters.
 fn write(work: &mut Work, row: &Row, step: u8) -> Result<(), AllocError> {
@@ -28,28 +26,27 @@ fn is_left(work: &mut Work, row: &Row, step: u8) -> bool {
     refused == work.txn().spoiled() && (!refused || work.txn().len() == before)
 }
 
-/// Makes writes, and tells whether each left what it should. The first refused one is the last, and
-/// an error.
-fn are_left(work: &mut Work, row: &Row) -> Result<bool, Fail> {
+/// Makes writes, and tells whether each left what it should. The first refused one is the last.
+fn are_left(work: &mut Work, row: &Row) -> Outcome {
     for step in 0..60u8 {
         if !is_left(work, row, step) {
-            return Ok(false);
+            return Outcome::Wrong;
         }
         if work.txn().spoiled() {
-            return Err(Fail::new(REFUSED));
+            return Outcome::Refused;
         }
     }
-    Ok(true)
+    Outcome::Whole
 }
 
 /// The same on an empty tree.
-fn mixed_run(alloc: Global, row: &Row) -> Result<bool, Fail> {
+fn mixed_run(alloc: Global, row: &Row) -> Result<Outcome, AllocError> {
     let mut work = Work::new(alloc)?;
-    are_left(&mut work, row)
+    Ok(are_left(&mut work, row))
 }
 
 /// A run with a row without members.
-fn bare_run(alloc: Global) -> Result<bool, Fail> {
+fn bare_run(alloc: Global) -> Result<Outcome, AllocError> {
     let row = row_of(alloc, "{}")?;
     mixed_run(alloc, &row)
 }
@@ -57,6 +54,5 @@ fn bare_run(alloc: Global) -> Result<bool, Fail> {
 // Where an allocation fails it ends in an error, which tells a refused write.
 #[test]
 fn a_refused_write_leaves_the_pairs(rt: HostRuntime) -> Result<(), Fail> {
-    assert!(rt; bare_run(rt.alloc())?);
-    Ok(())
+    is_whole(bare_run(rt.alloc()))
 }

@@ -1,9 +1,9 @@
 //! Each allocation may fail: a write that is refused, of a transaction that changes its own nodes in
 //! place, leaves the pairs that were there, and each tree that was given before as it was.
 use super::drawn::{Given, are_kept, give, is_tree_of};
-use super::refused::REFUSED;
 use super::run::{Plain, put_both, take_all_both, take_both};
 use super::written::Work;
+use crate::ending::{Outcome, is_whole};
 use std::alloc::{AllocError, Global};
 use std::collections::BTreeMap;
 use std::test::Fail;
@@ -103,14 +103,18 @@ fn end_of(
     Ok(None)
 }
 
-/// The same with no tree given before. Tells whether all is kept; where a write was refused, that is
-/// an error.
-fn own_writes_leave(alloc: Global, work: &mut Work, plain: &mut Plain) -> Result<bool, Fail> {
+/// The same with no tree given before, and what is left of all.
+fn own_writes_leave(
+    alloc: Global,
+    work: &mut Work,
+    plain: &mut Plain,
+) -> Result<Outcome, AllocError> {
     let mut trees = Vec::new(alloc);
     let told = end_of(alloc, work, plain, &mut trees)?;
     match (told, are_kept(&trees)) {
-        (Some(true), true) => Err(Fail::new(REFUSED)),
-        (told, kept) => Ok(told.is_none() && kept),
+        (None, true) => Ok(Outcome::Whole),
+        (Some(true), true) => Ok(Outcome::Refused),
+        _ => Ok(Outcome::Wrong),
     }
 }
 
@@ -125,20 +129,22 @@ fn is_begun(alloc: Global, work: &mut Work, plain: &mut Plain) -> Result<bool, A
 }
 
 /// The same in a new transaction on the tree of the base.
-fn base_leaves(alloc: Global, work: &mut Work, plain: &mut Plain) -> Result<bool, Fail> {
-    let begun = is_begun(alloc, work, plain)?;
+fn base_leaves(alloc: Global, work: &mut Work, plain: &mut Plain) -> Result<Outcome, AllocError> {
+    if !is_begun(alloc, work, plain)? {
+        return Ok(Outcome::Wrong);
+    }
     work.renew()?;
-    Ok(begun && own_writes_leave(alloc, work, plain)?)
+    own_writes_leave(alloc, work, plain)
 }
 
 /// The same from an empty map on.
-fn run_with(alloc: Global, work: &mut Work) -> Result<bool, Fail> {
+fn run_with(alloc: Global, work: &mut Work) -> Result<Outcome, AllocError> {
     let mut plain = BTreeMap::new(alloc);
     base_leaves(alloc, work, &mut plain)
 }
 
 /// The same from an empty tree on.
-fn run(alloc: Global) -> Result<bool, Fail> {
+fn run(alloc: Global) -> Result<Outcome, AllocError> {
     let mut work = Work::new(alloc)?;
     run_with(alloc, &mut work)
 }
@@ -146,6 +152,5 @@ fn run(alloc: Global) -> Result<bool, Fail> {
 // Where an allocation fails it ends in an error, which tells a refused write.
 #[test]
 fn a_refused_write_leaves_the_given_trees(rt: HostRuntime) -> Result<(), Fail> {
-    assert!(rt; run(rt.alloc())?);
-    Ok(())
+    is_whole(run(rt.alloc()))
 }

@@ -2,6 +2,7 @@
 ghost use Rattle.std.specs.Prelude.{◌<◌};
 
 use super::written::{Work, is_row, put_row};
+use crate::ending::holds;
 use mdb_datum::Row;
 use std::alloc::{AllocError, Global};
 use std::collections::BTreeMap;
@@ -153,6 +154,5 @@ fn run(alloc: Global) -> Result<bool, AllocError> {
 
 #[test]
 fn a_long_run_of_writes_is_as_on_a_sorted_map(rt: HostRuntime) -> Result<(), Fail> {
-    assert!(rt; run(rt.alloc())?);
-    Ok(())
+    holds(run(rt.alloc()))
 }

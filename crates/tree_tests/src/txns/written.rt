@@ -235,11 +235,12 @@ pub fn tree_of(alloc: Global, keys: &[&[u8]]) -> Result<Tree, AllocError> {
 
 /// Whether these are the labels of edges, in their order.
 pub fn labels_are(edges: &Edges, labels: &[u8]) -> bool {
+    for (edge, label) in edges.iter().zip(labels) {
+        if edge.label() != *label {
+            return false;
+        }
+    }
     edges.len() == labels.len()
-        && edges
-            .iter()
-            .zip(labels)
-            .all(|(e, label)| e.label() == *label)
 }
 
 /// Whether a node has this prefix, a leaf where that is said, and edges of these labels.

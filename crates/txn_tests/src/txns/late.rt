@@ -6,8 +6,8 @@ ghost use Rattle.mem_txn.specs.Checked.{HasHeard, IsHeldBy};
 ghost use Rattle.mem_txn.specs.Database.{IsOf, reading_of};
 
 use super::four_callers::watch_now;
-use super::worked::{Step, Steps};
-use super::{Question, Told, Txn, closed, is_made, pair, query_of, transact};
+use super::worked::{Step, committed_steps};
+use super::{Question, Told, Txn, closed, pair, query_of};
 use mdb_schema::{Ask, Query};
 use mem_txn::{BeginRefused, Db, Held, Look, Pass, ReadTxn};
 use std::alloc::{AllocError, Global};
@@ -28,7 +28,7 @@ pub(super) fn has_moved(db: &Db, pass: &Pass, held: &Held) -> bool
     held.watch().moved(&db.front()).fired
 }
 
-/// Whether the watch is late in the state that was read, and has fired in the next.
+/// Whether a watch is late in the state that was read, and has fired in the next.
 fn is_late<R: Wait>(rt: &R, db: &Db, pass: &mut Pass, read: &ReadTxn, held: &Held) -> Told
     requires own { IsOf db.now pass.old }
     requires read { read.now ≡ reading_of pass.old }
@@ -36,82 +36,16 @@ fn is_late<R: Wait>(rt: &R, db: &Db, pass: &mut Pass, read: &ReadTxn, held: &Hel
     requires held { IsHeldBy pass.old held.now }
     ensures { IsCaller db.now pass.old.number pass.new }
 {
+    let fired = has_moved(db, pass, held);
     let late = read.check(pass, held).is_none();
-    Ok(late && db.check(rt, pass, held)? == Look::Fired { at: 1 })
-}
-
-/// Whether it is quiet before another caller's commit, and late after it.
-fn is_late_behind<R: Wait>(
-    rt: &R,
-    alloc: Global,
-    db: &Db,
-    one: Pass,
-    two: Pass,
-    read: &ReadTxn,
-    held: &Held,
-) -> (Pass, Pass, Told)
-    requires one { IsCaller db.now 1 one }
-    requires two { IsCaller db.now 2 two }
-    requires read { read.now ≡ reading_of one }
-    requires heard { HasHeard one }
-    requires held { IsHeldBy one held.now }
-    ensures one { IsCaller db.now 1 result.0 }
-    ensures two { IsCaller db.now 2 result.1 }
-{
-    let mut one = one;
-    let quiet = !has_moved(db, &one, held);
-    let (two, done) = transact(rt, alloc, db, two, &mut Steps(FOO));
-    let fired = has_moved(db, &one, held);
-    let late = is_late(rt, db, &mut one, read, held);
-    (one, two, all_so(quiet && fired, is_made(done), late))
-}
-
-/// Whether all three are so.
-fn all_so(first: bool, second: Told, third: Told) -> Told {
-    Ok(second? && third? && first)
-}
-
-/// The same of a watch that is asked before.
-fn is_late_asked<R: Wait>(
-    rt: &R,
-    alloc: Global,
-    db: &Db,
-    one: Pass,
-    two: Pass,
-    query: &Query,
-) -> (Pass, Pass, Told)
-    requires one { IsCaller db.now 1 one }
-    requires two { IsCaller db.now 2 two }
-    ensures one { IsCaller db.now 1 result.0 }
-    ensures two { IsCaller db.now 2 result.1 }
-{
-    let mut one = one;
-    match watch_now(rt, db, &mut one, query) {
-        Ok((read, held)) => is_late_behind(rt, alloc, db, one, two, &read, &held),
-        Err(_) => (one, two, Err(AllocError)),
-    }
-}
-
-/// The same in a new database.
-fn is_found_late<R: Wait>(rt: &R, alloc: Global) -> Told {
-    let query = query_of(alloc, &NOBODY)?;
-    let (db, passes, one, two) = pair(alloc)?;
-    let (one, two, told) = is_late_asked(rt, alloc, &db, one, two, &query);
-    drop(closed(rt, db, passes, one, two));
-    told
-}
-
-#[test]
-fn a_check_finds_a_later_commit_late(rt: HostRuntime) -> Result<(), Fail> {
-    assert!(rt; is_found_late(&rt, rt.alloc())?);
-    Ok(())
+    Ok(fired && late && db.check(rt, pass, held)? == Look::Fired { at: 1 })
 }
 
 /// Whether the front of a new transaction tells that a watch has fired.
 fn begins_told<R: Wait>(rt: &R, db: &Db, pass: Pass, held: &Held) -> (Pass, Told)
-    requires own { IsCaller db.now 1 pass }
+    requires own { IsOf db.now pass }
     requires held { IsHeldBy pass held.now }
-    ensures { IsCaller db.now 1 result.0 }
+    ensures { IsCaller db.now pass.number result.0 }
 {
     match db.write(rt, pass) {
         Ok(txn) => {
@@ -123,35 +57,68 @@ fn begins_told<R: Wait>(rt: &R, db: &Db, pass: Pass, held: &Held) -> (Pass, Told
     }
 }
 
-/// Whether it does behind another caller's commit.
-fn begins_told_behind<R: Wait>(
+/// Whether the watch is told where a transaction begins, or else by checks.
+fn is_told<R: Wait>(
+    rt: &R,
+    db: &Db,
+    pass: Pass,
+    read: &ReadTxn,
+    held: &Held,
+    begins: bool,
+) -> (Pass, Told)
+    requires own { IsOf db.now pass }
+    requires read { read.now ≡ reading_of pass }
+    requires heard { HasHeard pass }
+    requires held { IsHeldBy pass held.now }
+    ensures { IsCaller db.now pass.number result.0 }
+{
+    if begins {
+        return begins_told(rt, db, pass, held);
+    }
+    let mut pass = pass;
+    let late = is_late(rt, db, &mut pass, read, held);
+    (pass, late)
+}
+
+/// Whether it is quiet before another caller's commit, and told so after it.
+fn is_told_behind<R: Wait>(
     rt: &R,
     alloc: Global,
     db: &Db,
     one: Pass,
     two: Pass,
+    read: &ReadTxn,
     held: &Held,
+    begins: bool,
 ) -> (Pass, Pass, Told)
     requires one { IsCaller db.now 1 one }
     requires two { IsCaller db.now 2 two }
+    requires read { read.now ≡ reading_of one }
+    requires heard { HasHeard one }
     requires held { IsHeldBy one held.now }
     ensures one { IsCaller db.now 1 result.0 }
     ensures two { IsCaller db.now 2 result.1 }
 {
     let quiet = !has_moved(db, &one, held);
-    let (two, done) = transact(rt, alloc, db, two, &mut Steps(FOO));
-    let (one, told) = begins_told(rt, db, one, held);
-    (one, two, all_so(quiet, is_made(done), told))
+    let (two, made) = committed_steps(rt, alloc, db, two, FOO);
+    let (one, told) = is_told(rt, db, one, read, held, begins);
+    (one, two, all_so(quiet, made, told))
+}
+
+/// Whether all three are so.
+fn all_so(first: bool, second: Told, third: Told) -> Told {
+    Ok(second? && third? && first)
 }
 
 /// The same of a watch that is asked before.
-fn begins_told_asked<R: Wait>(
+fn is_told_asked<R: Wait>(
     rt: &R,
     alloc: Global,
     db: &Db,
     one: Pass,
     two: Pass,
     query: &Query,
+    begins: bool,
 ) -> (Pass, Pass, Told)
     requires one { IsCaller db.now 1 one }
     requires two { IsCaller db.now 2 two }
@@ -160,22 +127,28 @@ fn begins_told_asked<R: Wait>(
 {
     let mut one = one;
     match watch_now(rt, db, &mut one, query) {
-        Ok((_read, held)) => begins_told_behind(rt, alloc, db, one, two, &held),
+        Ok((read, held)) => is_told_behind(rt, alloc, db, one, two, &read, &held, begins),
         Err(_) => (one, two, Err(AllocError)),
     }
 }
 
 /// The same in a new database.
-fn begins_told_anew<R: Wait>(rt: &R, alloc: Global) -> Told {
+fn is_told_anew<R: Wait>(rt: &R, alloc: Global, begins: bool) -> Told {
     let query = query_of(alloc, &NOBODY)?;
     let (db, passes, one, two) = pair(alloc)?;
-    let (one, two, told) = begins_told_asked(rt, alloc, &db, one, two, &query);
+    let (one, two, told) = is_told_asked(rt, alloc, &db, one, two, &query, begins);
     drop(closed(rt, db, passes, one, two));
     told
 }
 
 #[test]
+fn a_check_finds_a_later_commit_late(rt: HostRuntime) -> Result<(), Fail> {
+    assert!(rt; is_told_anew(&rt, rt.alloc(), false)?);
+    Ok(())
+}
+
+#[test]
 fn a_transaction_begins_with_what_another_caller_has_fired(rt: HostRuntime) -> Result<(), Fail> {
-    assert!(rt; begins_told_anew(&rt, rt.alloc())?);
+    assert!(rt; is_told_anew(&rt, rt.alloc(), true)?);
     Ok(())
 }

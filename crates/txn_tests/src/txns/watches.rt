@@ -7,8 +7,8 @@ ghost use Rattle.mem_txn.specs.CallerOf.{IsCaller};
 ghost use Rattle.mem_txn.specs.Held.{IsHeldOf};
 
 use super::late::has_moved;
-use super::worked::{Asked, Step, Steps};
-use super::{Told, closed, is_made, is_told, pair, query_of, transact};
+use super::worked::{Asked, Step, committed_steps};
+use super::{Told, closed, is_told, pair, query_of};
 use mdb_schema::{Answer, Ask, Query};
 use mem_txn::pass_laws::{asked_watches_are_held, held_watches_outlast_commits};
 use mem_txn::{Db, Held, Look, Pass, ReadTxn};
@@ -105,7 +105,7 @@ fn held_so(alloc: Global, read: &ReadTxn, query: &Query, told: &str) -> Result<H
 }
 
 /// The same of a question of a list.
-fn held_of(alloc: Global, read: &ReadTxn, asked: &Asked) -> Result<Held, AllocError>
+pub fn held_of(alloc: Global, read: &ReadTxn, asked: &Asked) -> Result<Held, AllocError>
     ensures { IfOk result (λ h. (q : query.Query) × IsHeldOf read.now q h) }
 {
     let query = query_of(alloc, &asked.0)?;
@@ -175,11 +175,11 @@ fn write_one<R: Wait>(
     ensures more { IsBeginning one result.0 }
 {
     if own {
-        let (one, done) = transact(rt, alloc, db, one, &mut Steps(steps));
-        (one, two, is_made(done))
+        let (one, made) = committed_steps(rt, alloc, db, one, steps);
+        (one, two, made)
     } else {
-        let (two, done) = transact(rt, alloc, db, two, &mut Steps(steps));
-        (one, two, is_made(done))
+        let (two, made) = committed_steps(rt, alloc, db, two, steps);
+        (one, two, made)
     }
 }
 
@@ -221,8 +221,8 @@ fn hold_behind<R: Wait>(
     ensures own { IsCaller db.now 1 result.0 }
     ensures held { let after = result.0 in IfOk result.1 (λ h. IsHeldBy after h) }
 {
-    let (mut pass, done) = transact(rt, alloc, db, pass, &mut Steps(FIRST));
-    match is_made(done) {
+    let (mut pass, made) = committed_steps(rt, alloc, db, pass, FIRST);
+    match made {
         Ok(true) => {
             let held = hold(rt, alloc, db, &mut pass, asked);
             (pass, held)

@@ -4,6 +4,7 @@ ghost use Rattle.std.specs.Prelude.{◌≡◌};
 ghost use Rattle.mem_txn.specs.CallerOf.{IsCaller};
 ghost use Rattle.mem_txn.specs.Transactions.{txn_of};
 
+use super::callers::are_both;
 use super::drawn::{Drawn, Plain, table_of, text_of};
 use super::long_run::are_read;
 use super::tracked::{TRACKED_USERS, are_different};
@@ -37,15 +38,16 @@ fn insert_some(alloc: Global, drawn: &mut Drawn, txn: &mut Txn) -> Told
     Ok(false)
 }
 
-/// Ends a transaction by its commit, and tells whether that is answered right. One that is made
-/// tells what became of the users; one that is spoiled is told so; a refused one leaves the rows
-/// before it.
+/// Ends a transaction by its commit, and tells whether that is answered right, as its snapshot was.
+/// One that is made tells what became of the users; one that is spoiled is told so; a refused one
+/// leaves the rows before it.
 fn end<R: Wait>(
     rt: &R,
     alloc: Global,
     db: &Db,
     txn: Txn,
     spoiled: bool,
+    shown: bool,
     before: Plain,
     plain: &mut Plain,
 ) -> (Pass, Told)
@@ -55,39 +57,23 @@ fn end<R: Wait>(
     match txn.commit(rt, db) {
         Ok(Committed { pass, receipt }) => {
             let told = are_different(alloc, &receipt.changes, &before, plain);
-            (pass, told.map(|right| right && !spoiled))
+            (pass, are_both(told, Ok(shown && !spoiled)))
         }
         Err(CommitRefused { pass, cause }) => {
             *plain = before;
-            (pass, Ok(spoiled == (cause == CommitError::Spoiled)))
+            let right = spoiled == (cause == CommitError::Spoiled);
+            (pass, Ok(right && shown))
         }
     }
 }
 
-/// Whether the snapshot of a transaction tells that it is spoiled.
-fn is_spoiled(txn: &mut Txn) -> bool
+/// Whether a transaction is spoiled, and whether its snapshot tells so.
+fn spoiled_by(alloc: Global, drawn: &mut Drawn, txn: &mut Txn) -> Result<(bool, bool), AllocError>
     ensures { (txn_of txn.new).caller ≡ (txn_of txn.old).caller }
 {
-    matches!(txn.snapshot(), Err(SnapError::Spoiled))
-}
-
-/// Ends it so, and tells whether a snapshot before is answered right too.
-fn end_shown<R: Wait>(
-    rt: &R,
-    alloc: Global,
-    db: &Db,
-    txn: Txn,
-    spoiled: bool,
-    before: Plain,
-    plain: &mut Plain,
-) -> (Pass, Told)
-    requires own { IsCaller db.now 1 (txn_of txn).caller }
-    ensures { IsCaller db.now 1 result.0 }
-{
-    let mut txn = txn;
-    let told = is_spoiled(&mut txn) == spoiled;
-    let (pass, right) = end(rt, alloc, db, txn, spoiled, before, plain);
-    (pass, right.map(|right| right && told))
+    let spoiled = insert_some(alloc, drawn, txn)?;
+    let shown = matches!(txn.snapshot(), Err(SnapError::Spoiled));
+    Ok((spoiled, shown == spoiled))
 }
 
 /// Tries a transaction, and tells whether it is answered right. Then these are the rows.
@@ -97,8 +83,10 @@ fn try_begun<R: Wait>(rt: &R, alloc: Global, db: &Db, txn: Txn, drawn: &mut Draw
 {
     let mut txn = txn;
     let before = drawn.plain;
-    match insert_some(alloc, drawn, &mut txn) {
-        Ok(spoiled) => end_shown(rt, alloc, db, txn, spoiled, before, &mut drawn.plain),
+    match spoiled_by(alloc, drawn, &mut txn) {
+        Ok((spoiled, shown)) => {
+            end(rt, alloc, db, txn, spoiled, shown, before, &mut drawn.plain)
+        }
         Err(_) => (txn.abort(db), Err(AllocError)),
     }
 }

@@ -1,9 +1,13 @@
 //! Worked examples: transactions on a database, each write and question with its answer.
 ghost use Rattle.std.specs.Prelude.{◌≡◌};
 ghost use Rattle.mem_txn.specs.CallerOf.{IsCaller};
+ghost use Rattle.mem_txn.specs.Checked.{IsBeginning};
+ghost use Rattle.mem_txn.specs.Database.{IsOf};
 ghost use Rattle.mem_txn.specs.Transactions.{txn_of};
 
-use super::{Question, Told, Txn, Work, closed, is_told, pair, query_of, row_of, transact};
+use super::{
+    Question, Told, Txn, Work, closed, is_made, is_told, pair, query_of, row_of, transact,
+};
 use mdb_datum::Row;
 use mdb_schema::{Answer, Ask, AskError, Query, Rows, WriteError};
 use mem_txn::{
@@ -233,6 +237,22 @@ impl Work for Steps {
     fn run(&mut self, alloc: Global, txn: &mut Txn) -> Told {
         are_done(alloc, txn, self.0)
     }
+}
+
+/// Whether steps are answered so, and committed.
+pub fn committed_steps<R: Wait>(
+    rt: &R,
+    alloc: Global,
+    db: &Db,
+    pass: Pass,
+    steps: &'static [Step],
+) -> (Pass, Told)
+    requires own { IsOf db.now pass }
+    ensures own { IsCaller db.now pass.number result.0 }
+    ensures more { IsBeginning pass result.0 }
+{
+    let (pass, done) = transact(rt, alloc, db, pass, &mut Steps(steps));
+    (pass, is_made(done))
 }
 
 /// A transaction: its steps up to a snapshot, a question of that when all is over, the steps after

@@ -3,96 +3,44 @@ ghost use Rattle.std.specs.Prelude.{◌≡◌, IfOk};
 ghost use Rattle.mem_txn.specs.Checked.{IsHeldBy};
 ghost use Rattle.mem_txn.specs.Database.{Caller, reading_of};
 ghost use Rattle.mem_txn.specs.CallerOf.{IsCaller};
-ghost use Rattle.mem_txn.specs.Transactions.{txn_of};
 ghost use Rattle.watch_set.specs.Checks.{KeepsHeld};
 ghost use Rattle.watch_set.specs.Members.{AreHeldBy, watches_of};
 
-use crate::txns::{closed, pair, query_of, row_of};
+use super::callers::are_both;
+use super::watches::held_of;
+use super::worked::{Asked, Step, committed_steps};
+use super::{Told, closed, pair};
 use mdb_datum::Text;
 use mdb_schema::Ask;
 use mem_txn::pass_laws::asked_watches_are_held;
-use mem_txn::{BeginRefused, CommitRefused, Committed, Db, Held, Pass, ReadTxn, WriteTxn};
+use mem_txn::{Db, Held, Pass, ReadTxn};
 use std::alloc::{AllocError, Global};
 use std::sync::Wait;
 use std::test::Fail;
 use watch_set::{WatchSet, Woken};
 
-/// What is asked, of which table and index, with which arguments.
-type Asked = (Ask, &'static str, &'static str, &'static str);
+const ANN: Asked = (
+    (Ask::First, "users", "id", r#"["ann"]"#),
+    r#"{"age":1,"name":"ann"}"#,
+);
 
-const ANN: Asked = (Ask::First, "users", "id", r#"["ann"]"#);
+const WITH_B: Asked = ((Ask::Get, "users", "id_prefix", r#"["b"]"#), "");
 
-const WITH_B: Asked = (Ask::Get, "users", "id_prefix", r#"["b"]"#);
+const NOTES: Asked = ((Ask::Get, "notes", "id", "[]"), "");
 
-const NOTES: Asked = (Ask::Get, "notes", "id", "[]");
+const INSERT_ANN: &[Step] = &[Step::Insert(("users", r#"{"name":"ann","age":1}"#, "inserted"))];
 
-/// Whether a step did what it should. A text that can't be read counts as want of memory, which ends
-/// a test.
-type Told = Result<bool, AllocError>;
+const INSERT_BOB: &[Step] = &[Step::Insert(("users", r#"{"name":"bob","age":2}"#, "inserted"))];
 
-/// A row of a table.
-type Line = (&'static str, &'static str);
+const INSERT_NOTE: &[Step] = &[Step::Insert(("notes", r#"{"name":"n"}"#, "inserted"))];
 
-const INSERT_ANN: Line = ("users", r#"{"name":"ann","age":1}"#);
-
-const INSERT_BOB: Line = ("users", r#"{"name":"bob","age":2}"#);
-
-const INSERT_NOTE: Line = ("notes", r#"{"name":"n"}"#);
-
-/// Puts the row of a line in.
-fn insert_row(alloc: Global, txn: &mut WriteTxn<u8>, line: &Line) -> Result<(), AllocError>
-    ensures { (txn_of txn.new).caller ≡ (txn_of txn.old).caller }
-{
-    let row = row_of(alloc, line.1)?;
-    match txn.insert(line.0, &row) {
-        Ok(_) => Ok(()),
-        Err(_) => Err(AllocError),
-    }
-}
-
-/// Commits a transaction of the second caller.
-fn committed<R: Wait>(rt: &R, db: &Db, txn: WriteTxn<u8>) -> (Pass, Result<(), AllocError>)
-    requires own { IsCaller db.now 2 (txn_of txn).caller }
-    ensures { IsCaller db.now 2 result.0 }
-{
-    match txn.commit(rt, db) {
-        Ok(Committed { pass, receipt: _ }) => (pass, Ok(())),
-        Err(CommitRefused { pass, cause: _ }) => (pass, Err(AllocError)),
-    }
-}
-
-/// Makes the insert of a row a commit of the second caller.
-fn insert<R: Wait>(
-    rt: &R,
-    alloc: Global,
-    db: &Db,
-    pass: Pass,
-    line: &Line,
-) -> (Pass, Result<(), AllocError>)
-    requires own { IsCaller db.now 2 pass }
-    ensures { IsCaller db.now 2 result.0 }
-{
-    let mut txn = match db.write(rt, pass) {
-        Ok(txn) => txn,
-        Err(BeginRefused { pass, cause: _ }) => return (pass, Err(AllocError)),
-    };
-    match insert_row(alloc, &mut txn, line) {
-        Ok(()) => committed(rt, db, txn),
-        Err(AllocError) => (txn.abort(db), Err(AllocError)),
-    }
-}
-
-/// The watch of a question in the state that a caller has read.
+/// The watch of a question in the state that a caller has read, where its answer is right.
 fn watch_of(alloc: Global, pass: &Pass, read: &ReadTxn, asked: &Asked) -> Result<Held, AllocError>
     requires { read.now ≡ reading_of pass.now }
     ensures { IfOk result (λ h. IsHeldBy pass.now h) }
 {
     asked_watches_are_held(pass);
-    let query = query_of(alloc, asked)?;
-    match read.ask_watch(&query) {
-        Ok((_, held)) => Ok(held),
-        Err(_) => Err(AllocError),
-    }
+    held_of(alloc, read, asked)
 }
 
 /// Adds two watches with a limit of one member, and tells whether the first alone is added.
@@ -293,13 +241,13 @@ fn found_of_s<R: Wait>(
     ensures keeps { KeepsHeld one.old one.new }
 {
     let before = set.look_once(rt, db, one, None);
-    let (two, bob) = insert(rt, alloc, db, two, &INSERT_BOB);
+    let (two, bob) = committed_steps(rt, alloc, db, two, INSERT_BOB);
     match bob {
-        Ok(()) => {
+        Ok(true) => {
             let after = look_and_wait(rt, db, one, set);
             (two, is_found(before, after))
         }
-        Err(AllocError) => (two, Err(AllocError)),
+        told => (two, told),
     }
 }
 
@@ -327,9 +275,9 @@ fn is_stopped<R: Wait>(
     ensures one { IsCaller db.now 1 one.new }
     ensures two { IsCaller db.now 2 result.0 }
 {
-    let (two, note) = insert(rt, alloc, db, two, &INSERT_NOTE);
-    if note.is_err() {
-        return (two, Err(AllocError));
+    let (two, note) = committed_steps(rt, alloc, db, two, INSERT_NOTE);
+    if note != Ok(true) {
+        return (two, note);
     }
     match watched.t.look_once(rt, db, one, Some(&watched.notes)) {
         Ok(found) => (two, Ok(found == Some(Woken::Stopped { at: 3 }))),
@@ -382,10 +330,10 @@ fn row_by_row<R: Wait>(rt: &R, alloc: Global, db: &Db, one: &mut Pass, two: Pass
     ensures one { IsCaller db.now 1 one.new }
     ensures two { IsCaller db.now 2 result.0 }
 {
-    let (two, ann) = insert(rt, alloc, db, two, &INSERT_ANN);
+    let (two, ann) = committed_steps(rt, alloc, db, two, INSERT_ANN);
     match ann {
-        Ok(()) => are_found(rt, alloc, db, one, two),
-        Err(AllocError) => (two, Err(AllocError)),
+        Ok(true) => are_found(rt, alloc, db, one, two),
+        told => (two, told),
     }
 }
 
@@ -427,10 +375,10 @@ fn is_refused_now<R: Wait>(rt: &R, alloc: Global, db: &Db, one: &mut Pass) -> To
 /// The same behind the first commit of a new database.
 fn are_ended<R: Wait>(rt: &R, alloc: Global) -> Told {
     let (db, passes, mut one, two) = pair(alloc)?;
-    let (two, ann) = insert(rt, alloc, &db, two, &INSERT_ANN);
+    let (two, ann) = committed_steps(rt, alloc, &db, two, INSERT_ANN);
     let told = is_refused_now(rt, alloc, &db, &mut one);
     drop(closed(rt, db, passes, one, two));
-    ann.and(told)
+    are_both(ann, told)
 }
 
 #[test]
