@@ -12,7 +12,5 @@ mod schema;
 mod scripts;
 mod summary;
 mod tally;
-#[cfg(test)]
-mod tests;
 
 pub use self::summary::made_summary;

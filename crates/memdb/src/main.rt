@@ -17,8 +17,6 @@ mod outcome;
 mod output;
 mod run;
 mod sessions;
-#[cfg(test)]
-mod tests;
 mod words;
 
 ghost use Rattle.std.specs.Prelude.{◌≡◌, ℕ};

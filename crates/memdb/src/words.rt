@@ -8,8 +8,6 @@ use std::alloc::{AllocError, Global};
 mod checked;
 mod numbers;
 mod parsing;
-#[cfg(test)]
-mod tests;
 
 pub use self::checked::CheckedFiles;
 pub use self::numbers::Numbers;

@@ -26,8 +26,6 @@ mod run;
 mod sessions;
 mod stop;
 mod task;
-#[cfg(test)]
-mod tests;
 
 ghost use Rattle.std.specs.Prelude.{◌≡◌, ℕ};
 ghost use Rattle.mdb_ports.specs.Faults.{Rose};
