@@ -1,4 +1,4 @@
-"""What the scripts `words` and `limits` have in common: runs of the programs that `rt ci` built, in a folder of files."""
+"""What the scripts `words`, `limits` and `made` have in common: runs of the programs that `rt ci` built, in a folder of files."""
 
 import os
 import subprocess
@@ -30,6 +30,16 @@ ANN_OUT = """client 1 c1
 5: row {"age":3,"name":"ann"}
 6: none
 """
+
+
+def summary(number, clients, count):
+    """What `make` tells of these numbers."""
+    rows = {}
+    for client in range(1, clients + 1):
+        for _ in range(count):
+            number = (75 * number + 74) % 65537
+            rows["k%d-%d" % (client, number % 100)] = number % 65536
+    return "clients %d\ncommits %d\nrows %d\nages %d\n" % (clients, clients * count, len(rows), sum(rows.values()))
 
 
 class Trial:

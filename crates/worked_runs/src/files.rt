@@ -38,22 +38,12 @@ fn list_parts(alloc: Global, files: &mut FileList, file: File) -> Result<(), All
     list(alloc, files, file.0, joined(alloc, file.1)?.as_bytes())
 }
 
-/// Lists files behind others.
-pub(crate) fn list_all(
-    alloc: Global,
-    list: &mut FileList,
-    files: &[File],
-) -> Result<(), AllocError> {
-    for at in 0..files.len() {
-        list_parts(alloc, list, files[at])?;
-    }
-    Ok(())
-}
-
 /// The list of these files.
 pub fn listed(alloc: Global, files: &[File]) -> Result<FileList, AllocError> {
     let mut list = FileList::new(alloc);
-    list_all(alloc, &mut list, files)?;
+    for at in 0..files.len() {
+        list_parts(alloc, &mut list, files[at])?;
+    }
     Ok(list)
 }
 
@@ -69,12 +59,7 @@ pub fn files_of(alloc: Global, files: &[File], call: u64) -> Result<MemFiles, Al
     Ok(MemFiles::of(listed(alloc, files)?, only(alloc, call)?))
 }
 
-/// A sink that takes 7 bytes a call, of which one may fail.
-pub fn sink(alloc: Global, call: u64) -> Result<MemSink, AllocError> {
-    sink_with(alloc, 1_048_576, call)
-}
-
-/// The same, with room for so many bytes.
+/// A sink that takes 7 bytes a call, of which one may fail, with room for so many bytes.
 pub fn sink_with(alloc: Global, room: usize, call: u64) -> Result<MemSink, AllocError> {
     MemSink::of(alloc, room, 7, only(alloc, call)?)
 }

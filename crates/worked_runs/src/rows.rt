@@ -1,18 +1,12 @@
 //! Worked sessions of one table, of one client and of two.
-use crate::files::File;
 use crate::session::Session;
 
 /// One table `t`, whose one index is `id`, over the text `name`.
 pub const ONE_TABLE: &str = r#"{"memdb":1,"tables":{"t":{"indexes":{
 "id":{"unique":true,"indexer":{"kind":"text","field":"name"}}}}}}"#;
 
-/// Two tables of that form, `t` and `u`.
-pub const TWO_TABLES: &str = r#"{"memdb":1,"tables":{
-"t":{"indexes":{"id":{"unique":true,"indexer":{"kind":"text","field":"name"}}}},
-"u":{"indexes":{"id":{"unique":true,"indexer":{"kind":"text","field":"name"}}}}}}"#;
-
 /// A client that writes a row and reads it back.
-pub const ANN: &str = r#"write
+const ANN: &str = r#"write
 insert t {"name":"ann","age":3}
 commit
 read
@@ -94,7 +88,7 @@ client 2 c2\n1: write @1\n2: inserted\n3: commit @2\n",
 };
 
 /// A client that watches a table, and waits until a row of it is put.
-pub const WAITS: &str = r#"read
+const WAITS: &str = r#"read
 watch w get t id
 end
 add s w
@@ -102,7 +96,7 @@ wait s
 "#;
 
 /// A client that puts a row at its fourth line and commits it at its fifth.
-pub const COMMITS: &str = r#"write
+const COMMITS: &str = r#"write
 abort
 write
 insert t {"name":"a"}
@@ -110,7 +104,7 @@ commit
 "#;
 
 /// What the two are told, where the first begins first.
-pub const PARKED_OUT: &str = r#"client 1 c1
+const PARKED_OUT: &str = r#"client 1 c1
 1: read @0
 2: rows 0
 3: ended
@@ -129,23 +123,3 @@ pub(crate) static PARKED: Session = Session {
     clients: &[("c1", &[(WAITS, 1)]), ("c2", &[(COMMITS, 1)])],
     output: &[(PARKED_OUT, 1)],
 };
-
-/// The files `S`, `c1` and `c2` of two clients of a hundred commits on rows that the other doesn't
-/// have, each with a read.
-pub const HUNDREDS: &[File] = &[
-    ("S", &[(ONE_TABLE, 1)]),
-    (
-        "c1",
-        &[(
-            "write\ninsert t {\"name\":\"one\"}\ncommit\nread\nend\n",
-            100,
-        )],
-    ),
-    (
-        "c2",
-        &[(
-            "write\ninsert t {\"name\":\"two\"}\ncommit\nread\nend\n",
-            100,
-        )],
-    ),
-];

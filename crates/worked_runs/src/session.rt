@@ -1,8 +1,6 @@
 //! Sessions that were worked by hand from the formats of scripts and outputs.
-use crate::files::{File, Part, joined, list, list_all};
+use crate::files::{File, Part};
 use crate::{rows, tables, users, watches};
-use mdb_ports::{CallList, FileList, MemFiles};
-use std::alloc::{AllocError, Global};
 
 /// A schema, the files of its clients, and the output of their run.
 #[derive(Clone, Copy)]
@@ -156,26 +154,4 @@ impl Worked {
             Worked::Parked => &rows::PARKED,
         }
     }
-}
-
-/// Files in memory: the schema's `S`, and those of the clients.
-pub fn session_files(alloc: Global, session: &Session) -> Result<MemFiles, AllocError> {
-    let mut files = FileList::new(alloc);
-    list(alloc, &mut files, "S", session.schema.as_bytes())?;
-    list_all(alloc, &mut files, session.clients)?;
-    Ok(MemFiles::of(files, CallList::new(alloc)))
-}
-
-/// Whether a status and what was written under it are 0 and a session's output. Want of memory is an
-/// error.
-pub fn is_output(
-    alloc: Global,
-    status: u8,
-    bytes: &[u8],
-    session: &Session,
-) -> Result<bool, AllocError> {
-    if status == 4 && bytes.is_empty() {
-        return Err(AllocError);
-    }
-    Ok(status == 0 && joined(alloc, session.output)?.as_bytes() == bytes)
 }

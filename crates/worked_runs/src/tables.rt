@@ -1,6 +1,5 @@
 //! Worked sessions over tables of their own: a catalogue of nodes and services, and two tables of
 //! which one is tracked.
-use crate::files::File;
 use crate::session::Session;
 
 const CATALOGUE_SCHEMA: &str = r#"{"memdb":1,"tables":{
@@ -37,14 +36,8 @@ read
 get services service ["API"]
 "#;
 
-/// The files `S` and `c1` of the session over a catalogue.
-pub const CATALOGUE_FILES: &[File] = &[
-    ("S", &[(CATALOGUE_SCHEMA, 1)]),
-    ("c1", &[(CATALOGUE_SCRIPT, 1)]),
-];
-
 /// What its client is told.
-pub const CATALOGUE_OUT: &str = r#"client 1 c1
+const CATALOGUE_OUT: &str = r#"client 1 c1
 1: write @0
 2: inserted
 3: inserted

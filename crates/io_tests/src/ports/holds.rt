@@ -1,11 +1,27 @@
 //! Lines that wait for other clients' lines.
-use mdb_ports::{Gate, HoldGate};
+use mdb_ports::{Gate, Hold, HoldGate};
 use std::hint::spin_loop;
 use std::sync::Wait;
 use std::sync::atomic::{AtomicBool, Ordering};
 use std::test::Fail;
 use std::thread::{Threads, join};
-use worked_runs::crossed;
+
+/// Client 1 waits at line 2 for line 3 of client 2, which waits at line 2 for line 1 of client 1.
+fn crossed() -> HoldGate {
+    let first = Hold {
+        client: 1,
+        line: 2,
+        until_client: 2,
+        until_line: 3,
+    };
+    let second = Hold {
+        client: 2,
+        line: 2,
+        until_client: 1,
+        until_line: 1,
+    };
+    HoldGate::new(first, second)
+}
 
 /// Passes the first lines of a client.
 fn pass(gate: &HoldGate, client: u32, lines: u32) {

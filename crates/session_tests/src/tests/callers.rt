@@ -88,6 +88,20 @@ static WOKEN: Pair = Pair {
     commits: 1,
 };
 
+/// A read transaction answers from the commit on which it began, though another is made in its midst.
+static MIDST: Pair = Pair {
+    first: "read\nget notes id\n",
+    second: "write\ninsert notes {\"name\":\"z\"}\ncommit\n",
+    turns: &[
+        (false, 1, Stepped::Answered { line: 1 }),
+        (true, 3, Stepped::Answered { line: 3 }),
+        (false, 1, Stepped::Answered { line: 2 }),
+    ],
+    first_told: "1: read @0\n2: rows 0\n",
+    second_told: "1: write @0\n2: inserted\n3: commit @1\n",
+    commits: 1,
+};
+
 /// A database of two callers, the list of its passes without them, and they.
 fn two_callers(alloc: Global) -> Result<(Db, Passes, Pass, Pass), AllocError>
     ensures one { IfOk result (λ made. IsCaller made.0 1 made.2) }
@@ -216,6 +230,12 @@ fn holds<R: Wait>(rt: &R, alloc: Global, pair: &Pair) -> Told {
 #[test]
 fn two_callers_see_each_other(rt: HostRuntime) -> Result<(), Fail> {
     assert!(rt; holds(&rt, rt.alloc(), &SEEN)?);
+    Ok(())
+}
+
+#[test]
+fn a_read_stays_as_it_began(rt: HostRuntime) -> Result<(), Fail> {
+    assert!(rt; holds(&rt, rt.alloc(), &MIDST)?);
     Ok(())
 }
 
