@@ -11,23 +11,13 @@ pub fn holds(told: Result<bool, AllocError>) -> Result<(), Fail> {
     }
 }
 
-/// How a run of writes ends of which each may be refused.
-#[derive(Clone, Copy)]
-pub enum Outcome {
-    /// None was refused, and each left what it should.
-    Whole,
-    /// The last one was refused, and left what it should.
-    Refused,
-    /// One left something else.
-    Wrong,
-}
-
-/// Fails where a write was refused, and with another text where one left what it shouldn't.
-pub fn is_whole(outcome: Result<Outcome, AllocError>) -> Result<(), Fail> {
-    match outcome? {
-        Outcome::Whole => Ok(()),
-        Outcome::Refused => Err(Fail::new("a write was refused, and all is kept")),
-        Outcome::Wrong => Err(Fail::new("it isn't so")),
+/// Fails where the last write was refused, with another text where one left what it shouldn't, and
+/// where there was no memory to find out. A `told` says that the last write was refused.
+pub fn is_whole(told: Result<Option<bool>, AllocError>) -> Result<(), Fail> {
+    match told? {
+        Some(false) => Ok(()),
+        Some(true) => Err(Fail::new("a write was refused, and all is kept")),
+        None => Err(Fail::new("it isn't so")),
     }
 }
 

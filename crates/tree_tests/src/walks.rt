@@ -1,43 +1,67 @@
-//! What a walk must give is worked out by hand, or is the sorted list of the keys, filtered.
-mod built;
+//! Look-ups and walks. What each must give is worked out by hand, or is the sorted list of the keys,
+//! filtered.
 mod drawn;
 
-use crate::ending::{holds, none_wrong};
-use built::{Entry, chain, empty_tree, entries_of, tree_of, tree_of_keys};
-use drawn::{byte_entries, drawn_entries, drawn_key, key_after, key_before};
-use mdb_datum::{Datum, Row};
-use radix_iter::{Walk, ascend, descend, down_from, first, from_key, last};
+use crate::ending::none_wrong;
+use crate::txns::deep::LETTERS;
+use crate::txns::written::{number_of, tree_of};
+use drawn::{around, drawn_keys, draws, prefixes, single_bytes, slices};
+use mdb_datum::Row;
+use radix_iter::{Walk, ascend, descend, down_from, first, from_key, last, one};
 use radix_node::Tree;
 use std::alloc::{AllocError, Global};
 use std::test::Fail;
 use std::thread::{Threads, spawn};
 
-/// The four walks.
-#[derive(Clone, Copy)]
-enum Kind {
+/// What is asked of a tree with a key, a prefix or a bound: four walks, and four rows that are lent.
+enum Ask {
     Ascend,
     Descend,
     FromKey,
     DownFrom,
+    First,
+    Last,
+    Longest,
+    Get,
 }
 
-const KINDS: &[Kind] = &[Kind::Ascend, Kind::Descend, Kind::FromKey, Kind::DownFrom];
+static ASKS: [Ask; 8] = [
+    Ask::Ascend,
+    Ask::Descend,
+    Ask::FromKey,
+    Ask::DownFrom,
+    Ask::First,
+    Ask::Last,
+    Ask::Longest,
+    Ask::Get,
+];
 
-/// The walk of a kind, by a prefix or from a bound.
-fn walk<'a>(tree: &'a Tree, kind: Kind, key: &[u8]) -> Result<Walk<'a>, AllocError> {
-    match kind {
-        Kind::Ascend => ascend(tree, key),
-        Kind::Descend => descend(tree, key),
-        Kind::FromKey => from_key(tree, key),
-        Kind::DownFrom => down_from(tree, key),
+/// The row that is lent.
+fn lent<'a>(tree: &'a Tree, ask: &Ask, key: &[u8]) -> Option<&'a Row> {
+    match ask {
+        Ask::First => first(tree, key),
+        Ask::Last => last(tree, key),
+        Ask::Longest => tree.longest(key),
+        _ => tree.get(key),
     }
 }
 
-/// The number that a row tells.
-fn number_of(row: Option<&Row>) -> Option<i128> {
-    match row?.get("n") {
-        Some(Datum::Whole(number)) => Some(*number),
-        _ => None,
+/// A walk over the row that is lent.
+fn lent_walk<'a>(tree: &'a Tree, ask: &Ask, key: &[u8]) -> Result<Walk<'a>, AllocError> {
+    match lent(tree, ask, key) {
+        Some(row) => Ok(one(tree, Some(row.share()?))),
+        None => Ok(one(tree, None)),
+    }
+}
+
+/// The walk that is asked for.
+fn walk<'a>(tree: &'a Tree, ask: &Ask, key: &[u8]) -> Result<Walk<'a>, AllocError> {
+    match ask {
+        Ask::Ascend => ascend(tree, key),
+        Ask::Descend => descend(tree, key),
+        Ask::FromKey => from_key(tree, key),
+        Ask::DownFrom => down_from(tree, key),
+        _ => lent_walk(tree, ask, key),
     }
 }
 
@@ -47,83 +71,92 @@ fn next_number(walk: &mut Walk<'_>) -> Result<Option<i128>, AllocError> {
     Ok(number_of(row.as_ref()))
 }
 
+/// The same, where a walk that refuses once is asked again.
+fn next_again(walk: &mut Walk<'_>) -> Result<Option<i128>, AllocError> {
+    match next_number(walk) {
+        Err(AllocError) => next_number(walk),
+        told => told,
+    }
+}
+
 /// Whether the next rows of a walk are those of these numbers.
 fn gives_each(walk: &mut Walk<'_>, numbers: &[i128]) -> Result<bool, AllocError> {
     for number in numbers {
-        if next_number(walk)? != Some(*number) {
+        if next_again(walk)? != Some(*number) {
             return Ok(false);
         }
     }
     Ok(true)
 }
 
-/// Whether a walk gives the rows of these numbers, and then the end twice.
-fn gives(walk: &mut Walk<'_>, numbers: &[i128]) -> Result<bool, AllocError> {
-    if !gives_each(walk, numbers)? {
-        return Ok(false);
-    }
-    Ok(next_number(walk)?.is_none() && next_number(walk)?.is_none())
+/// Whether a walk that is left after the rows of these numbers gives them.
+fn is_left(tree: &Tree, ask: &Ask, key: &[u8], numbers: &[i128]) -> Result<bool, AllocError> {
+    let mut left = walk(tree, ask, key)?;
+    gives_each(&mut left, numbers)
 }
 
-/// Whether the walk of a kind gives the rows of these numbers.
-fn walk_gives(tree: &Tree, kind: Kind, key: &[u8], numbers: &[i128]) -> Result<bool, AllocError> {
-    let mut walk = walk(tree, kind, key)?;
-    gives(&mut walk, numbers)
+/// Whether a walk gives the rows of these numbers, and then the end twice. Half of them come before
+/// others are left beside it, and half after that.
+fn gives(tree: &Tree, ask: &Ask, key: &[u8], numbers: &[i128]) -> Result<bool, AllocError> {
+    let (half, others) = numbers.split_at(numbers.len() / 2);
+    let mut walk = walk(tree, ask, key)?;
+    let begun = gives_each(&mut walk, half)? && is_left(tree, ask, key, half)?;
+    let ended = begun && gives_each(&mut walk, others)?;
+    Ok(ended && next_again(&mut walk)?.is_none() && next_again(&mut walk)?.is_none())
 }
 
-/// A walk, and the numbers of the rows that it must give.
-type Case = (Kind, &'static [u8], &'static [i128]);
+// ---- worked by hand
+
+/// What is asked, and the numbers of the rows that it must give.
+type Case = (Ask, &'static [u8], &'static [i128]);
 
 /// The place of the first case that is not so.
-fn first_wrong(alloc: Global, tree: &Tree, cases: &[Case]) -> Result<Option<usize>, AllocError> {
-    for (at, (kind, key, numbers)) in cases.iter().enumerate() {
-        if !walk_gives(tree, *kind, key, numbers)? {
+fn first_wrong(tree: &Tree, cases: &[Case]) -> Result<Option<usize>, AllocError> {
+    for (at, (ask, key, numbers)) in cases.iter().enumerate() {
+        if !gives(tree, ask, key, numbers)? {
             return Ok(Some(at));
         }
     }
     Ok(None)
 }
 
-/// The place of the first case that is not so, in the tree of these keys.
+/// The same in the tree of these keys, each with its place among them for its number.
 fn first_wrong_of(
     alloc: Global,
     keys: &[&[u8]],
     cases: &[Case],
 ) -> Result<Option<usize>, AllocError> {
-    let tree = tree_of_keys(alloc, keys)?;
-    first_wrong(alloc, &tree, cases)
+    let tree = tree_of(alloc, keys)?;
+    first_wrong(&tree, cases)
 }
 
-const NOTHING: &[Case] = &[
-    (Kind::Ascend, b"", &[]),
-    (Kind::Descend, b"", &[]),
-    (Kind::FromKey, b"", &[]),
-    (Kind::DownFrom, b"", &[]),
-    (Kind::Ascend, b"a", &[]),
-    (Kind::Descend, b"a", &[]),
-    (Kind::FromKey, b"a", &[]),
-    (Kind::DownFrom, b"a", &[]),
+static NOTHING: [Case; 16] = [
+    (Ask::Ascend, b"", &[]),
+    (Ask::Descend, b"", &[]),
+    (Ask::FromKey, b"", &[]),
+    (Ask::DownFrom, b"", &[]),
+    (Ask::First, b"", &[]),
+    (Ask::Last, b"", &[]),
+    (Ask::Longest, b"", &[]),
+    (Ask::Get, b"", &[]),
+    (Ask::Ascend, b"a", &[]),
+    (Ask::Descend, b"a", &[]),
+    (Ask::FromKey, b"a", &[]),
+    (Ask::DownFrom, b"a", &[]),
+    (Ask::First, b"a", &[]),
+    (Ask::Last, b"a", &[]),
+    (Ask::Longest, b"a", &[]),
+    (Ask::Get, b"a", &[]),
 ];
-
-/// Whether an empty tree has neither a first row nor a last one.
-fn has_no_ends(alloc: Global) -> Result<bool, AllocError> {
-    let tree = empty_tree(alloc)?;
-    Ok(first(&tree, b"").is_none() && last(&tree, b"").is_none())
-}
 
 #[test]
 fn an_empty_tree_gives_the_end_at_once(rt: HostRuntime) -> Result<(), Fail> {
-    none_wrong(rt.alloc(), first_wrong_of(rt.alloc(), &[], NOTHING))
-}
-
-#[test]
-fn an_empty_tree_has_no_ends(rt: HostRuntime) -> Result<(), Fail> {
-    holds(has_no_ends(rt.alloc()))
+    none_wrong(rt.alloc(), first_wrong_of(rt.alloc(), &[], &NOTHING))
 }
 
 /// The keys of texts end with 00. The first two are those of 255 and 256, each with the text after
 /// it.
-const STORED: &[&[u8]] = &[
+static STORED: [&[u8]; 8] = [
     b"\x00\xffx\x00",
     b"\x01\x00y\x00",
     b"ann\x00",
@@ -135,214 +168,240 @@ const STORED: &[&[u8]] = &[
 ];
 
 /// A prefix tells a whole text by the end byte, and a bound is compared with whole keys.
-const WALKS: &[Case] = &[
-    (Kind::Ascend, b"", &[0, 1, 2, 3, 4, 5, 6, 7]),
-    (Kind::Ascend, b"ann\x00", &[2]),
-    (Kind::Ascend, b"ann", &[2, 3]),
-    (Kind::Ascend, b"an\x00", &[]),
-    (Kind::Descend, b"", &[7, 6, 5, 4, 3, 2, 1, 0]),
-    (Kind::Descend, b"ann\x00", &[2]),
-    (Kind::Descend, b"an", &[3, 2]),
-    (Kind::FromKey, b"bob\x00", &[4, 5, 6, 7]),
-    (Kind::FromKey, b"\x00\xff", &[0, 1, 2, 3, 4, 5, 6, 7]),
-    (Kind::FromKey, b"\x01\x00", &[1, 2, 3, 4, 5, 6, 7]),
-    (Kind::DownFrom, b"bob\x00", &[4, 3, 2, 1, 0]),
-    (Kind::DownFrom, b"\x01\x00", &[0]),
-    (Kind::DownFrom, b"\x01\x01", &[1, 0]),
+static WALKS: [Case; 13] = [
+    (Ask::Ascend, b"", &[0, 1, 2, 3, 4, 5, 6, 7]),
+    (Ask::Ascend, b"ann\x00", &[2]),
+    (Ask::Ascend, b"ann", &[2, 3]),
+    (Ask::Ascend, b"an\x00", &[]),
+    (Ask::Descend, b"", &[7, 6, 5, 4, 3, 2, 1, 0]),
+    (Ask::Descend, b"ann\x00", &[2]),
+    (Ask::Descend, b"an", &[3, 2]),
+    (Ask::FromKey, b"bob\x00", &[4, 5, 6, 7]),
+    (Ask::FromKey, b"\x00\xff", &[0, 1, 2, 3, 4, 5, 6, 7]),
+    (Ask::FromKey, b"\x01\x00", &[1, 2, 3, 4, 5, 6, 7]),
+    (Ask::DownFrom, b"bob\x00", &[4, 3, 2, 1, 0]),
+    (Ask::DownFrom, b"\x01\x00", &[0]),
+    (Ask::DownFrom, b"\x01\x01", &[1, 0]),
 ];
 
 #[test]
 fn rows_come_in_the_order_of_their_keys(rt: HostRuntime) -> Result<(), Fail> {
-    none_wrong(rt.alloc(), first_wrong_of(rt.alloc(), STORED, WALKS))
+    none_wrong(rt.alloc(), first_wrong_of(rt.alloc(), &STORED, &WALKS))
 }
 
-/// Whether a walk gives half of the rows of these numbers, and the others after another walk has
-/// given all.
-fn goes_on(tree: &Tree, kind: Kind, key: &[u8], numbers: &[i128]) -> Result<bool, AllocError> {
-    let (half, others) = numbers.split_at(numbers.len() / 2);
-    let mut left = walk(tree, kind, key)?;
-    Ok(
-        gives_each(&mut left, half)?
-            && walk_gives(tree, kind, key, numbers)?
-            && gives(&mut left, others)?,
-    )
-}
-
-/// Whether a walk that is left half way gives the rows of the first half of these numbers.
-fn is_left(tree: &Tree, kind: Kind, key: &[u8], numbers: &[i128]) -> Result<bool, AllocError> {
-    let mut left = walk(tree, kind, key)?;
-    gives_each(&mut left, numbers.split_at(numbers.len() / 2).0)
-}
-
-/// The place of the first walk that is other after another one on the same tree, or half way.
-fn first_wrong_half(tree: &Tree, cases: &[Case]) -> Result<Option<usize>, AllocError> {
-    for (at, (kind, key, numbers)) in cases.iter().enumerate() {
-        if !is_left(tree, *kind, key, numbers)? || !goes_on(tree, *kind, key, numbers)? {
-            return Ok(Some(at));
-        }
-    }
-    Ok(None)
-}
-
-/// The same in the tree of the stored keys.
-fn first_wrong_half_stored(alloc: Global) -> Result<Option<usize>, AllocError> {
-    let tree = tree_of_keys(alloc, STORED)?;
-    first_wrong_half(&tree, WALKS)
-}
+/// The first and the last row under a prefix, and the longest key that begins a text.
+static ENDS: [Case; 25] = [
+    (Ask::First, b"", &[0]),
+    (Ask::Last, b"", &[7]),
+    (Ask::First, b"\x00", &[0]),
+    (Ask::Last, b"\x00", &[0]),
+    (Ask::First, b"an", &[2]),
+    (Ask::Last, b"an", &[3]),
+    (Ask::First, b"ann\x00", &[2]),
+    (Ask::Last, b"ann\x00", &[2]),
+    (Ask::First, b"east", &[6]),
+    (Ask::Last, b"east", &[7]),
+    (Ask::First, b"east\x00", &[6]),
+    (Ask::Last, b"east\x00", &[7]),
+    (Ask::First, b"east\x00w", &[7]),
+    (Ask::Last, b"east\x00w", &[7]),
+    (Ask::First, b"east\x00web\x00x", &[]),
+    (Ask::Last, b"east\x00web\x00x", &[]),
+    (Ask::First, b"d", &[]),
+    (Ask::Last, b"d", &[]),
+    (Ask::Longest, b"east\x00db", &[6]),
+    (Ask::Longest, b"east\x00web", &[6]),
+    (Ask::Longest, b"east\x00web\x00", &[7]),
+    (Ask::Longest, b"east\x00web\x00x", &[7]),
+    (Ask::Longest, b"east", &[]),
+    (Ask::Longest, b"west", &[]),
+    (Ask::Longest, b"\x00\xffx\x00\xff", &[0]),
+];
 
 #[test]
-fn a_walk_may_be_left_half_way_and_others_go_beside_it(rt: HostRuntime) -> Result<(), Fail> {
-    none_wrong(rt.alloc(), first_wrong_half_stored(rt.alloc()))
+fn the_ends_under_a_prefix_and_the_longest_key_are_found(rt: HostRuntime) -> Result<(), Fail> {
+    none_wrong(rt.alloc(), first_wrong_of(rt.alloc(), &STORED, &ENDS))
 }
 
 /// The two keys part after `fooba`, the bytes of one edge.
-const PARTED: &[&[u8]] = &[b"foobar", b"foobaz"];
+static PARTED: [&[u8]; 2] = [b"foobar", b"foobaz"];
 
-const WITHIN: &[Case] = &[
-    (Kind::Ascend, b"f", &[0, 1]),
-    (Kind::Ascend, b"foob", &[0, 1]),
-    (Kind::Ascend, b"fooba", &[0, 1]),
-    (Kind::Ascend, b"foobaz", &[1]),
-    (Kind::Ascend, b"fox", &[]),
-    (Kind::Ascend, b"foobas", &[]),
-    (Kind::Ascend, b"foobarx", &[]),
-    (Kind::Ascend, b"goo", &[]),
-    (Kind::Descend, b"f", &[1, 0]),
-    (Kind::Descend, b"fooba", &[1, 0]),
-    (Kind::Descend, b"foobas", &[]),
-    (Kind::Descend, b"fox", &[]),
+static WITHIN: [Case; 12] = [
+    (Ask::Ascend, b"f", &[0, 1]),
+    (Ask::Ascend, b"foob", &[0, 1]),
+    (Ask::Ascend, b"fooba", &[0, 1]),
+    (Ask::Ascend, b"foobaz", &[1]),
+    (Ask::Ascend, b"fox", &[]),
+    (Ask::Ascend, b"foobas", &[]),
+    (Ask::Ascend, b"foobarx", &[]),
+    (Ask::Ascend, b"goo", &[]),
+    (Ask::Descend, b"f", &[1, 0]),
+    (Ask::Descend, b"fooba", &[1, 0]),
+    (Ask::Descend, b"foobas", &[]),
+    (Ask::Descend, b"fox", &[]),
 ];
 
 #[test]
 fn a_prefix_may_end_within_an_edge(rt: HostRuntime) -> Result<(), Fail> {
-    none_wrong(rt.alloc(), first_wrong_of(rt.alloc(), PARTED, WITHIN))
+    none_wrong(rt.alloc(), first_wrong_of(rt.alloc(), &PARTED, &WITHIN))
 }
 
-/// Whether these are the numbers of the first and of the last row under a prefix.
-fn ends_are(tree: &Tree, prefix: &[u8], low: Option<i128>, high: Option<i128>) -> bool {
-    number_of(first(tree, prefix)) == low && number_of(last(tree, prefix)) == high
-}
+static WORDS: [&[u8]; 3] = [b"foo\0", b"foot\0", b"football\0"];
 
-const ENDS: &[(&[u8], Option<i128>, Option<i128>)] = &[
-    (b"", Some(0), Some(7)),
-    (b"\x00", Some(0), Some(0)),
-    (b"an", Some(2), Some(3)),
-    (b"ann\x00", Some(2), Some(2)),
-    (b"east", Some(6), Some(7)),
-    (b"east\x00", Some(6), Some(7)),
-    (b"east\x00w", Some(7), Some(7)),
-    (b"east\x00web\x00x", None, None),
-    (b"d", None, None),
+/// Whole keys alone are found, and a prefix of no key leads nowhere.
+static FOUND: [Case; 16] = [
+    (Ask::Get, b"foo\0", &[0]),
+    (Ask::Get, b"foot\0", &[1]),
+    (Ask::Get, b"football\0", &[2]),
+    (Ask::Get, b"", &[]),
+    (Ask::Get, b"f", &[]),
+    (Ask::Get, b"foo", &[]),
+    (Ask::Get, b"foot", &[]),
+    (Ask::Get, b"football", &[]),
+    (Ask::Get, b"foo\0\0", &[]),
+    (Ask::Get, b"footballs\0", &[]),
+    (Ask::First, b"g", &[]),
+    (Ask::First, b"fa", &[]),
+    (Ask::First, b"foo\0\0", &[]),
+    (Ask::First, b"fooz", &[]),
+    (Ask::First, b"footbz", &[]),
+    (Ask::First, b"football\0x", &[]),
 ];
 
-/// The place of the first prefix whose ends are others.
-fn first_wrong_ends(alloc: Global) -> Result<Option<usize>, AllocError> {
-    let tree = tree_of_keys(alloc, STORED)?;
-    Ok(ENDS.iter().position(|(prefix, low, high)| !ends_are(&tree, prefix, *low, *high)))
-}
-
 #[test]
-fn the_first_and_the_last_row_under_a_prefix_are_lent(rt: HostRuntime) -> Result<(), Fail> {
-    none_wrong(rt.alloc(), first_wrong_ends(rt.alloc()))
+fn whole_keys_alone_are_found(rt: HostRuntime) -> Result<(), Fail> {
+    none_wrong(rt.alloc(), first_wrong_of(rt.alloc(), &WORDS, &FOUND))
 }
 
-/// A text, and the number of the row under the longest key that begins it.
-const BEGUN: &[(&[u8], Option<i128>)] = &[
-    (b"east\x00db", Some(6)),
-    (b"east\x00web", Some(6)),
-    (b"east\x00web\x00", Some(7)),
-    (b"east\x00web\x00x", Some(7)),
-    (b"east", None),
-    (b"west", None),
-    (b"\x00\xffx\x00\xff", Some(0)),
+/// Keys that begin each other, each with its length for its number. Each step of a walk goes one
+/// node deeper.
+static CHAIN: [&[u8]; 11] = [
+    b"",
+    b"a",
+    b"ab",
+    b"abc",
+    b"abcd",
+    b"abcde",
+    b"abcdef",
+    b"abcdefg",
+    b"abcdefgh",
+    b"abcdefghi",
+    b"abcdefghij",
 ];
 
-/// The place of the first text for which another row is found.
-fn first_wrong_begun(alloc: Global) -> Result<Option<usize>, AllocError> {
-    let tree = tree_of_keys(alloc, STORED)?;
-    Ok(
-        BEGUN
-            .iter()
-            .position(|(text, number)| number_of(tree.longest(text)) != *number),
-    )
-}
+static APART: [Case; 11] = [
+    (Ask::Longest, b"", &[0]),
+    (Ask::Longest, b"x", &[0]),
+    (Ask::Longest, b"ax", &[1]),
+    (Ask::Longest, b"ab", &[2]),
+    (Ask::Longest, b"abc", &[3]),
+    (Ask::Longest, b"abcx", &[3]),
+    (Ask::Get, b"", &[0]),
+    (Ask::Get, b"ab", &[2]),
+    (Ask::Get, b"abcx", &[]),
+    (Ask::Get, b"ac", &[]),
+    (Ask::Descend, b"", &[10, 9, 8, 7, 6, 5, 4, 3, 2, 1, 0]),
+];
 
 #[test]
-fn the_longest_key_that_begins_a_text_is_found(rt: HostRuntime) -> Result<(), Fail> {
-    none_wrong(rt.alloc(), first_wrong_begun(rt.alloc()))
+fn keys_that_begin_each_other_are_told_apart_and_the_longest_is_found(
+    rt: HostRuntime,
+) -> Result<(), Fail> {
+    none_wrong(rt.alloc(), first_wrong_of(rt.alloc(), &CHAIN, &APART))
 }
 
-/// Whether a key is one that a walk gives.
-fn is_asked(kind: Kind, asked: &[u8], key: &[u8]) -> bool {
-    match kind {
-        Kind::Ascend | Kind::Descend => key.starts_with(asked),
-        Kind::FromKey => key >= asked,
-        Kind::DownFrom => key <= asked,
+// ---- as the sorted keys say
+
+/// Whether a key is one whose row is asked for, or the row is the first of these.
+fn is_asked(ask: &Ask, asked: &[u8], key: &[u8]) -> bool {
+    match ask {
+        Ask::Ascend | Ask::Descend | Ask::First | Ask::Last => key.starts_with(asked),
+        Ask::FromKey => key >= asked,
+        Ask::DownFrom => key <= asked,
+        Ask::Longest => asked.starts_with(key),
+        Ask::Get => key == asked,
     }
 }
 
-/// The numbers of the entries that a walk must give.
+/// The numbers of the sorted keys whose rows must be given, where each key has its place for its
+/// number.
 fn numbers_of(
     alloc: Global,
-    entries: &[Entry],
-    kind: Kind,
+    keys: &[&[u8]],
+    ask: &Ask,
     asked: &[u8],
 ) -> Result<Vec<i128>, AllocError> {
     let mut numbers = Vec::new(alloc);
-    for entry in entries {
-        if is_asked(kind, asked, &entry.key) {
-            numbers.push(entry.number as i128)?;
+    for (place, key) in keys.iter().enumerate() {
+        if is_asked(ask, asked, key) {
+            numbers.push(place as i128)?;
         }
     }
-    if matches!(kind, Kind::Descend | Kind::DownFrom) {
+    if matches!(ask, Ask::Descend | Ask::DownFrom | Ask::Last | Ask::Longest) {
         numbers.reverse();
+    }
+    if matches!(ask, Ask::First | Ask::Last | Ask::Longest) {
+        numbers.truncate(1);
     }
     Ok(numbers)
 }
 
-/// Whether the first and the last row under a prefix are those of the first and the last number.
-fn ends_are_of(tree: &Tree, prefix: &[u8], numbers: &[i128]) -> bool {
-    ends_are(
-        tree,
-        prefix,
-        numbers.first().copied(),
-        numbers.last().copied(),
-    )
-}
-
-/// Whether a walk gives the rows of the entries that it is to give, and for a prefix in order the
-/// first and the last of them are found.
+/// Whether what is asked gives the rows of the keys that it must give.
 fn is_filter(
     alloc: Global,
     tree: &Tree,
-    entries: &[Entry],
-    kind: Kind,
+    keys: &[&[u8]],
+    ask: &Ask,
     asked: &[u8],
 ) -> Result<bool, AllocError> {
-    let numbers = numbers_of(alloc, entries, kind, asked)?;
-    let ends = !matches!(kind, Kind::Ascend) || ends_are_of(tree, asked, &numbers);
-    Ok(walk_gives(tree, kind, asked, &numbers)? && ends)
+    let numbers = numbers_of(alloc, keys, ask, asked)?;
+    gives(tree, ask, asked, &numbers)
 }
 
-/// Whether all walks give what the entries give.
+/// Whether all that may be asked with a key gives them.
 fn are_filters(
     alloc: Global,
     tree: &Tree,
-    entries: &[Entry],
+    keys: &[&[u8]],
     asked: &[u8],
 ) -> Result<bool, AllocError> {
-    for kind in KINDS {
-        if !is_filter(alloc, tree, entries, *kind, asked)? {
+    for ask in &ASKS {
+        if !is_filter(alloc, tree, keys, ask, asked)? {
             return Ok(false);
         }
     }
     Ok(true)
 }
 
-const NESTED: &[&[u8]] = &[b"", b"a", b"a\x00", b"ab", b"abc", b"b", b"\xff"];
+/// The place of the first bound with which other rows are given.
+fn first_wrong_bound(
+    alloc: Global,
+    tree: &Tree,
+    keys: &[&[u8]],
+    bounds: &[&[u8]],
+) -> Result<Option<usize>, AllocError> {
+    for (at, bound) in bounds.iter().enumerate() {
+        if !are_filters(alloc, tree, keys, bound)? {
+            return Ok(Some(at));
+        }
+    }
+    Ok(None)
+}
+
+/// The same in the tree of the sorted keys.
+fn first_wrong_at(
+    alloc: Global,
+    keys: &[&[u8]],
+    bounds: &[&[u8]],
+) -> Result<Option<usize>, AllocError> {
+    let tree = tree_of(alloc, keys)?;
+    first_wrong_bound(alloc, &tree, keys, bounds)
+}
+
+static NESTED: [&[u8]; 7] = [b"", b"a", b"a\x00", b"ab", b"abc", b"b", b"\xff"];
 
 /// Keys, keys between them, and prefixes of them.
-const BOUNDS: &[&[u8]] = &[
+static BOUNDS: [&[u8]; 14] = [
     b"",
     b"\x00",
     b"a",
@@ -359,41 +418,33 @@ const BOUNDS: &[&[u8]] = &[
     b"\xff\x00",
 ];
 
-/// The place of the first bound from which a walk gives other rows.
-fn first_wrong_bound(
-    alloc: Global,
-    tree: &Tree,
-    entries: &[Entry],
-) -> Result<Option<usize>, AllocError> {
-    for (at, bound) in BOUNDS.iter().enumerate() {
-        if !are_filters(alloc, tree, entries, bound)? {
-            return Ok(Some(at));
-        }
-    }
-    Ok(None)
-}
-
-/// The same in the tree of entries.
-fn first_wrong_bound_of(alloc: Global, entries: &[Entry]) -> Result<Option<usize>, AllocError> {
-    let tree = tree_of(alloc, entries)?;
-    first_wrong_bound(alloc, &tree, entries)
-}
-
-/// The same in the tree of nested keys.
-fn first_wrong_nested(alloc: Global) -> Result<Option<usize>, AllocError> {
-    let entries = entries_of(alloc, NESTED)?;
-    first_wrong_bound_of(alloc, &entries)
+#[test]
+fn bounds_hold_between_keys_and_at_prefixes_of_them(rt: HostRuntime) -> Result<(), Fail> {
+    none_wrong(rt.alloc(), first_wrong_at(rt.alloc(), &NESTED, &BOUNDS))
 }
 
 #[test]
-fn bounds_hold_between_keys_and_at_prefixes_of_them(rt: HostRuntime) -> Result<(), Fail> {
-    none_wrong(rt.alloc(), first_wrong_nested(rt.alloc()))
+fn a_key_of_2048_bytes_is_found(rt: HostRuntime) -> Result<(), Fail> {
+    let bounds: [&[u8]; 2] = [&LETTERS, &LETTERS[..2047]];
+    none_wrong(rt.alloc(), first_wrong_at(rt.alloc(), &[&LETTERS], &bounds))
+}
+
+/// The place of the first bound with which other rows are given, in the tree of sorted keys.
+fn first_wrong_drawn(
+    alloc: Global,
+    keys: &[Vec<u8>],
+    bounds: &[Vec<u8>],
+) -> Result<Option<usize>, AllocError> {
+    let keys = slices(alloc, keys)?;
+    let bounds = slices(alloc, bounds)?;
+    first_wrong_at(alloc, &keys, &bounds)
 }
 
 /// The same in the tree of all keys of one byte, which are edges of one node.
 fn first_wrong_wide(alloc: Global) -> Result<Option<usize>, AllocError> {
-    let entries = byte_entries(alloc)?;
-    first_wrong_bound_of(alloc, &entries)
+    let keys = single_bytes(alloc)?;
+    let keys = slices(alloc, &keys)?;
+    first_wrong_at(alloc, &keys, &BOUNDS)
 }
 
 #[test]
@@ -401,66 +452,22 @@ fn walks_go_through_a_node_with_256_edges(rt: HostRuntime) -> Result<(), Fail> {
     none_wrong(rt.alloc(), first_wrong_wide(rt.alloc()))
 }
 
-/// Whether all walks from just before a key give what the entries give.
-fn are_filters_before(
+/// The same in a tree of so many drawn keys, at, before and after each key.
+fn first_wrong_around(
     alloc: Global,
-    tree: &Tree,
-    entries: &[Entry],
-    key: &[u8],
-) -> Result<bool, AllocError> {
-    let bound = key_before(alloc, key)?;
-    are_filters(alloc, tree, entries, &bound)
-}
-
-/// Whether all walks from just after a key give what the entries give.
-fn are_filters_after(
-    alloc: Global,
-    tree: &Tree,
-    entries: &[Entry],
-    key: &[u8],
-) -> Result<bool, AllocError> {
-    let bound = key_after(alloc, key)?;
-    are_filters(alloc, tree, entries, &bound)
-}
-
-/// The place of the first key at, before or after which a walk gives other rows.
-fn first_wrong_key(
-    alloc: Global,
-    tree: &Tree,
-    entries: &[Entry],
-) -> Result<Option<usize>, AllocError> {
-    for (at, entry) in entries.iter().enumerate() {
-        if !are_filters(alloc, tree, entries, &entry.key)?
-            || !are_filters_before(alloc, tree, entries, &entry.key)?
-            || !are_filters_after(alloc, tree, entries, &entry.key)?
-        {
-            return Ok(Some(at));
-        }
-    }
-    Ok(None)
-}
-
-/// The same in the tree of entries.
-fn first_wrong_key_of(alloc: Global, entries: &[Entry]) -> Result<Option<usize>, AllocError> {
-    let tree = tree_of(alloc, entries)?;
-    first_wrong_key(alloc, &tree, entries)
-}
-
-/// The same in a tree of so many drawn keys.
-fn first_wrong_key_drawn(
-    alloc: Global,
-    keys: u8,
+    count: u64,
     seed: &mut u32,
 ) -> Result<Option<usize>, AllocError> {
-    let entries = drawn_entries(alloc, keys, seed)?;
-    first_wrong_key_of(alloc, &entries)
+    let keys = drawn_keys(alloc, count, seed)?;
+    let bounds = around(alloc, &keys)?;
+    first_wrong_drawn(alloc, &keys, &bounds)
 }
 
-/// The first of so many drawn trees in which a walk gives other rows.
-fn first_wrong_tree(alloc: Global, trees: usize, keys: u8) -> Result<Option<usize>, AllocError> {
+/// The first of so many drawn trees in which other rows are given.
+fn first_wrong_tree(alloc: Global, trees: usize, count: u64) -> Result<Option<usize>, AllocError> {
     let mut seed = 2;
     for tree in 0..trees {
-        if first_wrong_key_drawn(alloc, keys, &mut seed)?.is_some() {
+        if first_wrong_around(alloc, count, &mut seed)?.is_some() {
             return Ok(Some(tree));
         }
     }
@@ -479,164 +486,59 @@ fn bounds_hold_at_before_and_after_each_key_of_200_small_trees(
     none_wrong(rt.alloc(), first_wrong_tree(rt.alloc(), 200, 5))
 }
 
-/// Whether all walks from a drawn key or prefix give what the entries give.
-fn are_filters_at_a_draw(
-    alloc: Global,
-    tree: &Tree,
-    entries: &[Entry],
-    seed: &mut u32,
-) -> Result<bool, AllocError> {
-    let asked = drawn_key(alloc, seed)?;
-    are_filters(alloc, tree, entries, &asked)
-}
-
-/// The first of 500 draws at which a walk gives other rows.
-fn first_wrong_draw(
-    alloc: Global,
-    tree: &Tree,
-    entries: &[Entry],
-    seed: &mut u32,
-) -> Result<Option<usize>, AllocError> {
-    for draw in 0..500 {
-        if !are_filters_at_a_draw(alloc, tree, entries, seed)? {
-            return Ok(Some(draw));
-        }
-    }
-    Ok(None)
-}
-
-/// The same in the tree of entries, which are many.
-fn first_wrong_of_many(
-    alloc: Global,
-    entries: &[Entry],
-    seed: &mut u32,
-) -> Result<Option<usize>, AllocError> {
-    if entries.len() < 80 {
+/// The first of 500 draws with which other rows are given, in a tree of many drawn keys. Where they
+/// aren't many, the place is 500.
+fn first_wrong_draw(alloc: Global) -> Result<Option<usize>, AllocError> {
+    let mut seed = 1;
+    let keys = drawn_keys(alloc, 160, &mut seed)?;
+    let bounds = draws(alloc, 500, &mut seed)?;
+    if keys.len() < 80 {
         return Ok(Some(500));
     }
-    let tree = tree_of(alloc, entries)?;
-    first_wrong_draw(alloc, &tree, entries, seed)
-}
-
-/// The same of drawn entries. Where they aren't many, the place is 500.
-fn first_wrong_drawn(alloc: Global) -> Result<Option<usize>, AllocError> {
-    let mut seed = 1;
-    let entries = drawn_entries(alloc, 160, &mut seed)?;
-    first_wrong_of_many(alloc, &entries, &mut seed)
+    first_wrong_drawn(alloc, &keys, &bounds)
 }
 
 #[test]
-fn two_thousand_walks_give_what_the_sorted_keys_give(rt: HostRuntime) -> Result<(), Fail> {
-    none_wrong(rt.alloc(), first_wrong_drawn(rt.alloc()))
+fn four_thousand_questions_are_answered_as_by_the_sorted_keys(rt: HostRuntime) -> Result<(), Fail> {
+    none_wrong(rt.alloc(), first_wrong_draw(rt.alloc()))
 }
 
-/// The longest key that the layers above make, whose prefixes are the deepest tree.
-static LONGEST: [u8; 2048] = [b'a'; 2048];
+// ---- the deepest tree
 
-/// The numbers from 0 to a last one.
-fn numbers_to(alloc: Global, last: u16) -> Result<Vec<i128>, AllocError> {
-    let mut numbers = Vec::new(alloc);
-    for number in 0..=last {
-        numbers.push(i128::from(number))?;
-    }
-    Ok(numbers)
+/// The tree of the longest key and its prefixes, 2,049 nodes, each under the one before.
+fn deepest(alloc: Global) -> Result<Tree, AllocError> {
+    let keys = prefixes(alloc, &LETTERS)?;
+    tree_of(alloc, &keys)
 }
 
-/// Whether a walk by the empty prefix and one from a bound give the rows of these numbers.
-fn both_give(
-    alloc: Global,
-    tree: &Tree,
-    prefixed: Kind,
-    bounded: Kind,
-    bound: &[u8],
-    numbers: &[i128],
-) -> Result<bool, AllocError> {
-    Ok(walk_gives(tree, prefixed, b"", numbers)? && walk_gives(tree, bounded, bound, numbers)?)
+/// The place of the first bound with which other rows are given in that tree.
+fn first_wrong_deep(alloc: Global, tree: &Tree) -> Result<Option<usize>, AllocError> {
+    let keys = prefixes(alloc, &LETTERS)?;
+    first_wrong_bound(alloc, tree, &keys, &[b"", &LETTERS])
 }
 
-/// Whether the two walks in order give the rows of all lengths.
-fn goes_up(alloc: Global, tree: &Tree) -> Result<bool, AllocError> {
-    let numbers = numbers_to(alloc, 2048)?;
-    both_give(alloc, tree, Kind::Ascend, Kind::FromKey, b"", &numbers)
-}
-
-/// Whether the two walks in falling order do.
-fn goes_down(alloc: Global, tree: &Tree) -> Result<bool, AllocError> {
-    let mut numbers = numbers_to(alloc, 2048)?;
-    numbers.reverse();
-    both_give(
-        alloc,
-        tree,
-        Kind::Descend,
-        Kind::DownFrom,
-        &LONGEST,
-        &numbers,
-    )
-}
-
-/// Whether the four walks, the first and the last go through 2,049 nodes, each under the one
-/// before.
-fn goes_deep(alloc: Global, tree: &Tree) -> Result<bool, AllocError> {
-    Ok(goes_up(alloc, tree)? && goes_down(alloc, tree)? && ends_are(tree, b"", Some(0), Some(2048)))
-}
-
-/// The same of the deepest tree.
-fn longest_goes_deep(alloc: Global) -> Result<bool, AllocError> {
-    let tree = chain(alloc, &LONGEST)?;
-    goes_deep(alloc, &tree)
+/// The same on the main stack.
+fn first_wrong_deepest(alloc: Global) -> Result<Option<usize>, AllocError> {
+    let tree = deepest(alloc)?;
+    first_wrong_deep(alloc, &tree)
 }
 
 #[test]
 fn walks_go_deep_on_the_main_stack(rt: HostRuntime) -> Result<(), Fail> {
-    holds(longest_goes_deep(rt.alloc()))
+    none_wrong(rt.alloc(), first_wrong_deepest(rt.alloc()))
 }
 
-/// The number of the next row, for which a walk is asked again where it refuses once.
-fn next_again(walk: &mut Walk<'_>) -> Result<Option<i128>, AllocError> {
-    match next_number(walk) {
-        Err(AllocError) => next_number(walk),
-        told => told,
-    }
-}
-
-/// Whether a walk that may refuse once gives the rows of these numbers.
-fn gives_again(walk: &mut Walk<'_>, numbers: &[i128]) -> Result<bool, AllocError> {
-    for number in numbers {
-        if next_again(walk)? != Some(*number) {
-            return Ok(false);
-        }
-    }
-    Ok(next_again(walk)?.is_none())
-}
-
-/// The same of a walk down a tree in which each step goes one node deeper.
-fn gives_chain_again(alloc: Global) -> Result<bool, AllocError> {
-    let tree = chain(alloc, b"abcdefghij")?;
-    let mut walk = descend(&tree, b"")?;
-    gives_again(&mut walk, &[10, 9, 8, 7, 6, 5, 4, 3, 2, 1, 0])
-}
-
-#[test]
-fn a_step_that_was_refused_gives_its_row_the_next_time(rt: HostRuntime) -> Result<(), Fail> {
-    holds(gives_chain_again(rt.alloc()))
-}
-
-/// Whether they do in a thread, which is the only owner of the tree, and lets go of its nodes. That
-/// there is no thread counts as want of memory.
-fn goes_deep_elsewhere<R: Threads>(rt: &R, alloc: Global, tree: Tree) -> Result<bool, AllocError> {
-    match spawn(rt, move || goes_deep(alloc, &tree)) {
+/// The same in a thread, which is the only owner of the tree, and lets go of its nodes. That there
+/// is no thread counts as want of memory.
+fn first_wrong_elsewhere<R: Threads>(rt: &R, alloc: Global) -> Result<Option<usize>, AllocError> {
+    let tree = deepest(alloc)?;
+    match spawn(rt, move || first_wrong_deep(alloc, &tree)) {
         Ok(child) => child.join(rt),
         Err(_) => Err(AllocError),
     }
 }
 
-/// The same of the deepest tree.
-fn longest_goes_deep_elsewhere<R: Threads>(rt: &R, alloc: Global) -> Result<bool, AllocError> {
-    let tree = chain(alloc, &LONGEST)?;
-    goes_deep_elsewhere(rt, alloc, tree)
-}
-
 #[test]
 fn walks_go_deep_in_a_thread(rt: HostRuntime) -> Result<(), Fail> {
-    holds(longest_goes_deep_elsewhere(&rt, rt.alloc()))
+    none_wrong(rt.alloc(), first_wrong_elsewhere(&rt, rt.alloc()))
 }

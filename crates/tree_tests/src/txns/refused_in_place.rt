@@ -1,28 +1,22 @@
 //! Each allocation may fail: a write that is refused, of a transaction that changes its own nodes in
 //! place, leaves the pairs that were there, and each tree that was given before as it was.
-use super::drawn::{Given, are_kept, give, is_tree_of};
-use super::run::{Plain, put_both, take_all_both, take_both};
-use super::written::Work;
-use crate::ending::{Outcome, is_whole};
+use super::drawn::{Both, Given, Plain, are_kept, give, is_tree_of};
+use crate::ending::is_whole;
 use std::alloc::{AllocError, Global};
-use std::collections::BTreeMap;
 use std::test::Fail;
 
 /// A key, and the number of the row that is put under it. Without one the key is taken out, or, where
 /// it has no byte 00 at its end, all keys that begin with it.
 type Line = (&'static [u8], Option<u64>);
 
-/// The writes of the tree that the transaction begins with.
-static BASE: [Line; 5] = [
+/// The first five make the tree that a second transaction begins with. Of its writes some come to
+/// nodes that it made since a tree was given, and some to shared ones.
+static WRITES: [Line; 21] = [
     (b"foo\0", Some(0)),
     (b"football\0", Some(1)),
     (b"foot\0", Some(2)),
     (b"fool\0", Some(3)),
     (b"n\0", Some(4)),
-];
-
-/// Its own. Some come to nodes that it made since a tree was given, and some to shared ones.
-static WRITES: [Line; 16] = [
     (b"foo\0", Some(10)),
     (b"foo\0", Some(11)),
     (b"footer\0", Some(12)),
@@ -42,60 +36,52 @@ static WRITES: [Line; 16] = [
 ];
 
 /// Makes a write on a tree and on a map, and tells whether both answered the same.
-fn write_both(
-    alloc: Global,
-    work: &mut Work,
-    plain: &mut Plain,
-    (key, number): Line,
-) -> Result<bool, AllocError> {
+fn write_both(alloc: Global, both: &mut Both, line: &Line) -> Result<bool, AllocError> {
+    let (key, number) = line;
     let owned = Vec::from_slice(alloc, key)?;
     match number {
-        Some(number) => put_both(work, plain, &owned, number),
-        None if key.ends_with(b"\0") => take_both(work, plain, &owned),
-        None => take_all_both(work, plain, key),
+        Some(number) => both.put(&owned, *number),
+        None if key.ends_with(b"\0") => both.take(&owned),
+        None => both.take_all(key),
     }
 }
 
-/// Makes a write. Tells, where it is the last one, whether it left what it should; `before` is the map
-/// as it was.
-fn end_with(
-    alloc: Global,
-    work: &mut Work,
-    plain: &mut Plain,
-    line: Line,
-    before: &Plain,
-) -> Option<bool> {
-    match write_both(alloc, work, plain, line) {
+/// Makes a write. Tells of one that was answered otherwise, and of a refused one, whether that left
+/// the tree of the map as it was before.
+fn end_with(alloc: Global, both: &mut Both, line: &Line, before: &Plain) -> Option<bool> {
+    match write_both(alloc, both, line) {
         Ok(true) => None,
         Ok(false) => Some(false),
-        Err(_) => Some(is_tree_of(work.txn().tree(), before)),
+        Err(_) => Some(is_tree_of(both.work.txn().tree(), before)),
     }
 }
 
-/// The same, with a copy of the map.
+/// Makes a write after a copy of the map, and tells the same. Before each fifth a tree is given.
 fn end_at(
     alloc: Global,
-    work: &mut Work,
-    plain: &mut Plain,
-    line: Line,
+    both: &mut Both,
+    place: usize,
+    line: &Line,
+    trees: &mut Vec<Given>,
 ) -> Result<Option<bool>, AllocError> {
-    let before = plain.clone()?;
-    Ok(end_with(alloc, work, plain, line, &before))
+    if place == 5 {
+        drop(both.work.begin()?);
+    }
+    if place % 5 == 0 {
+        give(both, trees)?;
+    }
+    let before = both.plain.clone()?;
+    Ok(end_with(alloc, both, line, &before))
 }
 
-/// Makes the writes up to the first that is refused or answered otherwise, and gives a tree before
-/// each fifth. Tells what the last one left, where it isn't the last of all.
+/// Makes the writes up to the first that is refused or answered otherwise, and tells the same.
 fn end_of(
     alloc: Global,
-    work: &mut Work,
-    plain: &mut Plain,
+    both: &mut Both,
     trees: &mut Vec<Given>,
 ) -> Result<Option<bool>, AllocError> {
     for (place, line) in WRITES.iter().enumerate() {
-        if place % 5 == 0 {
-            give(work, plain, trees)?;
-        }
-        let told = end_at(alloc, work, plain, *line)?;
+        let told = end_at(alloc, both, place, line, trees)?;
         if told.is_some() {
             return Ok(told);
         }
@@ -103,50 +89,15 @@ fn end_of(
     Ok(None)
 }
 
-/// The same with no tree given before, and what is left of all.
-fn own_writes_leave(
-    alloc: Global,
-    work: &mut Work,
-    plain: &mut Plain,
-) -> Result<Outcome, AllocError> {
+/// Whether a write was refused, and nothing where one left what it shouldn't.
+fn run(alloc: Global) -> Result<Option<bool>, AllocError> {
     let mut trees = Vec::new(alloc);
-    let told = end_of(alloc, work, plain, &mut trees)?;
-    match (told, are_kept(&trees)) {
-        (None, true) => Ok(Outcome::Whole),
-        (Some(true), true) => Ok(Outcome::Refused),
-        _ => Ok(Outcome::Wrong),
+    let told = end_of(alloc, &mut Both::new(alloc)?, &mut trees)?;
+    match told {
+        Some(false) => Ok(None),
+        _ if !are_kept(&trees) => Ok(None),
+        _ => Ok(Some(told.is_some())),
     }
-}
-
-/// Makes the writes of the base, and tells whether each was answered alike.
-fn is_begun(alloc: Global, work: &mut Work, plain: &mut Plain) -> Result<bool, AllocError> {
-    for line in &BASE {
-        if !write_both(alloc, work, plain, *line)? {
-            return Ok(false);
-        }
-    }
-    Ok(true)
-}
-
-/// The same in a new transaction on the tree of the base.
-fn base_leaves(alloc: Global, work: &mut Work, plain: &mut Plain) -> Result<Outcome, AllocError> {
-    if !is_begun(alloc, work, plain)? {
-        return Ok(Outcome::Wrong);
-    }
-    work.renew()?;
-    own_writes_leave(alloc, work, plain)
-}
-
-/// The same from an empty map on.
-fn run_with(alloc: Global, work: &mut Work) -> Result<Outcome, AllocError> {
-    let mut plain = BTreeMap::new(alloc);
-    base_leaves(alloc, work, &mut plain)
-}
-
-/// The same from an empty tree on.
-fn run(alloc: Global) -> Result<Outcome, AllocError> {
-    let mut work = Work::new(alloc)?;
-    run_with(alloc, &mut work)
 }
 
 // Where an allocation fails it ends in an error, which tells a refused write.

@@ -1,6 +1,7 @@
 //! Writes that are in order, and what is read of a tree.
 ghost use Rattle.std.specs.Prelude.{◌≡◌, ◌≤◌, true, false, IfOk, OnOk, length};
-ghost use Rattle.radix_node.specs.Cells.{AreBelow, AreOf};
+ghost use Rattle.radix_node.specs.Cells.{AreBelow, AreCellsOf, AreOf};
+ghost use Rattle.radix_txn.specs.Notice.{IsNotice};
 
 use super::Line;
 use mdb_datum::{Datum, Row, read_doc};
@@ -12,7 +13,7 @@ use std::mem;
 use watch_word::{Front, open_book};
 
 /// The row that a text is. Another text counts as want of memory, which ends a test.
-pub fn row_of(alloc: Global, text: &str) -> Result<Row, AllocError> {
+fn row_of(alloc: Global, text: &str) -> Result<Row, AllocError> {
     match read_doc(alloc, text.as_bytes()) {
         Ok(Datum::Members(members)) => Row::of(alloc, members),
         _ => Err(AllocError),
@@ -25,19 +26,11 @@ pub fn row(alloc: Global, number: u64) -> Result<Row, AllocError> {
     row_of(alloc, text.as_str())
 }
 
-/// Whether there is a row, and it is that of the number.
-pub fn is_row(row: Option<&Row>, number: u64) -> bool {
-    match row {
-        Some(row) => is_number(row.get("n"), number),
-        None => false,
-    }
-}
-
-/// Whether there is a datum, and it is the number.
-fn is_number(datum: Option<&Datum>, number: u64) -> bool {
-    match datum {
-        Some(Datum::Whole(n)) => *n == i128::from(number),
-        _ => false,
+/// The number that a row tells.
+pub fn number_of(row: Option<&Row>) -> Option<i128> {
+    match row?.get("n") {
+        Some(Datum::Whole(number)) => Some(*number),
+        _ => None,
     }
 }
 
@@ -46,6 +39,7 @@ fn is_number(datum: Option<&Datum>, number: u64) -> bool {
 /// A transaction, with what its writes draw cells from.
 #[derive(Drop)]
 pub struct Work {
+    alloc: Global,
     txn: TreeTxn,
     front: Front,
     ids: Ids,
@@ -65,7 +59,7 @@ impl Model for Work {
 
     ghost invariant = { λ w. (w.front.book ≡ w.ids.book)
         × AreBelow w.ids.next w.txn.tree × AreBelow w.ids.next w.txn.start
-        × AreOf w.ids.book w.txn.tree };
+        × AreOf w.ids.book w.txn.tree × AreOf w.ids.book w.txn.start };
 }
 
 impl Work {
@@ -74,7 +68,12 @@ impl Work {
         let (book, front) = open_book(alloc)?;
         let mut ids = Ids::starting(book, 0);
         let txn = empty_txn(alloc, &front, &mut ids)?;
-        Ok(Work { txn, front, ids })
+        Ok(Work {
+            alloc,
+            txn,
+            front,
+            ids,
+        })
     }
 
     /// The transaction.
@@ -96,8 +95,14 @@ impl Work {
         key.len() <= 2_048 && !self.txn.spoiled()
     }
 
+    /// Puts the row of a number under a key, and gives the old row.
+    pub fn put(&mut self, key: &[u8], number: u64) -> Result<Option<Row>, AllocError> {
+        let row = row(self.alloc, number)?;
+        self.put_row(key, &row)
+    }
+
     /// Puts a row under a key, and gives the old row.
-    pub fn put(&mut self, key: &[u8], row: &Row) -> Result<Option<Row>, AllocError> {
+    fn put_row(&mut self, key: &[u8], row: &Row) -> Result<Option<Row>, AllocError> {
         if !self.is_ready(key) || self.ids.left() < 4_096 {
             return Err(AllocError);
         }
@@ -113,7 +118,9 @@ impl Work {
     }
 
     /// Takes out the keys that begin with a prefix, and tells how many there were.
-    pub fn take_all(&mut self, prefix: &[u8]) -> Result<u64, AllocError> {
+    pub fn take_all(&mut self, prefix: &[u8]) -> Result<u64, AllocError>
+        ensures start { self.new.start ≡ self.old.start }
+    {
         if !self.is_ready(prefix) || self.ids.left() < 4_096 {
             return Err(AllocError);
         }
@@ -121,17 +128,22 @@ impl Work {
     }
 
     /// The present tree.
-    pub fn stand(&mut self) -> Result<Tree, AllocError> {
+    pub fn stand(&mut self) -> Result<Tree, AllocError>
+        ensures tree { IfOk result (λ t. t ≡ self.old.tree) }
+        ensures unchanged { self.new ≡ self.old }
+    {
         if self.txn.spoiled() {
             return Err(AllocError);
         }
         self.txn.stand()
     }
 
-    /// Goes on with a new transaction on the present tree, by the same ids.
-    pub fn renew(&mut self) -> Result<(), AllocError> {
+    /// Goes on with a new transaction on the present tree, by the same ids, and gives the tree.
+    pub fn begin(&mut self) -> Result<Tree, AllocError>
+        ensures { IfOk result (λ t. t ≡ self.new.start) }
+    {
         self.txn = next_txn(&mut self.txn)?;
-        Ok(())
+        self.stand()
     }
 
     /// The present tree and the notice, which end the transaction; a new one on the tree follows it.
@@ -141,10 +153,14 @@ impl Work {
         ended_by(ended)
     }
 
-    /// The present tree and the notice, which end the transaction.
-    pub fn freeze(self) -> Result<(Tree, Notice), AllocError> {
-        let Work { txn, .. } = self;
-        ended_by(txn)
+    /// The present tree and the notice, which end the transaction, and the front of its cells.
+    pub fn freeze(self) -> Result<(Tree, Notice, Front), AllocError>
+        ensures notice { IfOk result (λ r. AreCellsOf r.2.book r.1) }
+        ensures start { IfOk result (λ r. AreOf r.2.book self.start) }
+    {
+        let Work { txn, front, .. } = self;
+        let (tree, notice) = ended_by(txn)?;
+        Ok((tree, notice, front))
     }
 }
 
@@ -157,6 +173,7 @@ fn empty_txn(alloc: Global, front: &Front, ids: &mut Ids) -> Result<TreeTxn, All
     ensures below { IfOk result (λ t. AreBelow ids.new.next t.tree) }
     ensures below_start { IfOk result (λ t. AreBelow ids.new.next t.start) }
     ensures of { IfOk result (λ t. AreOf ids.new.book t.tree) }
+    ensures of_start { IfOk result (λ t. AreOf ids.new.book t.start) }
 {
     let tree = Tree::empty(alloc, front, ids)?;
     tree.txn()
@@ -175,60 +192,33 @@ fn next_txn(txn: &mut TreeTxn) -> Result<TreeTxn, AllocError>
 }
 
 /// The tree and the notice that a transaction ends with.
-fn ended_by(txn: TreeTxn) -> Result<(Tree, Notice), AllocError> {
+fn ended_by(txn: TreeTxn) -> Result<(Tree, Notice), AllocError>
+    ensures { IfOk result (λ r. IsNotice r.1 txn.start txn.tree) }
+{
     if txn.spoiled() {
         return Err(AllocError);
     }
     txn.freeze()
 }
 
-/// A transaction with these keys put in turn, each with its place for its number.
-pub fn work_of(alloc: Global, keys: &[&[u8]]) -> Result<Work, AllocError> {
-    let mut work = Work::new(alloc)?;
-    put_each(alloc, &mut work, keys)?;
-    Ok(work)
-}
-
 /// Puts these keys in turn, each with its place for its number.
-fn put_each(alloc: Global, work: &mut Work, keys: &[&[u8]]) -> Result<(), AllocError> {
+fn put_each(work: &mut Work, keys: &[&[u8]]) -> Result<(), AllocError> {
     for (place, key) in keys.iter().enumerate() {
-        put_number(alloc, work, key, place as u64)?;
+        work.put(key, place as u64)?;
     }
     Ok(())
 }
 
-/// Puts the row of a number, and gives the old row.
-pub fn put_row(
-    alloc: Global,
-    work: &mut Work,
-    key: &[u8],
-    number: u64,
-) -> Result<Option<Row>, AllocError> {
-    let row = row(alloc, number)?;
-    work.put(key, &row)
-}
-
-/// Puts the row of a number.
-pub fn put_number(
-    alloc: Global,
-    work: &mut Work,
-    key: &[u8],
-    number: u64,
-) -> Result<(), AllocError> {
-    drop(put_row(alloc, work, key, number)?);
-    Ok(())
-}
-
-/// The tree of a transaction that is ended.
-pub fn frozen(work: Work) -> Result<Tree, AllocError> {
-    let (tree, _) = work.freeze()?;
-    Ok(tree)
+/// A transaction with these keys put in turn, each with its place for its number.
+pub fn work_of(alloc: Global, keys: &[&[u8]]) -> Result<Work, AllocError> {
+    let mut work = Work::new(alloc)?;
+    put_each(&mut work, keys)?;
+    Ok(work)
 }
 
 /// The tree of these keys.
 pub fn tree_of(alloc: Global, keys: &[&[u8]]) -> Result<Tree, AllocError> {
-    let work = work_of(alloc, keys)?;
-    frozen(work)
+    work_of(alloc, keys)?.stand()
 }
 
 // ---- trees
@@ -248,19 +238,12 @@ pub fn is_node(node: &Node, prefix: &[u8], has_leaf: bool, labels: &[u8]) -> boo
     node.prefix() == prefix && node.leaf().is_some() == has_leaf && labels_are(node.edges(), labels)
 }
 
-/// Whether the path of a line leads to its node.
-fn leads_to_one(tree: &Tree, (path, prefix, has_leaf, labels): Line) -> bool {
-    match tree.seek(path) {
-        Some(node) => is_node(node, prefix, has_leaf, labels),
-        None => false,
-    }
-}
-
-/// Whether these are the nodes of the tree, where each edge of one leads to another one of them.
+/// Whether the path of each line leads to its node.
 pub fn nodes_are(tree: &Tree, nodes: &[Line]) -> bool {
-    for line in nodes {
-        if !leads_to_one(tree, *line) {
-            return false;
+    for (path, prefix, has_leaf, labels) in nodes {
+        match tree.seek(path) {
+            Some(node) if is_node(node, prefix, *has_leaf, labels) => {}
+            _ => return false,
         }
     }
     true
@@ -271,13 +254,4 @@ pub fn nodes_are(tree: &Tree, nodes: &[Line]) -> bool {
 /// Whether a notice has the cell of an id.
 pub fn has(notice: &Notice, id: u64) -> bool {
     notice.cells().iter().any(|cell| cell.id() == id)
-}
-
-// ---- writes one by one
-
-/// An insert of `ab`, one of `b`, and a delete of what begins with `a`; how many keys that was.
-pub fn three_writes(work: &mut Work, row: &Row) -> Result<u64, AllocError> {
-    drop(work.put(b"ab", row)?);
-    drop(work.put(b"b", row)?);
-    work.take_all(b"a")
 }

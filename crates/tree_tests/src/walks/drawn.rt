@@ -1,9 +1,8 @@
-//! Keys drawn from a fixed sequence, keys beside others, and all keys of one byte.
-use super::built::Entry;
+//! Keys drawn from a fixed sequence, and keys beside others.
 use std::alloc::{AllocError, Global};
 
 /// A key of up to five bytes, each one of four.
-pub fn drawn_key(alloc: Global, seed: &mut u32) -> Result<Vec<u8>, AllocError> {
+fn drawn_key(alloc: Global, seed: &mut u32) -> Result<Vec<u8>, AllocError> {
     let mut key = Vec::new(alloc);
     for _ in 0..5 {
         *seed = seed.wrapping_mul(1_664_525).wrapping_add(1_013_904_223);
@@ -20,7 +19,7 @@ pub fn drawn_key(alloc: Global, seed: &mut u32) -> Result<Vec<u8>, AllocError> {
 }
 
 /// So many drawn keys as they come, some of them more than once.
-fn drawn_keys(alloc: Global, count: u8, seed: &mut u32) -> Result<Vec<Vec<u8>>, AllocError> {
+pub fn draws(alloc: Global, count: u64, seed: &mut u32) -> Result<Vec<Vec<u8>>, AllocError> {
     let mut keys = Vec::new(alloc);
     for _ in 0..count {
         keys.push(drawn_key(alloc, seed)?)?;
@@ -28,26 +27,16 @@ fn drawn_keys(alloc: Global, count: u8, seed: &mut u32) -> Result<Vec<Vec<u8>>, 
     Ok(keys)
 }
 
-/// Entries of so many drawn keys, sorted, each key once.
-pub fn drawn_entries(alloc: Global, count: u8, seed: &mut u32) -> Result<Vec<Entry>, AllocError> {
-    let mut keys = drawn_keys(alloc, count, seed)?;
+/// So many drawn keys, sorted, each key once.
+pub fn drawn_keys(alloc: Global, count: u64, seed: &mut u32) -> Result<Vec<Vec<u8>>, AllocError> {
+    let mut keys = draws(alloc, count, seed)?;
     keys.sort()?;
     keys.dedup();
-    numbered(alloc, keys)
-}
-
-/// The entries of keys, each with its place among them for its number.
-fn numbered(alloc: Global, keys: Vec<Vec<u8>>) -> Result<Vec<Entry>, AllocError> {
-    let mut entries = Vec::new(alloc);
-    for key in keys {
-        let number = entries.len();
-        entries.push(Entry { key, number })?;
-    }
-    Ok(entries)
+    Ok(keys)
 }
 
 /// The first key after a key: one byte 00 more.
-pub fn key_after(alloc: Global, key: &[u8]) -> Result<Vec<u8>, AllocError> {
+fn key_after(alloc: Global, key: &[u8]) -> Result<Vec<u8>, AllocError> {
     let mut after = Vec::from_slice(alloc, key)?;
     after.push(0)?;
     Ok(after)
@@ -55,23 +44,49 @@ pub fn key_after(alloc: Global, key: &[u8]) -> Result<Vec<u8>, AllocError> {
 
 /// A key before a key: without its last byte, if that is 00, and else with a lower one in its
 /// place.
-pub fn key_before(alloc: Global, key: &[u8]) -> Result<Vec<u8>, AllocError> {
+fn key_before(alloc: Global, key: &[u8]) -> Result<Vec<u8>, AllocError> {
     let mut before = Vec::from_slice(alloc, key)?;
-    if let Some(lower) = before.pop().and_then(|last| last.checked_sub(1)) {
-        before.push(lower)?;
+    match before.pop() {
+        Some(0) | None => {}
+        Some(last) => before.push(last - 1)?,
     }
     Ok(before)
 }
 
-/// The entries of all keys of one byte, each with the byte for its number.
-pub fn byte_entries(alloc: Global) -> Result<Vec<Entry>, AllocError> {
-    let mut entries = Vec::new(alloc);
-    for byte in 0..=255_u8 {
-        let key = Vec::from_slice(alloc, &[byte])?;
-        entries.push(Entry {
-            key,
-            number: usize::from(byte),
-        })?;
+/// Each of these keys, one before it and the first after it.
+pub fn around(alloc: Global, keys: &[Vec<u8>]) -> Result<Vec<Vec<u8>>, AllocError> {
+    let mut bounds = Vec::new(alloc);
+    for key in keys {
+        bounds.push(key_before(alloc, key)?)?;
+        bounds.push(Vec::from_slice(alloc, key)?)?;
+        bounds.push(key_after(alloc, key)?)?;
     }
-    Ok(entries)
+    Ok(bounds)
+}
+
+/// The keys as slices.
+pub fn slices<'a>(alloc: Global, keys: &'a [Vec<u8>]) -> Result<Vec<&'a [u8]>, AllocError> {
+    let mut slices = Vec::new(alloc);
+    for key in keys {
+        slices.push(key.as_slice())?;
+    }
+    Ok(slices)
+}
+
+/// The prefixes of a key from the empty one to itself.
+pub fn prefixes(alloc: Global, key: &[u8]) -> Result<Vec<&[u8]>, AllocError> {
+    let mut prefixes = Vec::new(alloc);
+    for len in 0..=key.len() {
+        prefixes.push(&key[..len])?;
+    }
+    Ok(prefixes)
+}
+
+/// All keys of one byte.
+pub fn single_bytes(alloc: Global) -> Result<Vec<Vec<u8>>, AllocError> {
+    let mut keys = Vec::new(alloc);
+    for byte in 0..=255_u8 {
+        keys.push(Vec::from_slice(alloc, &[byte])?)?;
+    }
+    Ok(keys)
 }

@@ -1,6 +1,6 @@
 use Rattle.radix_node.specs.Edges.{EdgesRise}
 use Rattle.radix_node.specs.Node.{nodes_in, edges_of}
-use Rattle.tree_tests.proofs.nodes.built.edges_by.Given as goal
+use Rattle.tree_tests.proofs.nodes.edges_by.Given as goal
 
 -- the edges that were put rise
 abbrev pub invariant-loop-label : goal.invariant-loop-label
