@@ -1,7 +1,7 @@
 //! A line that fails a test.
 
 /// The number of a line of the text, counted from 1, that fails a test.
-#[derive(Clone, Copy, Debug, PartialEq, Eq)]
+#[derive(Clone, Copy)]
 pub(crate) struct BadLine {
     pub(crate) line: u32,
 }

@@ -8,7 +8,7 @@ ghost use Rattle.run_check.specs.Mode.{needs_nothing, needs_reads, needs_writes,
 use client_script::{AskCommand, Command, NameCommand, TransactionCommand, WatchesCommand};
 
 /// What a client has open.
-#[derive(Clone, Copy, Debug, PartialEq, Eq)]
+#[derive(Clone, Copy)]
 pub(crate) enum Mode {
     /// No transaction.
     Idle,

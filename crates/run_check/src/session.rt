@@ -5,6 +5,7 @@ ghost use Rattle.mdb_schema.specs.History.{History};
 ghost use Rattle.mdb_schema.specs.Schema.{DbSchema, table_place};
 ghost use Rattle.run_check.specs.FirstBad.{Found};
 ghost use Rattle.run_check.specs.Views.{printed_of};
+ghost use Rattle.client_script.specs.Client.{at_start};
 ghost use Rattle.client_script.specs.declared.rule.Rule.TheVariants as rules;
 ghost use Rattle.run_check.specs.declared.session.Refused.TheVariants as refusals;
 ghost use Rattle.run_check.specs.inner.AskedView.{question_refused};
@@ -102,11 +103,30 @@ impl<'a> Sessions<'a> {
             (map printed_of replies.now) self.new result }
     {
         let mut knows = Client::new(self.alloc);
+        self.check_replies(client, &mut knows, script, replies)
+    }
+
+    /// The same of a client that was told nothing yet.
+    fn check_replies(
+        &mut self,
+        client: usize,
+        knows: &mut Client<'a>,
+        script: &'a Script,
+        replies: &[Printed<'_>],
+    ) -> Result<(), Stop>
+        requires heard { CanCheck self.old client script.now replies.now }
+        requires fresh { (txns : List Begun) → known txns knows.old ≡ at_start }
+        ensures told { (schema : DbSchema) (found : Found) (txns : List Begun)
+            → IsReady schema found.history txns self.old
+            → IsHeard schema found client script.now (map printed_of replies.now)
+            → ClientChecked schema found.history (client + 1) script.now
+            (map printed_of replies.now) self.new result }
+    {
         for (at, printed) in replies.iter().enumerate() {
             let Some(line) = script.get(at) else {
                 return Ok(());
             };
-            if !self.is_told(client, &mut knows, &line.command, printed.text)? {
+            if !self.is_told(client, knows, &line.command, printed.text)? {
                 return Err(Stop::Bad { line: printed.line });
             }
         }

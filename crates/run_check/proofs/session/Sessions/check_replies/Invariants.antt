@@ -5,7 +5,7 @@ use Rattle.run_check.specs.Views.{printed_of}
 use Rattle.run_check.specs.inner.CheckView.{IsHeard, IsReady}
 use Rattle.run_check.specs.inner.StoreView.{Begun}
 use Rattle.run_check.proofs.LinesHeard.{IsToldTo}
-use Rattle.run_check.proofs.session.Sessions.check_client.Given as goal
+use Rattle.run_check.proofs.session.Sessions.check_replies.Given as goal
 
 -- the client was told the replies so far, and the check knows what it does
 abbrev pub invariant-loop-at : goal.invariant-loop-at

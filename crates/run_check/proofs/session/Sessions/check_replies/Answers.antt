@@ -3,14 +3,14 @@ use Rattle.std.proofs.lemmas.List.{length-map}
 use Rattle.run_check.specs.Views.{printed_of}
 use Rattle.run_check.specs.declared.shape.Printed as shape
 use Rattle.run_check.proofs.LinesHeard.{all_are_told, are_known, is_due, no_line_less, one_is_untold, one_told_more, reply_at, told_none_yet}
-use Rattle.run_check.proofs.session.Sessions.check_client.Goals as goal
+use Rattle.run_check.proofs.session.Sessions.check_replies.Goals as goal
 
 abbrev none : shape.Printed
 none = record { line = 0; text = record { ref_ptr = (0, 0); now = [] } }
 
 pub loop-at-init : goal.loop-at-init
 loop-at-init c = λ schema found txns ready heard.
-    told_none_yet schema found c.args.client c.args.script.now (map printed_of c.args.replies.now) heard txns c.args.self.now c.new-knows.result ready (c.new-knows.ensures txns)
+    told_none_yet schema found c.args.client c.args.script.now (map printed_of c.args.replies.now) heard txns c.args.self.now c.args.knows.now ready (c.requires.fresh txns)
 
 pub returns-in_default : goal.returns-in_default
 returns-in_default c = record {
