@@ -72,8 +72,8 @@ fn write_walk(mut walk: Walk<'_>, out: &mut Vec<u8>) -> Result<u64, AllocError>
     ensures before { take (length out.old.items) out.new.items ≡ out.old.items }
 {
     let mut count: u64 = 0;
-    while let Some(row) = walk.next()? {
-        write_line(&row, out)?;
+    while let Some(row) = walk.next_borrowed()? {
+        write_line(row, out)?;
         // No memory has room for as many rows as a `u64` can't count.
         count = count.checked_add(1).ok_or(AllocError)?;
     }

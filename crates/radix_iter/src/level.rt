@@ -1,5 +1,6 @@
 //! What a walk keeps of the nodes on its way.
-ghost use Rattle.std.specs.Prelude.{◌≡◌, ◌++◌, [], IfOk, OnOk, OnErr, drop, map, reverse};
+ghost use Rattle.std.specs.Prelude.{◌≡◌, ◌++◌, [], IfOk, OnOk, OnErr, drop, map, option_copied};
+ghost use Rattle.std.specs.Prelude.{reverse};
 ghost use Rattle.std.specs.Prelude.{if◌then◌else◌};
 ghost use Rattle.std.specs.Ordering.{is_gt, is_lt};
 ghost use Rattle.mdb_datum.specs.Bytes.{byte_order};
@@ -23,8 +24,8 @@ pub(crate) struct Level<'a> {
 
 /// The next row of levels, the last of which comes first: of each its leaf, and then what is under
 /// its edges.
-pub(crate) fn next_rising(levels: &mut Vec<Level<'_>>) -> Result<Option<Row>, AllocError>
-    ensures next { IfOk result (λ r. r ≡ first_item (reverse (rows_up levels.old.items))) }
+pub(crate) fn next_rising<'a>(levels: &mut Vec<Level<'a>>) -> Result<Option<&'a Row>, AllocError>
+    ensures next { IfOk result (λ r. option_copied r ≡ first_item (reverse (rows_up levels.old.items))) }
     ensures rest { OnOk result
         (reverse (rows_up levels.new.items) ≡ drop 1 (reverse (rows_up levels.old.items))) }
     ensures unchanged { OnErr result (rows_up levels.new.items ≡ rows_up levels.old.items) }
@@ -33,10 +34,9 @@ pub(crate) fn next_rising(levels: &mut Vec<Level<'_>>) -> Result<Option<Row>, Al
         let Level { own, edges } = *level;
         match own {
             Some(leaf) => {
-                let row = leaf.row().share()?;
                 let at = levels.len() - 1;
                 levels[at] = Level { own: None, edges };
-                return Ok(Some(row));
+                return Ok(Some(leaf.row()));
             }
             None => match edges.split_first() {
                 Some((edge, rest)) => {
@@ -58,8 +58,8 @@ pub(crate) fn next_rising(levels: &mut Vec<Level<'_>>) -> Result<Option<Row>, Al
 
 /// The next row of levels, the last of which comes first: of each what is under its edges, from the
 /// last one on, and then its leaf.
-pub(crate) fn next_falling(levels: &mut Vec<Level<'_>>) -> Result<Option<Row>, AllocError>
-    ensures next { IfOk result (λ r. r ≡ first_item (reverse (rows_down levels.old.items))) }
+pub(crate) fn next_falling<'a>(levels: &mut Vec<Level<'a>>) -> Result<Option<&'a Row>, AllocError>
+    ensures next { IfOk result (λ r. option_copied r ≡ first_item (reverse (rows_down levels.old.items))) }
     ensures rest { OnOk result
         (reverse (rows_down levels.new.items) ≡ drop 1 (reverse (rows_down levels.old.items))) }
     ensures unchanged { OnErr result (rows_down levels.new.items ≡ rows_down levels.old.items) }
@@ -74,9 +74,8 @@ pub(crate) fn next_falling(levels: &mut Vec<Level<'_>>) -> Result<Option<Row>, A
             }
             None => match own {
                 Some(leaf) => {
-                    let row = leaf.row().share()?;
                     levels.pop();
-                    return Ok(Some(row));
+                    return Ok(Some(leaf.row()));
                 }
                 None => {
                     levels.pop();

@@ -19,9 +19,7 @@ pub fn from_key<'a>(tree: &'a Tree, key: &[u8]) -> Result<Walk<'a>, AllocError>
 {
     let mut levels = Vec::new(tree.root().edges().allocator());
     push_at_least(&mut levels, tree, key)?;
-    Ok(Walk {
-        rest: Rest::Rising(levels),
-    })
+    Ok(Walk::over(Rest::Rising(levels)))
 }
 
 /// Adds the levels of keys that are at least `key`, the last first: on the way down along the key

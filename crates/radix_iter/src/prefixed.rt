@@ -19,9 +19,7 @@ pub fn ascend<'a>(tree: &'a Tree, prefix: &[u8]) -> Result<Walk<'a>, AllocError>
     if let Some(node) = tree.seek(prefix) {
         push_up(&mut levels, node)?;
     }
-    Ok(Walk {
-        rest: Rest::Rising(levels),
-    })
+    Ok(Walk::over(Rest::Rising(levels)))
 }
 
 /// A walk over the rows whose keys begin with a prefix, against the order of the keys. It takes
@@ -34,7 +32,5 @@ pub fn descend<'a>(tree: &'a Tree, prefix: &[u8]) -> Result<Walk<'a>, AllocError
     if let Some(node) = tree.seek(prefix) {
         push_down(&mut levels, node)?;
     }
-    Ok(Walk {
-        rest: Rest::Falling(levels),
-    })
+    Ok(Walk::over(Rest::Falling(levels)))
 }

@@ -19,9 +19,7 @@ pub fn down_from<'a>(tree: &'a Tree, key: &[u8]) -> Result<Walk<'a>, AllocError>
 {
     let mut levels = Vec::new(tree.root().edges().allocator());
     push_at_most(&mut levels, tree, key)?;
-    Ok(Walk {
-        rest: Rest::Falling(levels),
-    })
+    Ok(Walk::over(Rest::Falling(levels)))
 }
 
 /// Adds the levels of keys that are at most `key`, in order: on the way down along the key those of

@@ -1,5 +1,5 @@
 //! Walks over the rows of a table.
-ghost use Rattle.std.specs.Prelude.{◌≡◌, IfOk, MatchResult, option_copied, option_to_list};
+ghost use Rattle.std.specs.Prelude.{◌≡◌, IfOk, MatchResult, option_copied};
 ghost use Rattle.mdb_datum.specs.Pairs.{first_item, last_item};
 ghost use Rattle.mdb_schema.specs.Answer.{answer, ask_rows, is_exact, picked};
 ghost use Rattle.mdb_schema.specs.declared.ask_error.AskError.TheVariants.{Memory};
@@ -52,13 +52,13 @@ fn walk_of<'a>(tree: &'a Tree, ask: Ask, exact: bool, key: &[u8]) -> Result<Walk
         (λ w. w ≡ answer_rows (answer ask exact key.now (pairs_of (plain_of tree.now)))) }
 {
     match ask {
-        Ask::First => one_row(tree, first_row(tree, exact, key)),
-        Ask::Last => one_row(tree, last_row(tree, exact, key)),
+        Ask::First => Ok(one(first_row(tree, exact, key))),
+        Ask::Last => Ok(one(last_row(tree, exact, key))),
         Ask::Get => ascend(tree, key),
         Ask::GetReverse => descend(tree, key),
         Ask::Lower => from_key(tree, key),
         Ask::ReverseLower => down_from(tree, key),
-        Ask::Longest => one_row(tree, tree.longest(key)),
+        Ask::Longest => Ok(one(tree.longest(key))),
     }
 }
 
@@ -83,15 +83,5 @@ fn last_row<'a>(tree: &'a Tree, exact: bool, key: &[u8]) -> Option<&'a Row>
         tree.get(key)
     } else {
         last(tree, key)
-    }
-}
-
-/// A walk over one row of a tree, or over none.
-fn one_row<'a>(tree: &'a Tree, row: Option<&Row>) -> Result<Walk<'a>, AllocError>
-    ensures { IfOk result (λ w. w ≡ option_to_list (option_copied row.entry)) }
-{
-    match row {
-        Some(row) => Ok(one(tree, Some(row.share()?))),
-        None => Ok(one(tree, None)),
     }
 }

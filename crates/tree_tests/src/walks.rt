@@ -48,10 +48,7 @@ fn lent<'a>(tree: &'a Tree, ask: &Ask, key: &[u8]) -> Option<&'a Row> {
 
 /// A walk over the row that is lent.
 fn lent_walk<'a>(tree: &'a Tree, ask: &Ask, key: &[u8]) -> Result<Walk<'a>, AllocError> {
-    match lent(tree, ask, key) {
-        Some(row) => Ok(one(tree, Some(row.share()?))),
-        None => Ok(one(tree, None)),
-    }
+    Ok(one(lent(tree, ask, key)))
 }
 
 /// The walk that is asked for.

@@ -10,12 +10,12 @@ use Rattle.radix_iter.proofs.level.next_falling.Goals as goal
 
 pub returns-in-Some-own-clause-next : goal.returns-in-Some-own-clause-next
 returns-in-Some-own-clause-next c =
-    (give_down c.loop-level.levels.items c.in-Some.level.now (c.in-Some.ensures.value ∙ ap (λ (ls : List Level). slice_get ls (length ls - 1)) c.deref.ensures.value) _ c.in-Some-own.leaf c.in-Some-own.is (c.in_ok-row-in-Some-own.ensures ∙ c.row.ensures) _ _ c.in-None.ensures.cases c.loop-level.levels.ok.0 c.pop.ensures.rest).next
+    (give_down c.loop-level.levels.items c.in-Some.level.now (c.in-Some.ensures.value ∙ ap (λ (ls : List Level). slice_get ls (length ls - 1)) c.deref.ensures.value) _ c.in-Some-own.leaf c.in-Some-own.is c.row.ensures _ _ c.in-None.ensures.cases c.loop-level.levels.ok.0 c.pop.ensures.rest).next
     ∙ ap (λ (z : List Fields). first_item (reverse z)) c.loop-level.invariant
 
 pub returns-in-Some-own-clause-rest : goal.returns-in-Some-own-clause-rest
 returns-in-Some-own-clause-rest c =
-    (give_down c.loop-level.levels.items c.in-Some.level.now (c.in-Some.ensures.value ∙ ap (λ (ls : List Level). slice_get ls (length ls - 1)) c.deref.ensures.value) _ c.in-Some-own.leaf c.in-Some-own.is (c.in_ok-row-in-Some-own.ensures ∙ c.row.ensures) _ _ c.in-None.ensures.cases c.loop-level.levels.ok.0 c.pop.ensures.rest).rest
+    (give_down c.loop-level.levels.items c.in-Some.level.now (c.in-Some.ensures.value ∙ ap (λ (ls : List Level). slice_get ls (length ls - 1)) c.deref.ensures.value) _ c.in-Some-own.leaf c.in-Some-own.is c.row.ensures _ _ c.in-None.ensures.cases c.loop-level.levels.ok.0 c.pop.ensures.rest).rest
     ∙ ap (λ (z : List Fields). drop 1 (reverse z)) c.loop-level.invariant
 
 pub loop-level-smaller-in-Some-split_last : goal.loop-level-smaller-in-Some-split_last

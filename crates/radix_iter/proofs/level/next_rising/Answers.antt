@@ -11,12 +11,12 @@ use Rattle.radix_iter.proofs.level.next_rising.Goals as goal
 
 pub returns-in-Some-own-clause-next : goal.returns-in-Some-own-clause-next
 returns-in-Some-own-clause-next c =
-    (give_up c.loop-level.levels.items c.in-Some.level.now (c.in-Some.ensures.value ∙ ap (λ (ls : List Level). slice_get ls (length ls - 1)) c.deref.ensures.value) _ c.in-Some-own.leaf c.in-Some-own.is (c.in_ok-row-in-Some-own.ensures ∙ c.row.ensures) _ (ap (λ n. slice_set c.loop-level.levels.items (n - 1) (record { own = None; edges = c.in-Some.level.now.edges })) (c.len-at.ensures ∙ c.loop-level.levels.ok.0))).next
+    (give_up c.loop-level.levels.items c.in-Some.level.now (c.in-Some.ensures.value ∙ ap (λ (ls : List Level). slice_get ls (length ls - 1)) c.deref.ensures.value) _ c.in-Some-own.leaf c.in-Some-own.is c.row.ensures _ (ap (λ n. slice_set c.loop-level.levels.items (n - 1) (record { own = None; edges = c.in-Some.level.now.edges })) (c.len-at.ensures ∙ c.loop-level.levels.ok.0))).next
     ∙ ap (λ (z : List Fields). first_item (reverse z)) c.loop-level.invariant
 
 pub returns-in-Some-own-clause-rest : goal.returns-in-Some-own-clause-rest
 returns-in-Some-own-clause-rest c =
-    (give_up c.loop-level.levels.items c.in-Some.level.now (c.in-Some.ensures.value ∙ ap (λ (ls : List Level). slice_get ls (length ls - 1)) c.deref.ensures.value) _ c.in-Some-own.leaf c.in-Some-own.is (c.in_ok-row-in-Some-own.ensures ∙ c.row.ensures) _ (ap (λ n. slice_set c.loop-level.levels.items (n - 1) (record { own = None; edges = c.in-Some.level.now.edges })) (c.len-at.ensures ∙ c.loop-level.levels.ok.0))).rest
+    (give_up c.loop-level.levels.items c.in-Some.level.now (c.in-Some.ensures.value ∙ ap (λ (ls : List Level). slice_get ls (length ls - 1)) c.deref.ensures.value) _ c.in-Some-own.leaf c.in-Some-own.is c.row.ensures _ (ap (λ n. slice_set c.loop-level.levels.items (n - 1) (record { own = None; edges = c.in-Some.level.now.edges })) (c.len-at.ensures ∙ c.loop-level.levels.ok.0))).rest
     ∙ ap (λ (z : List Fields). drop 1 (reverse z)) c.loop-level.invariant
 
 pub loop-level-smaller-in-Some-split_first : goal.loop-level-smaller-in-Some-split_first
