@@ -16,6 +16,7 @@ pub mod NetSteps
 pub mod NewTrees
 pub mod OneByOne
 mod OnlyIdKey
+pub mod OnlyTree
 pub mod PiecesTaken
 pub mod PutSteps
 pub mod Removals

@@ -1,5 +1,5 @@
 -- A wipe from its beginning to its end, as the code meets it.
-use Rattle.std.proofs.Common.{◌≡◌, ◌∙◌, ◌<◌, ◌≤◌, ◌+◌, ◌*◌, ◌^◌, ℕ, Bool, List, [], Some, length, slice_get, map, sym, ap, subst, arith}
+use Rattle.std.proofs.Common.{◌≡◌, ◌∙◌, ◌<◌, ◌≤◌, ◌+◌, ◌*◌, ◌^◌, ℕ, Bool, List, [], Some, length, slice_get, map, refl, sym, ap, subst, arith}
 use Rattle.mdb_datum.specs.Pairs.{rows_of, with_prefix}
 use Rattle.mdb_datum.specs.Row.{Fields}
 use Rattle.mdb_datum.proofs.ListPlaces.{there_within}
@@ -17,9 +17,10 @@ use Rattle.table_index.specs.inner.IndexTrees.{AreSound, AreTrees, nodes_of, row
 use Rattle.table_index.specs.inner.Wipes.{GivesUp, IsCut, IsWiped, MovesNext, is_next_there, listed_at, listed_from}
 use Rattle.table_index.proofs.DrawnIds.{more_drawn, then_drawn}
 use Rattle.table_index.proofs.OneByOne.{taken_of}
+use Rattle.table_index.proofs.OnlyTree.{all_out, cuts_only}
 use Rattle.table_index.proofs.StoredRows.{same_count}
 use Rattle.table_index.proofs.WipeIds.{one_if, next_ahead, moved_count, row_left, moved_few, all_few}
-use Rattle.table_index.proofs.WipeSteps.{Stands, listed_is_at, taken_once, wipe_begins, wipe_ends}
+use Rattle.table_index.proofs.WipeSteps.{Stands, listed_begin, listed_is_at, taken_once, wipe_begins, wipe_ends}
 
 module _ (t : TableSchema) (table : IsLawfulTable t) (place : ℕ) (key : Bytes) (txns : List Txn) (held : AreTrees t (nodes_of txns)) (within : place < length t.indexes) where
   abbrev all : List Fields
@@ -97,3 +98,10 @@ module _ (t : TableSchema) (table : IsLawfulTable t) (place : ℕ) (key : Bytes)
       subst (λ (l : List Fields). AreLeft next (length l)) listed_defined cut.left,
       wipe_ends t table place key txns held within tree.0 tree.1 listed listed_is removed rest after s none sound,
     )
+
+    -- where there is no other index, the cut takes out all
+    pub wiped_alone : length t.indexes ≡ 1 → (taken : List Fields) → taken ≡ listed → AreLeft next (length (once t defined)) × IsWiped t (once t defined) taken txns begun
+    wiped_alone one taken is =
+        let begin = listed_begin t table place key txns held within tree.0 tree.1 listed listed_is (cuts_only t table one place within) in
+        let out = all_out t table one place within key all listed begun cut.sound [] listed begin (stands_first [] refl) in
+        wiped_last taken [] begun (subst (λ (l : List Fields). Stands t place key all listed l [] begun) (sym is) out) refl cut.sound

@@ -22,7 +22,7 @@ use Rattle.mdb_schema.proofs.IdEntries.{id_pairs, entries-id, row_at-entries}
 use Rattle.mdb_schema.proofs.IdKeys.{IdIndex, id_index}
 use Rattle.mdb_schema.proofs.LawfulRows.{without_row_lawful}
 use Rattle.mdb_schema.proofs.ListedRows.{entries-rows, where_key-rows, once-contains}
-use Rattle.mdb_schema.proofs.Membership.{Contains-later, Contains-slice_get, Contains-map, Contains-filter, filter-all, is_among-from}
+use Rattle.mdb_schema.proofs.Membership.{Contains-later, Contains-slice_get, Contains-map, Contains-filter, Contains-from_filter, filter-all, is_among-from}
 use Rattle.mdb_schema.proofs.RowsById.{AreRising}
 use Rattle.mdb_schema.proofs.RowsLeft.{without_rows-cases}
 use Rattle.radix_node.specs.Pairs.{without_prefix}
@@ -181,17 +181,19 @@ module _ (t : TableSchema) (table : IsLawfulTable t) (cut : ℕ) (key : Bytes) w
     listing_within : (x : Fields) → Contains listing x → Contains rows x
     listing_within x h = entries-rows t i rows x (where_key-rows (is_prefix key) (entries t i rows) x h)
 
-    listing_rising : nat_eq (id_index t table).place cut ≡ true → AreRising t listing
-    listing_rising e =
+    -- the index `id` lists the rows whose `id` key begins so
+    pub listing_of_id : nat_eq (id_index t table).place cut ≡ true → rows_of (with_prefix key (entries t i rows)) ≡ filter (λ (r : Fields). is_prefix key (id_key t r)) rows
+    listing_of_id e =
         let at = id_index t table in
         let place : at.place ≡ cut = eqb-true at.place cut e in
         let found : Some i ≡ Some at.index = sym there ∙ ap (slice_get t.indexes) (sym place) ∙ at.there in
         let same : i ≡ at.index = cc in
-        let is : listing ≡ filter (λ (r : Fields). is_prefix key (id_key t r)) rows =
         ap (λ (j : IndexSchema). rows_of (with_prefix key (entries t j rows))) same
         ∙ ap (λ (es : List Pair). rows_of (with_prefix key es)) (entries-id t at rows lawful)
-        ∙ rows_of-id_pairs (is_prefix key) rows in
-        subst (λ (l : List Fields). AreRising t l) (sym is) (rising-filter t (λ (r : Fields). is_prefix key (id_key t r)) rows lawful.rising)
+        ∙ rows_of-id_pairs (is_prefix key) rows
+
+    listing_rising : nat_eq (id_index t table).place cut ≡ true → AreRising t listing
+    listing_rising e = subst (λ (l : List Fields). AreRising t l) (sym (listing_of_id e)) (rising-filter t (λ (r : Fields). is_prefix key (id_key t r)) rows lawful.rising)
 
     follow_first : Follow (cuts_id t cut) t rows listing
     follow_first =
@@ -338,6 +340,13 @@ module _ (t : TableSchema) (table : IsLawfulTable t) (cut : ℕ) (key : Bytes) (
   listed_stored r h i within =
       let n = named in
       trees.lawful.taken i r within (listing_within t table cut key rows trees.lawful n.0 n.1 r (subst (λ (l : List Fields). Contains l r) (listed_is n.0 n.1) h))
+
+  -- where the index `id` lists them, the `id` key of each begins with the key
+  pub listed_begin : nat_eq (id_index t table).place cut ≡ true → (r : Fields) → Contains listed r → is_prefix key (id_key t r) ≡ true
+  listed_begin e r h =
+      let n = named in
+      let is : listed ≡ filter (λ (x : Fields). is_prefix key (id_key t x)) rows = listed_is n.0 n.1 ∙ listing_of_id t table cut key rows trees.lawful n.0 n.1 e in
+      (Contains-from_filter (λ (x : Fields). is_prefix key (id_key t x)) rows r (subst (λ (l : List Fields). Contains l r) is h)).1
 
   -- each of them is taken once
   pub taken_once : taken_of t (rows_held t (nodes_of txns)) listed ≡ once t listed

@@ -26,12 +26,19 @@ fn one(mut walk: Walk<'_>) -> Result<Answer, AllocError>
 }
 
 /// An answer of the rows of a walk.
-fn many(alloc: Global, mut walk: Walk<'_>) -> Result<Answer, AllocError>
+fn many(alloc: Global, walk: Walk<'_>) -> Result<Answer, AllocError>
     ensures { IfOk result (λ a. a ≡ Answer.Many walk.entry) }
+{
+    Ok(Answer::Many(gather(alloc, walk)?))
+}
+
+/// The rows of a walk.
+pub(crate) fn gather(alloc: Global, mut walk: Walk<'_>) -> Result<Rows, AllocError>
+    ensures { IfOk result (λ rows. rows ≡ walk.entry) }
 {
     let mut rows = Rows::new(alloc);
     while let Some(row) = walk.next()? {
         rows.push(row)?;
     }
-    Ok(Answer::Many(rows))
+    Ok(rows)
 }

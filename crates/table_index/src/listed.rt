@@ -4,19 +4,18 @@ ghost use Rattle.std.specs.Prelude.{map};
 ghost use Rattle.std.specs.Prelude.{Contains, IfErr, MatchResult, OnOk, slice_get};
 ghost use Rattle.mdb_datum.specs.Row.{Fields};
 ghost use Rattle.mdb_schema.specs.State.{id_key};
-ghost use Rattle.mdb_schema.specs.Wipe.{once};
 ghost use Rattle.mdb_schema.specs.Write.{id_of};
 ghost use Rattle.radix_txn.specs.Txn.{txn_pairs};
 ghost use Rattle.table_index.specs.Table.{AreLeft};
 ghost use Rattle.table_index.specs.declared.wipe_error.WipeError.TheVariants.{Memory};
 ghost use Rattle.table_index.specs.inner.Drawn.{AreReady, HaveDrawn, ids_of_row};
-ghost use Rattle.table_index.specs.inner.IndexTrees.{AreSound, AreTrees, nodes_of, rows_held};
+ghost use Rattle.table_index.specs.inner.IndexTrees.{AreSound, AreTrees, nodes_of};
 ghost use Rattle.table_index.specs.inner.Wipes.{GivesUp, IsMoved, IsOut, IsStored, IsTaking};
-ghost use Rattle.table_index.specs.inner.Wipes.{IsWiped};
-ghost use Rattle.table_index.specs.inner.Wipes.{MovesNext, is_next_there, is_there, listed_at};
-ghost use Rattle.table_index.specs.inner.Wipes.{listed_from, rows_under};
+ghost use Rattle.table_index.specs.inner.Wipes.{IsWiped, MovesNext, gone_at, is_next_there};
+ghost use Rattle.table_index.specs.inner.Wipes.{is_there, listed_from, rows_under};
 ghost use Rattle.table_index.specs.inner.Writes.{WroteRows};
 
+use crate::answer::gather;
 use crate::cut::{cut_listed, stand_at};
 use crate::edits::delete_each;
 use crate::id_key::IdKey;
@@ -47,27 +46,22 @@ pub(crate) fn wipe_listed(
     requires short { length key.now ≤ 2048 }
     requires ready { AreReady front.now ids.old txns.old }
     requires held { AreTrees def.now (nodes_of txns.old) }
-    ensures answers { let rows = rows_held def.now (nodes_of txns.old) in
-        let gone = once def.now
-        (listed_at def.now rows (slice_get def.now.indexes place) key.now) in
+    ensures answers { let gone = gone_at def.now txns.old place key.now in
         MatchResult result
         (λ taken. AreLeft ids.old.next (length gone) × IsWiped def.now gone taken txns.old txns.new)
         (λ e. GivesUp ids.old.next (length gone) e txns.old txns.new) }
-    ensures drawn { let rows = rows_held def.now (nodes_of txns.old) in
-        let gone = once def.now
-        (listed_at def.now rows (slice_get def.now.indexes place) key.now) in
+    ensures drawn { let gone = gone_at def.now txns.old place key.now in
         HaveDrawn front.now (2 ^ 26 * length gone) ids.old ids.new txns.old txns.new }
     ensures refused { IfErr result (λ e. (e ≡ Memory) ⊎ (ids.new ≡ ids.old)) }
-    ensures written { let rows = rows_held def.now (nodes_of txns.old) in
-        let gone = once def.now
-        (listed_at def.now rows (slice_get def.now.indexes place) key.now) in
+    ensures written { let gone = gone_at def.now txns.old place key.now in
         OnOk result (WroteRows def.now gone txns.old txns.new) }
 {
     let tree = stand_at(txns, place)?;
     wipe_standing(alloc, def, txns, front, ids, place, &tree, key)
 }
 
-/// The same, where the tree at the place stands meanwhile, so that a walk goes over it.
+/// The same, where the tree at the place stands meanwhile, so that a walk goes over it. If there is
+/// no other index, the cut has taken out each row's keys.
 fn wipe_standing(
     alloc: Global,
     def: &TableDef,
@@ -84,28 +78,24 @@ fn wipe_standing(
     requires held { AreTrees def.now (nodes_of txns.old) }
     requires stands { rows_under key.now tree.now
         ≡ listed_from key.now (slice_get txns.old place) }
-    ensures answers { let rows = rows_held def.now (nodes_of txns.old) in
-        let gone = once def.now
-        (listed_at def.now rows (slice_get def.now.indexes place) key.now) in
+    ensures answers { let gone = gone_at def.now txns.old place key.now in
         MatchResult result
         (λ taken. AreLeft ids.old.next (length gone) × IsWiped def.now gone taken txns.old txns.new)
         (λ e. GivesUp ids.old.next (length gone) e txns.old txns.new) }
-    ensures drawn { let rows = rows_held def.now (nodes_of txns.old) in
-        let gone = once def.now
-        (listed_at def.now rows (slice_get def.now.indexes place) key.now) in
+    ensures drawn { let gone = gone_at def.now txns.old place key.now in
         HaveDrawn front.now (2 ^ 26 * length gone) ids.old ids.new txns.old txns.new }
     ensures refused { IfErr result (λ e. (e ≡ Memory) ⊎ (ids.new ≡ ids.old)) }
-    ensures written { let rows = rows_held def.now (nodes_of txns.old) in
-        let gone = once def.now
-        (listed_at def.now rows (slice_get def.now.indexes place) key.now) in
+    ensures written { let gone = gone_at def.now txns.old place key.now in
         OnOk result (WroteRows def.now gone txns.old txns.new) }
 {
-    // The definition is lawful by its type.
-    let _ = def.len();
+    let indexes = def.len();
     let mut listed = match cut_listed(alloc, def, txns, front, ids, place, tree, key) {
         Ok(listed) => listed,
         Err(error) => return Err(error),
     };
+    if indexes == 1 {
+        return Ok(gather(alloc, listed)?);
+    }
     let mut gone = Rows::new(alloc);
     'rows: while move_next(alloc, def, txns, front, ids, place, &mut listed, &mut gone)? {}
     Ok(gone)

@@ -26,11 +26,12 @@ impl TableTxn {
     /// Takes out each row that the `get` of a question's index and arguments lists, once, and gives
     /// them in the order of their first listing. A refusal changes nothing: that of the question,
     /// and that fewer than 2^26 ids are left for each row. It takes memory for the list of the
-    /// rows, for the keys of one row at a time and for copied nodes, each with a new cell, and is
-    /// refused for want of it or of room to count one more owner of a node or row; that spoils the
-    /// change. The index drops the subtree of the key at once; of the other indexes each row's keys
-    /// are taken out one by one. So it takes time in the number of the entries listed and in the
-    /// lengths of the keys of the rows, and it writes no others.
+    /// rows, for copied nodes, each with a new cell, and, if there are other indexes, for the keys
+    /// of one row at a time. It is refused for want of memory or of room to count one more owner of
+    /// a node or row; that spoils the change. The index drops the subtree of the key at once; of
+    /// other indexes each row's keys are taken out one by one. So it takes time in the number of
+    /// the entries listed and, if there are other indexes, in the lengths of the keys of the rows,
+    /// and it writes no others.
     pub fn take_all(
         &mut self,
         front: &Front,

@@ -28,6 +28,11 @@ abbrev pub listed_at : TableSchema → List Fields → Option IndexSchema → By
 listed_at t rows None key = []
 listed_at t rows (Some i) key = rows_of (with_prefix key (entries t i rows))
 
+-- the rows that a wipe by the index at a place takes out, as the trees of a table hold them
+abbrev pub gone_at : TableSchema → List Txn → ℕ → Bytes → List Fields
+gone_at t txns place key =
+    once t (listed_at t (rows_held t (nodes_of txns)) (slice_get t.indexes place) key)
+
 -- the rows that a standing tree lists under a key
 abbrev pub rows_under : Bytes → CellTree → List Fields
 rows_under key tree = rows_of (with_prefix key (pairs_of (plain_of tree)))

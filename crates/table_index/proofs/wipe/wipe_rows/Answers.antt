@@ -1,11 +1,11 @@
-use Rattle.std.proofs.Common.{◌*◌, ◌^◌, List, slice_get, sym, subst, OnOk}
+use Rattle.std.proofs.Common.{◌*◌, ◌^◌, List, sym, subst, OnOk}
 use Rattle.mdb_datum.specs.Row.{Fields}
 use Rattle.mdb_schema.specs.Answer.{Asked}
-use Rattle.mdb_schema.specs.Wipe.{once, wiped_rows}
+use Rattle.mdb_schema.specs.Wipe.{wiped_rows}
 use Rattle.table_index.specs.Table.{rows_asked}
 use Rattle.table_index.specs.inner.Drawn.{HaveDrawn}
 use Rattle.table_index.specs.inner.IndexTrees.{nodes_of, rows_held}
-use Rattle.table_index.specs.inner.Wipes.{listed_at}
+use Rattle.table_index.specs.inner.Wipes.{gone_at}
 use Rattle.table_index.proofs.DrawnIds.{none_drawn}
 use Rattle.table_index.proofs.WipeAnswers.{wiped-listed, wiped_trees, question_refused}
 use Rattle.table_index.specs.Written.{rows_told}
@@ -25,7 +25,7 @@ returns-clause-answers c =
     let t = c.args.def.now in
     let rows = rows_held t (nodes_of c.args.txns.now) in
     let told = wiped-listed t rows c.args.query.now c.in-Ok.at c.place.result c.key.result.now c.in-Ok.ensures.answers c.in-Ok.ensures.there c.place.ensures c.key.ensures.bytes in
-    wiped_trees c.args.ids.now.next t (wiped_rows t rows c.args.query.now) (once t (listed_at t rows (slice_get t.indexes c.place.result) c.key.result.now)) c.wipe_listed.result c.args.txns.now c.wipe_listed.new.txns told
+    wiped_trees c.args.ids.now.next t (wiped_rows t rows c.args.query.now) (gone_at t c.args.txns.now c.place.result c.key.result.now) c.wipe_listed.result c.args.txns.now c.wipe_listed.new.txns told
     c.wipe_listed.ensures.answers
 
 pub returns-clause-drawn : goal.returns-clause-drawn

@@ -1,5 +1,5 @@
 use Rattle.std.proofs.Common.{◌≡◌, ◌++◌, length}
-use Rattle.table_index.proofs.answer.many.Given as goal
+use Rattle.table_index.proofs.answer.gather.Given as goal
 
 abbrev pub invariant-loop-rows : goal.invariant-loop-rows
 invariant-loop-rows l = l.rows ++ l.walk ≡ l.initial.walk
