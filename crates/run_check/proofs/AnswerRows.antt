@@ -7,12 +7,12 @@ use Rattle.std.specs.Str.{bytes_eq}
 use Rattle.std.proofs.lemmas.Bool.{and_parts}
 use Rattle.std.proofs.lemmas.Map.Text.{is_eq-slice_cmp}
 use Rattle.mdb_datum.specs.Bytes.{Bytes, byte_order}
-use Rattle.mdb_datum.specs.Pairs.{first_item, last_item, rows_of}
+use Rattle.mdb_datum.specs.Pairs.{first_item, last_item, rows_of, with_prefix}
 use Rattle.mdb_datum.specs.Row.{Fields, Pair}
 use Rattle.mdb_datum.proofs.ByteOrder.{less_from_is_lt}
 use Rattle.mdb_schema.specs.Answer.{picked}
 use Rattle.mdb_schema.proofs.Membership.{same_key}
-use Rattle.run_check.specs.inner.AnswerView.{KeysRise}
+use Rattle.run_check.specs.inner.AnswerView.{KeysRise, end_item}
 
 -- ---- a very key has the one row that a look-up finds
 
@@ -55,3 +55,12 @@ first_exact b key es exact rise = sym (ap (λ (c : Bool). first_item (picked c k
 
 pub last_exact : (b : Bool) (key : Bytes) (es : List Pair) → b ≡ true → KeysRise es → found key es ≡ last_item (picked b key es)
 last_exact b key es exact rise = sym (ap (λ (c : Bool). last_item (picked c key es)) exact ∙ ap last_item (exact_rows key es rise) ∙ last_alone (found key es))
+
+pub end_exact : (last b : Bool) (key : Bytes) (es : List Pair) → b ≡ true → KeysRise es → found key es ≡ end_item last (picked b key es)
+end_exact true = last_exact
+end_exact false = first_exact
+
+-- else those that begin with it are meant
+pub end_meant : (last b : Bool) (k key : Bytes) (es : List Pair) → b ≡ false → k ≡ key → end_item last (rows_of (with_prefix k es)) ≡ end_item last (picked b key es)
+end_meant last b k key es part same =
+    ap (λ (q : Bytes). end_item last (rows_of (with_prefix q es))) same ∙ sym (ap (λ (c : Bool). end_item last (picked c key es)) part)

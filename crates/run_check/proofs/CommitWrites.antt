@@ -26,7 +26,9 @@ use Rattle.run_check.specs.declared.sight.Stamp.TheVariants as stamps
 use Rattle.run_check.specs.declared.store.Store.{Store}
 use Rattle.run_check.specs.inner.EditView.{AreReady, AreSeen, HasChanged, seen_of}
 use Rattle.run_check.specs.inner.GrowView.{IsGrown, IsWrittenAt}
-use Rattle.run_check.specs.inner.HistoryView.{IsDone, IsMaking, with_writes}
+use Rattle.run_check.specs.declared.history.Edit.{Edit}
+use Rattle.run_check.specs.declared.history.Edit.TheVariants as edits
+use Rattle.run_check.specs.inner.HistoryView.{IsDone, IsMaking, edited, row_edited, rows_put, with_writes}
 use Rattle.run_check.specs.inner.IndexView.{KeyVersions, MayCome}
 use Rattle.run_check.specs.inner.StoreView.{Begun, IsSightOf, StandsFor, Wrote, indexes_at}
 use Rattle.run_check.proofs.CommitGrows.{commit_grown}
@@ -208,17 +210,22 @@ module _ (schema : DbSchema) (H : History) (c : Commit) (number : ℕ) (st : Sto
         as_indexes : indexes_at st place ≡ xs
         as_indexes = same_indexes xs same
 
-        pub list_put : ((rows : List Fields) → AreSeen t rows sight xs → IsDone t rows (row ∷ []) (put_row t row rows) (stamps.Commit number) xs ys)
+        list_put : ((rows : List Fields) → AreSeen t rows sight xs → IsDone t rows (row ∷ []) (put_row t row rows) (stamps.Commit number) xs ys)
             → IsMaking schema H (with_writes c (accepted_step schema base (put name row))) number (record { tables = with_item st.tables place (with_items v ys) })
         list_put done =
             put_made after name row named ys (written_at st place v ys held_there (long ∙ len)) (long ∙ ap (λ (zs : List KeyVersions). length zs) (sym as_indexes))
             (subst (λ (zs : List KeyVersions). (rows : List Fields) → AreSeen t rows sight zs → IsDone t rows (row ∷ []) (put_row t row rows) (stamps.Commit number) zs ys) (sym as_indexes) done)
 
-        pub list_removal : ((rows : List Fields) → AreSeen t rows sight xs → IsDone t rows [] (remove_row t row rows) (stamps.Commit number) xs ys)
+        list_removal : ((rows : List Fields) → AreSeen t rows sight xs → IsDone t rows [] (remove_row t row rows) (stamps.Commit number) xs ys)
             → IsMaking schema H (with_writes c (accepted_step schema base (remove name row))) number (record { tables = with_item st.tables place (with_items v ys) })
         list_removal done =
             removal_made after name row named ys (written_at st place v ys held_there (long ∙ len)) (long ∙ ap (λ (zs : List KeyVersions). length zs) (sym as_indexes))
             (subst (λ (zs : List KeyVersions). (rows : List Fields) → AreSeen t rows sight zs → IsDone t rows [] (remove_row t row rows) (stamps.Commit number) zs ys) (sym as_indexes) done)
+
+        pub list_edit : (edit : Edit) → ((rows : List Fields) → AreSeen t rows sight xs → IsDone t rows (rows_put edit row) (row_edited edit t row rows) (stamps.Commit number) xs ys)
+            → IsMaking schema H (with_writes c (accepted_step schema base (edited edit name row))) number (record { tables = with_item st.tables place (with_items v ys) })
+        list_edit edits.Put done = list_put done
+        list_edit edits.Remove done = list_removal done
 
 -- ---- no table of the name
 
@@ -235,12 +242,16 @@ module _ (schema : DbSchema) (H : History) (c : Commit) (number : ℕ) (st : Sto
   abbrev steps : Write → Stepped → List Write
   steps w r = if is_ok r then w ∷ [] else []
 
-  pub no_put : IsMaking schema H (with_writes c (accepted_step schema on (put name row))) number st
+  no_put : IsMaking schema H (with_writes c (accepted_step schema on (put name row))) number st
   no_put =
       subst (λ (ws : List Write). IsMaking schema H (with_writes c ws) number st) (sym (ap (λ (o : Option Table). steps (put name row) (changing (λ (t : Table). put_row t.schema row t.rows) o)) (unknown schema on name none)))
       (with_none schema H c number st making)
 
-  pub no_removal : IsMaking schema H (with_writes c (accepted_step schema on (remove name row))) number st
+  no_removal : IsMaking schema H (with_writes c (accepted_step schema on (remove name row))) number st
   no_removal =
       subst (λ (ws : List Write). IsMaking schema H (with_writes c ws) number st) (sym (ap (λ (o : Option Table). steps (remove name row) (changing (λ (t : Table). remove_row t.schema row t.rows) o)) (unknown schema on name none)))
       (with_none schema H c number st making)
+
+  pub no_edit : (edit : Edit) → IsMaking schema H (with_writes c (accepted_step schema on (edited edit name row))) number st
+  no_edit edits.Put = no_put
+  no_edit edits.Remove = no_removal

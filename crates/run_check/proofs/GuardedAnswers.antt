@@ -29,8 +29,18 @@ use Rattle.run_check.proofs.SharedRows.{first_of_rows, last_of_rows, pairs_of_ro
 use Rattle.run_check.specs.declared.lookup.Lookup as code
 use Rattle.run_check.specs.declared.sight.Own.{Own}
 use Rattle.run_check.specs.inner.GuardView.{IsMeantSame, IsWatchedAt}
-use Rattle.run_check.specs.inner.IndexView.{HasVersion, IsKeyWritten, IsRowSame, IsTouchedIn, KeyVersions, after_commit, pairs_seen}
+use Rattle.run_check.specs.inner.IndexView.{AreSame, HasVersion, IsKeyWritten, IsRowSame, IsTouchedIn, KeyVersions, after_commit, pairs_seen}
 use Rattle.run_check.specs.inner.StoreView.{Begun, IsSightOf, Wrote}
+
+-- what a question means that asks for neither end is all that its keys mean
+pub all_meant_same : (a : Ask) (meant : Bytes → Bool) (first last : ℕ) (x : KeyVersions) (r : Bool) → (a ≡ First → ⊥) → (a ≡ Last → ⊥) → Decides r (AreSame meant first last x) → Decides r (IsMeantSame a meant first last x)
+all_meant_same First meant first last x r one other decides = absurd (one refl)
+all_meant_same Last meant first last x r one other decides = absurd (other refl)
+all_meant_same Get meant first last x r one other decides = decides
+all_meant_same GetReverse meant first last x r one other decides = decides
+all_meant_same Lower meant first last x r one other decides = decides
+all_meant_same ReverseLower meant first last x r one other decides = decides
+all_meant_same Longest meant first last x r one other decides = decides
 
 -- ---- an index of lawful rows after each commit
 

@@ -8,12 +8,12 @@ use Rattle.mdb_schema.specs.Schema.{DbSchema}
 use Rattle.client_script.specs.Client as plain
 use Rattle.run_check.specs.TextLines.{behind}
 use Rattle.run_check.specs.declared.client.Client.{Client}
-use Rattle.run_check.specs.declared.session.waits.Woken.{Woken}
+use Rattle.run_check.specs.declared.member.Woken.{Woken}
 use Rattle.run_check.specs.declared.watching.Set.{Set}
 use Rattle.run_check.specs.declared.watching.Watch.{Watch}
 use Rattle.run_check.specs.inner.ClientView.{known, set_known, watch_known, watches_at, watches_known}
 use Rattle.run_check.specs.inner.Decided.{HasName, IsFirstNamed}
-use Rattle.run_check.specs.inner.FirstNamed.{HasNameAt, IsFirst}
+use Rattle.run_check.specs.inner.FirstNamed.{FirstWoken, HasNameAt, IsFirst}
 use Rattle.run_check.specs.inner.NamedView.{each_named}
 use Rattle.run_check.specs.inner.SessionView.{IsSound}
 use Rattle.run_check.specs.inner.StoreView.{Begun}
@@ -65,14 +65,14 @@ module _ (schema : DbSchema) (H : History) (txns : List Begun) (v : Client) (sou
     one_rest other is = same_Some other rest (sym (behind_self (codes "fired ") other) ∙ ap (behind (codes "fired ")) (sym is) ∙ begins)
 
     -- no member is named
-    pub no_place : ((x : Set) → slice_get v.watching.sets.values.items set ≡ Some x → IsFirst (HasNameAt v.watching.watches.names rest) x.members.items None) → TellsMember s.members text None
+    no_place : ((x : Set) → slice_get v.watching.sets.values.items set ≡ Some x → IsFirst (HasNameAt v.watching.watches.names rest) x.members.items None) → TellsMember s.members text None
     no_place first other after q w is at has =
         no_member_named v.watching.watches.names (watches_known v.watching) kept_set.0.members.items rest (names_known v.watching.watches.names v.watching.watches.values.items paired) kept_set.1.within (first kept_set.0 kept_set.1.there) q w after
         (ap (λ (ms : List plain.Watch). slice_get ms q) (sym kept_set.1.members) ∙ at)
         (subst (λ (bs : Bytes). HasName w.name bs after) (one_rest other is) has)
 
     module _ (k : ℕ) (first : (x : Set) → slice_get v.watching.sets.values.items set ≡ Some x → IsFirst (HasNameAt v.watching.watches.names rest) x.members.items (Some k)) where
-      pub found : IsFound v.watching.watches.names (watches_known v.watching) kept_set.0.members.items rest k
+      found : IsFound v.watching.watches.names (watches_known v.watching) kept_set.0.members.items rest k
       found = first_member v.watching.watches.names (watches_known v.watching) kept_set.0.members.items rest k (names_known v.watching.watches.names v.watching.watches.values.items paired) kept_set.1.within (first kept_set.0 kept_set.1.there)
 
       found_name : option_and_then (slice_get v.watching.watches.names) (slice_get kept_set.0.members.items k) ≡ Some found.member.name
@@ -86,11 +86,8 @@ module _ (schema : DbSchema) (H : History) (txns : List Begun) (v : Client) (sou
       found_behind = ap (behind found.member.name) found.first.name ∙ behind_self found.member.name (codes " @" ++ found.after)
 
       -- it has a name
-      pub has_name : (o : Option Bytes) → ((x : Set) → slice_get v.watching.sets.values.items set ≡ Some x → o ≡ option_and_then (slice_get v.watching.watches.names) (slice_get x.members.items k)) → o ≡ Some found.member.name
+      has_name : (o : Option Bytes) → ((x : Set) → slice_get v.watching.sets.values.items set ≡ Some x → o ≡ option_and_then (slice_get v.watching.watches.names) (slice_get x.members.items k)) → o ≡ Some found.member.name
       has_name o is = is kept_set.0 kept_set.1.there ∙ found_name
-
-      pub no_name : (o : Option Bytes) → ((x : Set) → slice_get v.watching.sets.values.items set ≡ Some x → o ≡ option_and_then (slice_get v.watching.watches.names) (slice_get x.members.items k)) → o ≡ None → TellsMember s.members text None
-      no_name o is none = absurd (none_some found.member.name (sym none ∙ has_name o is))
 
       module _ (name : Bytes) (is : (x : Set) → slice_get v.watching.sets.values.items set ≡ Some x → Some name ≡ option_and_then (slice_get v.watching.watches.names) (slice_get x.members.items k)) where
         same_name : name ≡ found.member.name
@@ -99,10 +96,7 @@ module _ (schema : DbSchema) (H : History) (txns : List Begun) (v : Client) (sou
         name_behind : behind name rest ≡ Some (codes " @" ++ found.after)
         name_behind = ap (λ (n : Bytes). behind n rest) same_name ∙ found_behind
 
-        pub no_behind : behind name rest ≡ None → TellsMember s.members text None
-        no_behind none = absurd (none_some (codes " @" ++ found.after) (sym none ∙ name_behind))
-
-        pub member_told : (told : Woken) → told.place ≡ k → told.name.now ≡ name → behind name rest ≡ Some told.behind.now → IsWokenMember s.members text told
+        member_told : (told : Woken) → told.place ≡ k → told.name.now ≡ name → behind name rest ≡ Some told.behind.now → IsWokenMember s.members text told
         member_told told place called back =
             record {
               member = found.member;
@@ -113,3 +107,11 @@ module _ (schema : DbSchema) (H : History) (txns : List Begun) (v : Client) (sou
               name = called ∙ same_name;
               behind = same_Some told.behind.now (codes " @" ++ found.after) (sym back ∙ name_behind);
             }
+
+    -- the member that the code finds
+    pub member_tells : (o : Option Woken) → ((x : Set) → slice_get v.watching.sets.values.items set ≡ Some x → FirstWoken v.watching.watches.names rest x.members.items o) → TellsMember s.members text o
+    member_tells None tells = no_place tells
+    member_tells (Some w) tells =
+        member_told w.place (λ x is. (tells x is).0) w.name.now
+        (λ x is. let t = tells x is in sym (ap (option_and_then (slice_get v.watching.watches.names)) (slice_get-get_or x.members.items w.place 0 t.0.0) ∙ t.1))
+        w refl refl (tells kept_set.0 kept_set.1.there).2

@@ -45,6 +45,13 @@ module _ (x : Watching) (paired : length x.watches.names ≡ length x.watches.va
       λ f. absurd (absent at f.0 none (sym (ap (option_and_then (slice_get (watches_known x))) is) ∙ f.1)),
     )
 
+-- what is decided of a place where a watch is known is decided of that
+pub fired_there : (schema : DbSchema) (H : History) (ws : List plain.Watch) (n at : ℕ) (w : plain.Watch) (r : Bool) → slice_get ws at ≡ Some w → Decides r (HasFiredAt schema H ws (Some at) n) → Decides r (IsTouched schema H w.query w.number n)
+fired_there schema H ws n at w r there decides = (
+  λ e. let f = decides.0 e in subst (λ (y : plain.Watch). IsTouched schema H y.query y.number n) (same_Some f.0 w (sym f.1 ∙ there)) f.2,
+  λ touched. decides.1 (w, there, touched),
+)
+
 -- ---- watches at places
 
 -- the watch at a place, if one is there, may be told to be quiet after so many commits

@@ -24,7 +24,7 @@ use Rattle.client_script.specs.declared.command.WatchesCommand.TheVariants as wa
 use Rattle.run_check.specs.TextLines.{number_behind}
 use Rattle.run_check.specs.declared.client.Client.{Client}
 use Rattle.run_check.specs.declared.session.Sessions.{Sessions}
-use Rattle.run_check.specs.declared.session.waits.Woken.{Woken}
+use Rattle.run_check.specs.declared.member.Woken.{Woken}
 use Rattle.run_check.specs.declared.watching.Set.{Set}
 use Rattle.run_check.specs.inner.ClientView.{known, watches_at, watches_known}
 use Rattle.run_check.specs.inner.Decided.{AreNamed, IsDecided, IsFirstNamed, NamesTell}

@@ -1,56 +1,45 @@
 //! The answer to a question, as it is written.
 ghost use Rattle.std.specs.Prelude.{◌≡◌, ◌<◌, ◌++◌, IfOk, OnOk, Some, length, map, option_copied};
 ghost use Rattle.std.specs.Prelude.{if◌then◌else◌, reverse, slice_get};
-ghost use Rattle.mdb_datum.specs.Pairs.{first_item, last_item};
 ghost use Rattle.mdb_datum.specs.Written.{row_text};
 ghost use Rattle.mdb_schema.specs.Answer.{picked};
 ghost use Rattle.mdb_schema.specs.declared.answer.Answer.TheVariants.{Many, One};
 ghost use Rattle.client_script.specs.Reply.{answer_text, further, row_lines};
 ghost use Rattle.run_check.specs.inner.AnswerView.{IsForMany, IsForOne, KeysRise, answer_at};
-ghost use Rattle.run_check.specs.inner.AnswerView.{has_row, is_meant, is_reverse};
+ghost use Rattle.run_check.specs.inner.AnswerView.{end_item, has_row, is_meant, is_reverse};
 ghost use Rattle.run_check.specs.inner.EditView.{seen_of};
 ghost use Rattle.run_check.specs.inner.IndexView.{KeyVersions, Means};
 
 use crate::index::{Index, Keys};
 use crate::lookup::Lookup;
 use crate::sight::Sight;
+use crate::slots::{first_row, last_row};
 use mdb_datum::Row;
 use mdb_schema::Ask;
 use run_io::write_number;
 use std::alloc::{AllocError, Global};
 
-/// The first row that a question means.
-fn first_row<'a>(
+/// The first row that a question means, or the last one.
+fn end_row<'a>(
     alloc: Global,
     index: &'a Index,
     at: &Lookup,
     sight: Sight,
+    is_last: bool,
 ) -> Result<Option<&'a Row>, AllocError>
     ensures { KeysRise (seen_of sight index.now) → IfOk result (λ row. option_copied row
-        ≡ first_item (picked at.now.exact at.now.key.items (seen_of sight index.now))) }
+        ≡ end_item is_last (picked at.now.exact at.now.key.items (seen_of sight index.now))) }
 {
     if at.exact {
         return Ok(index.row(&at.key, sight));
     }
     let keys = Keys::with_prefix(alloc, &at.key)?;
-    Ok(index.first(&keys, sight))
-}
-
-/// The last row that a question means.
-fn last_row<'a>(
-    alloc: Global,
-    index: &'a Index,
-    at: &Lookup,
-    sight: Sight,
-) -> Result<Option<&'a Row>, AllocError>
-    ensures { KeysRise (seen_of sight index.now) → IfOk result (λ row. option_copied row
-        ≡ last_item (picked at.now.exact at.now.key.items (seen_of sight index.now))) }
-{
-    if at.exact {
-        return Ok(index.row(&at.key, sight));
+    let slots = index.slots_of(&keys);
+    if is_last {
+        Ok(last_row(slots, sight))
+    } else {
+        Ok(first_row(slots, sight))
     }
-    let keys = Keys::with_prefix(alloc, &at.key)?;
-    Ok(index.last(&keys, sight))
 }
 
 /// The answer to a question for one row.
@@ -66,8 +55,8 @@ fn one_row<'a>(
         One (option_copied row) ≡ answer_at ask at.now (seen_of sight index.now)) }
 {
     match ask {
-        Ask::First => first_row(alloc, index, at, sight),
-        Ask::Last => last_row(alloc, index, at, sight),
+        Ask::First => end_row(alloc, index, at, sight, false),
+        Ask::Last => end_row(alloc, index, at, sight, true),
         Ask::Longest => Ok(index.longest(&at.key, sight)),
         _ => unreachable!(),
     }

@@ -2,7 +2,6 @@
 ghost use Rattle.std.specs.Prelude.{◌≡◌, List, if◌then◌else◌, nat_lt};
 ghost use Rattle.mdb_schema.specs.History.{History};
 ghost use Rattle.mdb_schema.specs.Schema.{DbSchema};
-ghost use Rattle.client_script.specs.Turn.{set_called};
 ghost use Rattle.client_script.specs.Watching.{check_judged, limit_judged, until_judged, wait_judged};
 ghost use Rattle.client_script.specs.Watching.{watch_called};
 ghost use Rattle.run_check.specs.inner.CalledView.{ArePlacesOf, IsPlaceOf, IsSetPlaceOf, TellsJudged};
@@ -22,19 +21,7 @@ pub(crate) fn watch_place(knows: &Client<'_>, name: &Text) -> Result<usize, Rule
         → TellsJudged schema (IsPlaceOf knows.now.watching) (watch_called name.now (known txns knows.now))
         result }
 {
-    match knows.watching.watches.place(name) {
-        Some(place) => Ok(place),
-        None => Err(Rule::UnknownName),
-    }
-}
-
-/// The place of the set of a name.
-fn set_place(knows: &Client<'_>, name: &Text) -> Result<usize, Rule>
-    ensures { (schema : DbSchema) (txns : List Begun)
-        → TellsJudged schema (IsSetPlaceOf knows.now.watching) (set_called name.now (known txns knows.now))
-        result }
-{
-    match knows.watching.sets.place(name) {
+    match knows.watching.watches.names.place(name) {
         Some(place) => Ok(place),
         None => Err(Rule::UnknownName),
     }
@@ -87,7 +74,10 @@ pub(crate) fn awaited_set(knows: &Client<'_>, set: &Text) -> Result<usize, Rule>
         result }
 {
     knows.no_writing()?;
-    set_place(knows, set)
+    match knows.watching.sets.names.place(set) {
+        Some(place) => Ok(place),
+        None => Err(Rule::UnknownName),
+    }
 }
 
 /// The same, and the place of the watch that cancels.

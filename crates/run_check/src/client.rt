@@ -13,6 +13,7 @@ ghost use Rattle.run_check.specs.declared.client.Open.TheVariants as opens;
 ghost use Rattle.run_check.specs.inner.ClientView.{IsOpenSight, changed_of, is_closed, known, sight_known};
 ghost use Rattle.run_check.specs.inner.StoreView.{Begun};
 
+use crate::keys::joined;
 use crate::names::Named;
 use crate::sight::{Own, Sight};
 use crate::watching::Watching;
@@ -179,9 +180,7 @@ pub(crate) fn add_changed(
         ≡ insert_key (slice_cmp nat_cmp) (changed_of writing.old) (table ∷ id.now)) }
     ensures kept { writing.new ≡ record writing.old { changed = writing.new.changed } }
 {
-    let mut key = Vec::with_capacity(alloc, id.len().saturating_add(1))?;
-    key.push(table as u8)?;
-    key.extend_from_slice(id)?;
+    let key = joined(alloc, &[table as u8], id)?;
     writing.changed.insert(key)?;
     Ok(())
 }

@@ -7,7 +7,6 @@ ghost use Rattle.client_script.specs.declared.command.Command.TheVariants as com
 ghost use Rattle.client_script.specs.declared.command.TransactionCommand.TheVariants as transaction_lines;
 ghost use Rattle.client_script.specs.declared.line.Line.{Line};
 ghost use Rattle.run_check.specs.Commits.{all_commits, bases, commits_of, no_work, stands_before};
-ghost use Rattle.run_check.specs.declared.mode.Mode.TheVariants as modes;
 ghost use Rattle.run_check.specs.CommitView.{IsOrderOf, committed_of, is_free, printed_commit};
 ghost use Rattle.run_check.specs.CommitView.{script_at, work_after, working_of};
 ghost use Rattle.run_check.specs.Reads.{lists_of};
@@ -46,17 +45,6 @@ struct Working {
 }
 
 impl Working {
-    /// Nothing is open.
-    fn none() -> Working
-        ensures { result ≡ record { mode = modes.Idle; begun = None; first = 0 } }
-    {
-        Working {
-            mode: Mode::Idle,
-            begun: None,
-            first: 0,
-        }
-    }
-
     /// What is open after a line, which was answered so; `next` is the place behind it.
     fn after(self, next: usize, command: &Command, text: &[u8]) -> Working
         ensures { result ≡ work_after self next command.now text.now }
@@ -137,7 +125,11 @@ fn add_commits(
         ≡ map (committed_of scripts) commits.old.items
         ++ commits_of (client + 1) no_work script.now (map printed_of replies.now)) }
 {
-    let mut working = Working::none();
+    let mut working = Working {
+        mode: Mode::Idle,
+        begun: None,
+        first: 0,
+    };
     for at in 0..script.len() {
         let Some(line) = script.get(at) else {
             unreachable!();

@@ -341,7 +341,7 @@ pub(crate) fn listed(
 fn shared(alloc: Global, found: &[&Row]) -> Result<Vec<Row>, AllocError>
     ensures { IfOk result (λ rows. rows.items ≡ map (λ r. r.now) found.now) }
 {
-    let mut rows = Vec::with_capacity(alloc, found.len())?;
+    let mut rows = Vec::new(alloc);
     for row in found {
         rows.push(row.share()?)?;
     }

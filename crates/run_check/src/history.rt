@@ -1,14 +1,14 @@
 //! The history that an output fixes: the writes of its commits, in the order of their numbers.
-ghost use Rattle.std.specs.Prelude.{◌≡◌, ◌≢◌, ◌∷◌, [], List, IfOk, OnOk, None, length, map};
+ghost use Rattle.std.specs.Prelude.{◌≡◌, ◌≢◌, List, IfOk, OnOk, None, length, map};
 ghost use Rattle.mdb_datum.specs.Row.{Fields};
-ghost use Rattle.mdb_schema.specs.Write.{put, put_row, remove, remove_row};
 ghost use Rattle.mdb_schema.specs.Wipe.{wipe};
 ghost use Rattle.mdb_schema.specs.declared.ask_error.AskError.TheVariants as ask_errors;
 ghost use Rattle.run_check.specs.Commits.{accepted, accepted_line, accepted_step, wiped};
 ghost use Rattle.run_check.specs.declared.sight.Stamp.TheVariants as stamps;
 ghost use Rattle.run_check.specs.CommitView.{AreInOrder, committed_of, writes_between};
 ghost use Rattle.run_check.specs.inner.EditView.{AreReady, AreSeen};
-ghost use Rattle.run_check.specs.inner.HistoryView.{HasMade, IsBegun, IsDone, Makes, removed_each};
+ghost use Rattle.run_check.specs.inner.HistoryView.{HasMade, IsBegun, IsDone, Makes, edited};
+ghost use Rattle.run_check.specs.inner.HistoryView.{removed_each, row_edited, rows_put};
 
 use crate::commits::Committed;
 use crate::edit::{listed, put, remove};
@@ -21,75 +21,59 @@ use mdb_datum::{Row, Text};
 use mdb_schema::{Ask, AskError, Query, Schema, TableDef, WriteError};
 use std::alloc::{AllocError, Global};
 
-/// Puts a row into the indexes of a table, where that is no refusal.
-fn put_there(
+/// What a line does with a row.
+#[derive(Clone, Copy)]
+enum Edit {
+    /// Puts it.
+    Put,
+    /// Takes out the row of its `id` key.
+    Remove,
+}
+
+/// Edits the indexes of a table by a row, where that is no refusal.
+fn edit_there(
     alloc: Global,
     def: &TableDef,
     indexes: &mut [Index],
     number: u64,
+    edit: Edit,
     row: &Row,
 ) -> Result<(), AllocError>
     requires ready { AreReady (stamps.Commit number) indexes.old }
     requires all { length indexes.old ≡ length def.now.indexes }
     ensures done { OnOk result ((rows : List Fields)
         → AreSeen def.now rows (record { commits = number; own = None }) indexes.old
-        → IsDone def.now rows (row.now ∷ []) (put_row def.now row.now rows) (stamps.Commit number)
-        indexes.old indexes.new) }
+        → IsDone def.now rows (rows_put edit row.now) (row_edited edit def.now row.now rows)
+        (stamps.Commit number) indexes.old indexes.new) }
     ensures long { OnOk result (length indexes.new ≡ length indexes.old) }
 {
-    match put(
-        alloc,
-        def,
-        indexes,
-        row,
-        Sight::after(number),
-        Stamp::Commit(number),
-    ) {
-        Err(WriteError::Memory) => Err(AllocError),
-        Ok(_) | Err(_) => Ok(()),
+    let sight = Sight::after(number);
+    let stamp = Stamp::Commit(number);
+    match edit {
+        Edit::Put => match put(alloc, def, indexes, row, sight, stamp) {
+            Err(WriteError::Memory) => Err(AllocError),
+            Ok(_) | Err(_) => Ok(()),
+        },
+        Edit::Remove => match remove(alloc, def, indexes, row, sight, stamp) {
+            Err(WriteError::Memory) => Err(AllocError),
+            Ok(_) | Err(_) => Ok(()),
+        },
     }
 }
 
-/// Takes the row of another's `id` key out of the indexes of a table, where that is no refusal.
-fn remove_there(
-    alloc: Global,
-    def: &TableDef,
-    indexes: &mut [Index],
-    number: u64,
-    row: &Row,
-) -> Result<(), AllocError>
-    requires { AreReady (stamps.Commit number) indexes.old }
-    ensures done { OnOk result ((rows : List Fields)
-        → AreSeen def.now rows (record { commits = number; own = None }) indexes.old
-        → IsDone def.now rows [] (remove_row def.now row.now rows) (stamps.Commit number)
-        indexes.old indexes.new) }
-    ensures long { OnOk result (length indexes.new ≡ length indexes.old) }
-{
-    match remove(
-        alloc,
-        def,
-        indexes,
-        row,
-        Sight::after(number),
-        Stamp::Commit(number),
-    ) {
-        Err(WriteError::Memory) => Err(AllocError),
-        Ok(_) | Err(_) => Ok(()),
-    }
-}
-
-/// Puts a row into the table of a name, where that is no refusal.
-fn commit_put(
+/// Edits the table of a name by a row, where that is no refusal.
+fn commit_edit(
     alloc: Global,
     schema: &Schema,
     store: &mut Store,
     number: u64,
     table: &Text,
+    edit: Edit,
     row: &Row,
 ) -> Result<(), AllocError>
     requires { IsBegun schema.now number store.old }
     ensures { OnOk result (Makes schema.now number
-        (λ s. accepted_step schema.now s (put table.now row.now)) store.old store.new) }
+        (λ s. accepted_step schema.now s (edited edit table.now row.now)) store.old store.new) }
 {
     let Some(at) = schema.find(table.as_str()) else {
         return Ok(());
@@ -97,29 +81,7 @@ fn commit_put(
     let Some(def) = schema.table(at) else {
         return Ok(());
     };
-    put_there(alloc, def, &mut store.tables[at], number, row)
-}
-
-/// Takes the row of another's `id` key out of the table of a name, where that is no refusal.
-fn commit_remove(
-    alloc: Global,
-    schema: &Schema,
-    store: &mut Store,
-    number: u64,
-    table: &Text,
-    row: &Row,
-) -> Result<(), AllocError>
-    requires { IsBegun schema.now number store.old }
-    ensures { OnOk result (Makes schema.now number
-        (λ s. accepted_step schema.now s (remove table.now row.now)) store.old store.new) }
-{
-    let Some(at) = schema.find(table.as_str()) else {
-        return Ok(());
-    };
-    let Some(def) = schema.table(at) else {
-        return Ok(());
-    };
-    remove_there(alloc, def, &mut store.tables[at], number, row)
+    edit_there(alloc, def, &mut store.tables[at], number, edit, row)
 }
 
 /// Want of memory, where a question was refused for that.
@@ -167,7 +129,7 @@ fn remove_rows(
 {
     for at in 0..rows.len() {
         // A row that was listed twice is gone the second time.
-        commit_remove(alloc, schema, store, number, table, &rows[at])?;
+        commit_edit(alloc, schema, store, number, table, Edit::Remove, &rows[at])?;
     }
     Ok(())
 }
@@ -186,10 +148,10 @@ fn commit_line(
 {
     match line {
         WriteCommand::Insert { table, row } => {
-            commit_put(alloc, schema, store, number, table, row)
+            commit_edit(alloc, schema, store, number, table, Edit::Put, row)
         }
         WriteCommand::Delete { table, row } => {
-            commit_remove(alloc, schema, store, number, table, row)
+            commit_edit(alloc, schema, store, number, table, Edit::Remove, row)
         }
         WriteCommand::DeleteAll { query } => commit_wipe(alloc, schema, store, number, query),
         WriteCommand::DeletePrefix { query } => {

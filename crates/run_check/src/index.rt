@@ -6,20 +6,19 @@ ghost use Rattle.std.specs.FinMap as finite;
 ghost use Rattle.std.specs.FinMap.Entries.{where_key};
 ghost use Rattle.std.specs.Ordering.{is_ge, is_le};
 ghost use Rattle.mdb_datum.specs.Bytes.{Bytes, byte_order, is_prefix};
-ghost use Rattle.mdb_datum.specs.Pairs.{first_item, last_item, longest_pair, prefixes_of, rows_of};
+ghost use Rattle.mdb_datum.specs.Pairs.{longest_pair, prefixes_of, rows_of};
 ghost use Rattle.mdb_datum.specs.Row.{Pair};
 ghost use Rattle.run_check.specs.declared.sight.Stamp.TheVariants.{Commit};
-ghost use Rattle.run_check.specs.inner.IndexView.{AreKeys, AreSame, IsBelow, IsCommit, IsKeyWritten};
-ghost use Rattle.run_check.specs.inner.IndexView.{IsPickedSame, IsRowSame, IsTouchedIn, IsWritten};
+ghost use Rattle.run_check.specs.inner.IndexView.{AreKeys, IsBelow, IsCommit, IsKeyWritten};
+ghost use Rattle.run_check.specs.inner.IndexView.{IsRowSame, IsTouchedIn, IsWritten};
 ghost use Rattle.run_check.specs.inner.IndexView.{MayWrite, Means, end_of, is_within, items_of, meant_pairs, no_keys};
 ghost use Rattle.run_check.specs.inner.IndexView.{pairs_seen, slot_at, slot_of, with_slot};
 ghost use Rattle.run_check.specs.inner.SlotView.{IsLatest, Rises};
 
+use crate::keys::joined;
 use crate::sight::{Sight, Stamp};
 use crate::slot::Slot;
-use crate::slots::{
-    Slots, all_rows, are_all_same, first_row, is_first_same, is_last_same, last_row,
-};
+use crate::slots::{Slots, all_rows};
 use mdb_datum::Row;
 use std::alloc::{AllocError, Global};
 use std::collections::BTreeMap;
@@ -113,8 +112,7 @@ fn after_prefix(alloc: Global, prefix: &[u8]) -> Result<Option<Vec<u8>>, AllocEr
     let mut rest = prefix;
     'bytes: while let Some((last, first)) = rest.split_last() {
         if *last < u8::MAX {
-            let mut end = first.to_vec(alloc)?;
-            end.push(*last + 1)?;
+            let end = joined(alloc, first, &[*last + 1])?;
             return Ok(Some(end));
         }
         rest = first;
@@ -165,7 +163,7 @@ impl Index {
     }
 
     /// The slots of some keys, in order.
-    fn slots_of(&self, keys: &Keys) -> Slots<'_>
+    pub(crate) fn slots_of(&self, keys: &Keys) -> Slots<'_>
         ensures within { map slot_of result
             ≡ where_key byte_order (is_within keys.now) self.now.slots }
         ensures order { AreKeys self.now.slots }
@@ -174,23 +172,7 @@ impl Index {
         self.slots.range((keys.from.as_ref(), keys.to.as_ref()))
     }
 
-    /// The first of the rows that are seen under some keys.
-    pub(crate) fn first(&self, keys: &Keys, sight: Sight) -> Option<&Row>
-        ensures { (meant : Bytes → Bool) → Means keys.now meant → option_copied result
-            ≡ first_item (rows_of (meant_pairs meant sight self.now)) }
-    {
-        first_row(self.slots_of(keys), sight)
-    }
-
-    /// The last of them.
-    pub(crate) fn last(&self, keys: &Keys, sight: Sight) -> Option<&Row>
-        ensures { (meant : Bytes → Bool) → Means keys.now meant → option_copied result
-            ≡ last_item (rows_of (meant_pairs meant sight self.now)) }
-    {
-        last_row(self.slots_of(keys), sight)
-    }
-
-    /// All of them, in order.
+    /// The rows that are seen under some keys, in order.
     pub(crate) fn rows(
         &self,
         alloc: Global,
@@ -253,31 +235,6 @@ impl Index {
             Some(slot) => slot.is_unchanged(first, last),
             None => true,
         }
-    }
-
-    /// Whether the same holds of all rows under some keys.
-    pub(crate) fn are_unchanged(&self, keys: &Keys, first: u64, last: u64) -> bool
-        ensures { (meant : Bytes → Bool) → Means keys.now meant
-            → Decides result (AreSame meant first last self.now) }
-    {
-        are_all_same(self.slots_of(keys), first, last)
-    }
-
-    /// Whether the first row under some keys is the same after each of these commits: that of the first
-    /// key which had one, and no key before it has got one.
-    pub(crate) fn is_first_unchanged(&self, keys: &Keys, first: u64, last: u64) -> bool
-        ensures { (meant : Bytes → Bool) → Means keys.now meant
-            → Decides result (IsPickedSame first_item meant first last self.now) }
-    {
-        is_first_same(self.slots_of(keys), first, last)
-    }
-
-    /// The same of the last row.
-    pub(crate) fn is_last_unchanged(&self, keys: &Keys, first: u64, last: u64) -> bool
-        ensures { (meant : Bytes → Bool) → Means keys.now meant
-            → Decides result (IsPickedSame last_item meant first last self.now) }
-    {
-        is_last_same(self.slots_of(keys), first, last)
     }
 }
 

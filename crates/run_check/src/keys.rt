@@ -10,7 +10,7 @@ ghost use Rattle.mdb_schema.specs.Write.{Placed, full_keys_at, id_of, indexes_of
 ghost use Rattle.run_check.specs.inner.KeyView.{AnswersBy, AnswersRowKeys, bytes_of, keys_of, lists_of};
 
 use mdb_datum::Row;
-use mdb_encode::{Key, Keys, keys_of};
+use mdb_encode::{Keys, keys_of};
 use mdb_schema::{IndexDef, TableDef, WriteError};
 use std::alloc::{AllocError, Global};
 
@@ -99,7 +99,7 @@ fn full_keys_of(
 ) -> Result<Vec<FullKeys>, WriteError>
     ensures { AnswersBy lists_of (each (full_keys_at id.now row.now) (indexes_of def.now)) result }
 {
-    let mut found = Vec::with_capacity(alloc, def.len())?;
+    let mut found = Vec::new(alloc);
     for at in 0..def.len() {
         match full_keys_at(alloc, def, at, id, row) {
             Ok(keys) => found.push(keys)?,
@@ -155,21 +155,19 @@ fn ending<'a>(index: &IndexDef, id: &'a [u8]) -> &'a [u8]
 fn with_ending(alloc: Global, keys: &Keys, ending: &[u8]) -> Result<FullKeys, AllocError>
     ensures { IfOk result (λ full. keys_of full ≡ map (λ key. key ++ ending.now) keys.now) }
 {
-    let mut full = Vec::with_capacity(alloc, keys.len())?;
+    let mut full = Vec::new(alloc);
     for at in 0..keys.len() {
         let Some(key) = keys.get(at) else {
             unreachable!();
         };
-        full.push(with_bytes(alloc, key, ending)?)?;
+        full.push(joined(alloc, key.bytes(), ending)?)?;
     }
     Ok(full)
 }
 
-/// A key with these bytes behind it.
-fn with_bytes(alloc: Global, key: &Key, ending: &[u8]) -> Result<Vec<u8>, AllocError>
-    ensures { IfOk result (λ full. full.items ≡ key.now ++ ending.now) }
+/// Bytes, and others behind them.
+pub(crate) fn joined(alloc: Global, front: &[u8], back: &[u8]) -> Result<Vec<u8>, AllocError>
+    ensures { IfOk result (λ whole. whole.items ≡ front.now ++ back.now) }
 {
-    let mut full = key.bytes().to_vec(alloc)?;
-    full.extend_from_slice(ending)?;
-    Ok(full)
+    [front, back].concat(alloc)
 }

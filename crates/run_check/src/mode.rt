@@ -2,8 +2,7 @@
 ghost use Rattle.std.specs.Prelude.{◌≡◌, option_map};
 ghost use Rattle.std.specs.Str.{bytes_eq};
 ghost use Rattle.client_script.specs.declared.command.Command.TheVariants as commands;
-ghost use Rattle.run_check.specs.Mode.{is_other_rule, mode_after, needs_any, needs_no_writes};
-ghost use Rattle.run_check.specs.Mode.{needs_nothing, needs_reads, needs_writes, order_rule};
+ghost use Rattle.run_check.specs.Mode.{is_other_rule, mode_after, needs_any, needs_writes, order_rule};
 
 use client_script::{AskCommand, Command, NameCommand, TransactionCommand, WatchesCommand};
 
@@ -42,16 +41,6 @@ impl Mode {
         }
     }
 
-    /// Nothing may be open.
-    fn needs_nothing(self) -> Option<&'static [u8]>
-        ensures { option_map (λ rule. rule.now) result ≡ needs_nothing self }
-    {
-        match self {
-            Mode::Idle => None,
-            Mode::Reads | Mode::Writes => Some(b"transaction-open"),
-        }
-    }
-
     /// A transaction has to be open.
     fn needs_any(self) -> Option<&'static [u8]>
         ensures { option_map (λ rule. rule.now) result ≡ needs_any self }
@@ -59,17 +48,6 @@ impl Mode {
         match self {
             Mode::Idle => Some(b"no-transaction"),
             Mode::Reads | Mode::Writes => None,
-        }
-    }
-
-    /// A read transaction has to be open.
-    fn needs_reads(self) -> Option<&'static [u8]>
-        ensures { option_map (λ rule. rule.now) result ≡ needs_reads self }
-    {
-        match self {
-            Mode::Idle => Some(b"no-transaction"),
-            Mode::Reads => None,
-            Mode::Writes => Some(b"write-open"),
         }
     }
 
@@ -81,16 +59,6 @@ impl Mode {
             Mode::Idle => Some(b"no-transaction"),
             Mode::Reads => Some(b"read-only"),
             Mode::Writes => None,
-        }
-    }
-
-    /// No write transaction may be open.
-    fn needs_no_writes(self) -> Option<&'static [u8]>
-        ensures { option_map (λ rule. rule.now) result ≡ needs_no_writes self }
-    {
-        match self {
-            Mode::Idle | Mode::Reads => None,
-            Mode::Writes => Some(b"write-open"),
         }
     }
 
@@ -114,10 +82,13 @@ impl Mode {
         ensures { option_map (λ rule. rule.now) result
             ≡ order_rule self (commands.Transaction line.now) }
     {
-        match line {
-            TransactionCommand::Read | TransactionCommand::Write => self.needs_nothing(),
-            TransactionCommand::End => self.needs_reads(),
-            TransactionCommand::Commit | TransactionCommand::Abort => self.needs_writes(),
+        match (line, self) {
+            (TransactionCommand::Read | TransactionCommand::Write, Mode::Idle)
+            | (TransactionCommand::End, Mode::Reads) => None,
+            (TransactionCommand::Read | TransactionCommand::Write, _) => Some(b"transaction-open"),
+            (TransactionCommand::End, Mode::Idle) => Some(b"no-transaction"),
+            (TransactionCommand::End, Mode::Writes) => Some(b"write-open"),
+            (TransactionCommand::Commit | TransactionCommand::Abort, _) => self.needs_writes(),
         }
     }
 
@@ -135,11 +106,14 @@ impl Mode {
     fn watches_rule(self, line: &WatchesCommand) -> Option<&'static [u8]>
         ensures { option_map (λ rule. rule.now) result ≡ order_rule self (commands.Watches line.now) }
     {
-        match line {
-            WatchesCommand::Check { .. }
-            | WatchesCommand::Wait { .. }
-            | WatchesCommand::WaitUntil { .. } => self.needs_no_writes(),
-            WatchesCommand::Add { .. } | WatchesCommand::AddLimit { .. } => None,
+        match (self, line) {
+            (
+                Mode::Writes,
+                WatchesCommand::Check { .. }
+                | WatchesCommand::Wait { .. }
+                | WatchesCommand::WaitUntil { .. },
+            ) => Some(b"write-open"),
+            _ => None,
         }
     }
 }

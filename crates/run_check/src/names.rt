@@ -90,19 +90,12 @@ impl<'a, T: Drop> Named<'a, T> {
         }
     }
 
-    /// The place of the value of a name.
-    pub(crate) fn place(&self, name: &Text) -> Option<usize>
-        ensures { result ≡ place_in name.now self.now.names }
-    {
-        self.names.place(name)
-    }
-
     /// The value of a name.
     pub(crate) fn get(&self, name: &Text) -> Option<&T>
         ensures { option_map (λ v. v.now) result
             ≡ value_named name.now self.now.names self.now.values.items }
     {
-        self.at(self.place(name)?)
+        self.at(self.names.place(name)?)
     }
 
     /// The value at a place.

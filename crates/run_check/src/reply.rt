@@ -2,7 +2,6 @@
 ghost use Rattle.std.specs.Prelude.{◌≡◌, ◌++◌, OnOk, codes, decimal, map, reverse};
 ghost use Rattle.client_script.specs.Reply.{did_lines, further};
 
-use crate::client::Writing;
 use mdb_datum::Text;
 use run_io::write_number;
 use std::alloc::AllocError;
@@ -15,16 +14,8 @@ pub(crate) fn write_numbered(word: &[u8], number: u64, out: &mut Vec<u8>) -> Res
     write_number(number, out)
 }
 
-/// Adds a line for each deferred text, the last first.
-pub(crate) fn write_deferred(writing: &Writing<'_>, out: &mut Vec<u8>) -> Result<(), AllocError>
-    ensures { OnOk result (out.new.items ≡ out.old.items
-        ++ did_lines (reverse (map (λ text. text.now) writing.now.texts.items))) }
-{
-    write_texts(&writing.texts, out)
-}
-
-/// Adds a line for each of these texts, the last first.
-fn write_texts(texts: &[&Text], out: &mut Vec<u8>) -> Result<(), AllocError>
+/// Adds a line for each of these deferred texts, the last first.
+pub(crate) fn write_deferred(texts: &[&Text], out: &mut Vec<u8>) -> Result<(), AllocError>
     ensures { OnOk result (out.new.items ≡ out.old.items
         ++ did_lines (reverse (map (λ text. text.now) texts.now))) }
 {

@@ -1,12 +1,10 @@
 //! The first test of an output, its shape: each client's replies as they stand in the text.
-ghost use Rattle.std.specs.Prelude.{◌≡◌, ◌<◌, ◌≤◌, ◌+◌, ◌-◌, ◌^◌, ◌++◌, ◌∷◌, MatchResult, codes};
+ghost use Rattle.std.specs.Prelude.{◌≡◌, ◌<◌, ◌≤◌, ◌+◌, ◌-◌, ◌^◌, MatchResult};
 ghost use Rattle.std.specs.Prelude.{drop, length, option_map, take};
 ghost use Rattle.std.specs.Result.{result_map_both};
-ghost use Rattle.std.specs.Str.{bytes_eq};
 ghost use Rattle.run_check.specs.Shape.{answer_in, behind_number, is_further, is_heading, is_refusal};
 ghost use Rattle.run_check.specs.Shape.{may_answer, shape, take_client, take_replies, take_reply};
 ghost use Rattle.run_check.specs.declared.mode.Mode.TheVariants.{Idle};
-ghost use Rattle.run_check.specs.TextLines.{holds_of};
 ghost use Rattle.run_check.specs.inner.Further.{IsBadBehind, IsBadRow, IsBehindAnswer};
 ghost use Rattle.run_check.specs.inner.Further.{IsBehindFurther, IsBehindRow, IsBehindRows, IsNoRow};
 ghost use Rattle.run_check.specs.Reads.{Reads, clients_of, replies_of};
@@ -40,23 +38,15 @@ type Taken<'a> = (Printed<'a>, Place<'a>);
 /// The replies of a client, in order.
 pub(crate) type Replies<'a> = Vec<Printed<'a>>;
 
-/// Whether bytes are this number and, after a blank, this word.
-fn is_number_and_word(number: u64, word: &[u8], bytes: &[u8]) -> bool
-    ensures { result
-        ≡ holds_of (λ rest. bytes_eq rest (32 ∷ word.now)) (behind_number number bytes.now) }
-{
-    match behind_number(number, bytes) {
-        Some(rest) => is_two_words(b" ", word, rest),
-        None => false,
-    }
-}
-
 /// Whether a line is the heading `client K WORD`.
 fn is_heading(number: u64, word: &[u8], line: &[u8]) -> bool
     ensures { result ≡ is_heading number word.now line.now }
 {
     match behind(b"client ", line) {
-        Some(rest) => is_number_and_word(number, word, rest),
+        Some(found) => match behind_number(number, found) {
+            Some(rest) => is_two_words(b" ", word, rest),
+            None => false,
+        },
         None => false,
     }
 }
@@ -79,20 +69,13 @@ fn is_refusal(answer: &[u8]) -> bool
     }
 }
 
-/// Whether an answer is the refusal by this rule.
-fn is_refused_by(rule: &[u8], answer: &[u8]) -> bool
-    ensures { result ≡ bytes_eq answer.now (codes "refused " ++ rule.now) }
-{
-    is_two_words(b"refused ", rule, answer)
-}
-
 /// Whether a command may be answered so: by the refusal that the order of the lines decides; where
 /// that decides none, by another refusal or in a form of its own.
 fn may_answer(mode: Mode, command: &Command, answer: &[u8]) -> bool
     ensures { result ≡ may_answer mode command.now answer.now }
 {
     match mode.order_rule(command) {
-        Some(rule) => is_refused_by(rule, answer),
+        Some(rule) => is_two_words(b"refused ", rule, answer),
         None => is_refusal(answer) || has_form(command, answer),
     }
 }

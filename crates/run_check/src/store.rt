@@ -42,7 +42,7 @@ impl Store {
 fn empty_table(alloc: Global, def: &TableDef) -> Result<Vec<Index>, AllocError>
     ensures { IfOk result (λ v. v.items ≡ empty_indexes def.now) }
 {
-    let mut indexes = Vec::with_capacity(alloc, def.len())?;
+    let mut indexes = Vec::new(alloc);
     'indexes: while indexes.len() < def.len() {
         indexes.push(Index::new(alloc))?;
     }

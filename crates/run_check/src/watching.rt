@@ -12,7 +12,7 @@ ghost use Rattle.run_check.specs.inner.IndexView.{Means};
 ghost use Rattle.run_check.specs.inner.StoreView.{Begun};
 ghost use Rattle.client_script.specs.Client.{nothing_watched};
 ghost use Rattle.run_check.specs.inner.ClientView.{watching_known};
-ghost use Rattle.run_check.specs.inner.WatchView.{AreLike, AtBoth, MayLeave, OneOf, ShareIndex};
+ghost use Rattle.run_check.specs.inner.WatchView.{AtBoth, MayLeave, OneOf, Tied};
 ghost use Rattle.run_check.specs.inner.WatchView.{IsAddedTo, IsNewSet, member_count, members_then};
 ghost use Rattle.run_check.specs.inner.NamedView.{place_in, value_named};
 ghost use Rattle.run_check.specs.declared.watching.Set.{Set};
@@ -21,9 +21,19 @@ use crate::index::{Index, Keys};
 use crate::lookup::Lookup;
 use crate::names::Named;
 use crate::same::is_same_query;
+use crate::slots::{are_all_same, is_first_same, is_last_same};
 use mdb_datum::Text;
 use mdb_schema::{Ask, Query};
 use std::alloc::{AllocError, Global};
+
+/// What two watches may have in common.
+#[derive(Clone, Copy)]
+enum Tie {
+    /// The question, and the commit after which it was asked.
+    Question,
+    /// The index where they look.
+    Index,
+}
 
 /// A watch: its question, and the number of the commit after which that was asked.
 #[derive(Drop)]
@@ -54,9 +64,9 @@ fn is_meant_same(index: &Index, ask: Ask, keys: &Keys, first: u64, last: u64) ->
         → Decides result (IsMeantSame ask meant first last index.now) }
 {
     match ask {
-        Ask::First => index.is_first_unchanged(keys, first, last),
-        Ask::Last => index.is_last_unchanged(keys, first, last),
-        _ => index.are_unchanged(keys, first, last),
+        Ask::First => is_first_same(index.slots_of(keys), first, last),
+        Ask::Last => is_last_same(index.slots_of(keys), first, last),
+        _ => are_all_same(index.slots_of(keys), first, last),
     }
 }
 
@@ -137,18 +147,16 @@ impl<'a> Watch<'a> {
         }
     }
 
-    /// Whether another watch is of the same question, asked after the same commit.
-    fn is_like(&self, other: &Watch<'_>) -> bool
-        ensures { Decides result (AreLike self.now other.now) }
+    /// Whether another watch has this in common with it.
+    fn is_tied(&self, tie: Tie, other: &Watch<'_>) -> bool
+        ensures { Decides result (Tied tie self.now other.now) }
     {
-        self.number == other.number && is_same_query(self.query, other.query)
-    }
-
-    /// Whether another watch looks at the same index.
-    fn shares_index(&self, other: &Watch<'_>) -> bool
-        ensures { Decides result (ShareIndex self.now other.now) }
-    {
-        self.at.table == other.at.table && self.at.index == other.at.index
+        match tie {
+            Tie::Question => {
+                self.number == other.number && is_same_query(self.query, other.query)
+            }
+            Tie::Index => self.at.table == other.at.table && self.at.index == other.at.index,
+        }
     }
 }
 
@@ -198,16 +206,17 @@ impl Set {
         ensures { Decides result (MayLeave watches.now.values.items self.now place size) }
     {
         if self.grows(size) {
-            !is_among(watches, &self.added, place)
+            !is_tied_to_one(watches, Tie::Question, &self.added, place)
         } else {
-            size == self.members.len() as u64 && has_index(watches, &self.members, place)
+            size == self.members.len() as u64
+                && is_tied_to_one(watches, Tie::Index, &self.members, place)
         }
     }
 }
 
-/// Whether the watches at two places are of the same question, asked after the same commit.
-fn are_like(watches: &Named<'_, Watch<'_>>, one: usize, other: usize) -> bool
-    ensures { Decides result (AtBoth AreLike watches.now.values.items one other) }
+/// Whether the watches at two places have this in common.
+fn are_tied(watches: &Named<'_, Watch<'_>>, tie: Tie, one: usize, other: usize) -> bool
+    ensures { Decides result (AtBoth (Tied tie) watches.now.values.items one other) }
 {
     let Some(first) = watches.at(one) else {
         return false;
@@ -215,40 +224,15 @@ fn are_like(watches: &Named<'_, Watch<'_>>, one: usize, other: usize) -> bool
     let Some(second) = watches.at(other) else {
         return false;
     };
-    first.is_like(second)
+    first.is_tied(tie, second)
 }
 
-/// Whether a watch of the same question, asked after the same commit, is among these.
-fn is_among(watches: &Named<'_, Watch<'_>>, places: &[usize], place: usize) -> bool
-    ensures { Decides result (OneOf AreLike watches.now.values.items places.now place) }
+/// Whether one of the watches at these places has this in common with the one at a place.
+fn is_tied_to_one(watches: &Named<'_, Watch<'_>>, tie: Tie, places: &[usize], place: usize) -> bool
+    ensures { Decides result (OneOf (Tied tie) watches.now.values.items places.now place) }
 {
     for other in places {
-        if are_like(watches, *other, place) {
-            return true;
-        }
-    }
-    false
-}
-
-/// Whether the watches at two places look at the same index.
-fn share_index(watches: &Named<'_, Watch<'_>>, one: usize, other: usize) -> bool
-    ensures { Decides result (AtBoth ShareIndex watches.now.values.items one other) }
-{
-    let Some(first) = watches.at(one) else {
-        return false;
-    };
-    let Some(second) = watches.at(other) else {
-        return false;
-    };
-    first.shares_index(second)
-}
-
-/// Whether one of these watches looks at the same index.
-fn has_index(watches: &Named<'_, Watch<'_>>, places: &[usize], place: usize) -> bool
-    ensures { Decides result (OneOf ShareIndex watches.now.values.items places.now place) }
-{
-    for other in places {
-        if share_index(watches, *other, place) {
+        if are_tied(watches, tie, *other, place) {
             return true;
         }
     }
@@ -278,7 +262,7 @@ impl<'a> Watching<'a> {
             self.new.sets.names self.new.sets.values.items) }
         ensures watches { self.new.watches ≡ self.old.watches }
     {
-        match self.sets.place(name) {
+        match self.sets.names.place(name) {
             Some(place) => Ok(place),
             None => self.sets.add(alloc, name, Set::new(alloc)),
         }

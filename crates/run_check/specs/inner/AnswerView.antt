@@ -1,9 +1,10 @@
 -- The answer to a question, of the pairs that are seen in the index where it looks.
-use Rattle.std.specs.Prelude.{List, Bool, true, false, IsTrue, is_some, ⊤}
+use Rattle.std.specs.Prelude.{List, Bool, Option, true, false, IsTrue, is_some, ⊤}
 use Rattle.std.specs.FinMap as finite
 use Rattle.std.specs.Ordering.{is_ge, is_le}
 use Rattle.mdb_datum.specs.Bytes.{Bytes, byte_order, is_prefix}
-use Rattle.mdb_datum.specs.Row.{Pair}
+use Rattle.mdb_datum.specs.Pairs.{first_item, last_item}
+use Rattle.mdb_datum.specs.Row.{Fields, Pair}
 use Rattle.mdb_schema.specs.Answer.{answer}
 use Rattle.mdb_schema.specs.declared.answer.Answer.{Answer}
 use Rattle.mdb_schema.specs.declared.answer.Answer.TheVariants.{One, Many}
@@ -14,6 +15,11 @@ use Rattle.run_check.specs.declared.lookup.Lookup.{Lookup}
 -- the keys of pairs rise, as those of entries do
 abbrev pub KeysRise : List Pair → Type 0
 KeysRise es = IsTrue (finite.is_sorted byte_order es)
+
+-- the first of some rows, or the last
+abbrev pub end_item : Bool → List Fields → Option Fields
+end_item true rows = last_item rows
+end_item false rows = first_item rows
 
 -- questions for one row
 abbrev pub IsForOne : Ask → Type 0

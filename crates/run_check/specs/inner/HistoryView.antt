@@ -6,8 +6,10 @@ use Rattle.mdb_schema.specs.History.{Commit, History, state_at}
 use Rattle.mdb_schema.specs.LawfulSchema.{IsLawfulSchema}
 use Rattle.mdb_schema.specs.Schema.{DbSchema, TableSchema}
 use Rattle.mdb_schema.specs.State.{State}
-use Rattle.mdb_schema.specs.Write.{Changed, Tested, Write, WriteRefusal, remove}
+use Rattle.mdb_schema.specs.Write.{Changed, Tested, Write, WriteRefusal, put, put_row, remove, remove_row}
 use Rattle.run_check.specs.Commits.{Committed, accepted_step, followed, history_of}
+use Rattle.run_check.specs.declared.history.Edit.{Edit}
+use Rattle.run_check.specs.declared.history.Edit.TheVariants as edits
 use Rattle.run_check.specs.declared.sight.Stamp.{Stamp}
 use Rattle.run_check.specs.declared.store.Store as store
 use Rattle.run_check.specs.inner.EditView.{HasChanged}
@@ -35,9 +37,24 @@ Makes schema number writes old new = (H : History) (c : Commit) → IsMaking sch
 -- a write is done in the indexes of a table, or it is refused and nothing has changed
 abbrev pub IsDone : TableSchema → List Fields → List Fields → Tested Changed → Stamp
     → List KeyVersions → List KeyVersions → Type 0
-IsDone t rows put told stamp old new =
-    HasChanged t rows put told stamp old new
+IsDone t rows added told stamp old new =
+    HasChanged t rows added told stamp old new
     ⊎ ((why : WriteRefusal) × (told ≡ Err why) × (new ≡ old))
+
+-- a row is put, or the row of its `id` key is taken out
+abbrev pub edited : Edit → Bytes → Fields → Write
+edited edits.Put name row = put name row
+edited edits.Remove name row = remove name row
+
+-- so it is in its table
+abbrev pub row_edited : Edit → TableSchema → Fields → List Fields → Tested Changed
+row_edited edits.Put t row rows = put_row t row rows
+row_edited edits.Remove t row rows = remove_row t row rows
+
+-- the rows that are put
+abbrev pub rows_put : Edit → Fields → List Fields
+rows_put edits.Put row = row ∷ []
+rows_put edits.Remove row = []
 
 -- rows are taken out one after the other, each where it is still there
 abbrev pub removed_each : DbSchema → Bytes → List Fields → State → List Write

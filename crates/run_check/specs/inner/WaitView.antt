@@ -8,7 +8,7 @@ use Rattle.mdb_schema.specs.Schema.{DbSchema}
 use Rattle.mdb_schema.specs.Watchable.{IsTouched}
 use Rattle.client_script.specs.Client.{Watch}
 use Rattle.client_script.specs.Watching.{AreUnchanged}
-use Rattle.run_check.specs.declared.session.waits.Woken.{Woken}
+use Rattle.run_check.specs.declared.member.Woken.{Woken}
 use Rattle.run_check.specs.inner.ClientView.{watches_at}
 use Rattle.run_check.specs.inner.Decided.{HasName, IsFirstNamed}
 

@@ -2,6 +2,8 @@
 use Rattle.std.specs.Prelude.{◌≡◌, ◌⊎◌, ◌+◌, ◌<◌, ◌++◌, ◌∷◌, ℕ, List, [], length, Option, Some, None, slice_get, slice_index, slice_set, if◌then◌else◌, nat_eq}
 use Rattle.mdb_datum.specs.Bytes.{Bytes}
 use Rattle.run_check.specs.declared.watching.Set.{Set}
+use Rattle.run_check.specs.declared.watching.Tie.{Tie}
+use Rattle.run_check.specs.declared.watching.Tie.TheVariants as ties
 use Rattle.run_check.specs.declared.watching.Watch.{Watch}
 
 -- they are of one question, asked after the same commit
@@ -11,6 +13,11 @@ AreLike a b = (a.number ≡ b.number) × (a.query.now ≡ b.query.now)
 -- they look at one index
 abbrev pub ShareIndex : Watch → Watch → Type 0
 ShareIndex a b = (a.at.table ≡ b.at.table) × (a.at.index ≡ b.at.index)
+
+-- they have this in common
+abbrev pub Tied : Tie → Watch → Watch → Type 0
+Tied ties.Question = AreLike
+Tied ties.Index = ShareIndex
 
 -- so are those at two places
 abbrev pub AtBoth : (Watch → Watch → Type 0) → List Watch → ℕ → ℕ → Type 0

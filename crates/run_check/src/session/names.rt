@@ -80,7 +80,7 @@ impl<'a> Sessions<'a> {
         ensures kept { self.new ≡ record self.old { text = self.new.text } }
     {
         let sight = knows.sight()?;
-        if knows.snapshots.place(name).is_some() {
+        if knows.snapshots.names.place(name).is_some() {
             return Err(Refused::By(Rule::NameTaken));
         }
         knows.snapshots.add(self.alloc, name, sight)?;
@@ -116,7 +116,7 @@ impl<'a> Sessions<'a> {
             (watch_turn schema H (known txns knows.old) (Ok (sight_known txns sight)) name.now query.now)
             (known txns knows.old) self.old.text.items self.new knows.new result }
     {
-        if knows.watching.watches.place(name).is_some() {
+        if knows.watching.watches.names.place(name).is_some() {
             return Err(Refused::By(Rule::NameTaken));
         }
         if sight.own.is_some() {

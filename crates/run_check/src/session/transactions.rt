@@ -174,7 +174,7 @@ impl<'a> Sessions<'a> {
         let number = writing.number + 1;
         write_numbered(b"commit @", number, &mut self.text)?;
         write_changes(self.schema, &self.store, &writing, &mut self.text)?;
-        write_deferred(&writing, &mut self.text)?;
+        write_deferred(&writing.texts, &mut self.text)?;
         knows.last = number;
         Ok(())
     }

@@ -1,6 +1,6 @@
 //! Lines that wait for a watch.
 ghost use Rattle.std.specs.Prelude.{◌≡◌, ◌<◌, ◌≤◌, ◌+◌, [], Decides, IfErr, IfOk, IfSome, IsSome, List, None};
-ghost use Rattle.std.specs.Prelude.{Option, Some, codes, length, option_and_then, option_map, slice_get};
+ghost use Rattle.std.specs.Prelude.{Option, Some, codes, length, option_and_then, slice_get};
 ghost use Rattle.mdb_schema.specs.History.{History};
 ghost use Rattle.mdb_schema.specs.Schema.{DbSchema};
 ghost use Rattle.client_script.specs.Client as plain;
@@ -18,19 +18,9 @@ ghost use Rattle.run_check.specs.inner.WaitView.{ArePlaced, HasFiredAt, IsEnd, T
 use crate::behind::behind;
 use crate::client::Client;
 use crate::decimal::number_behind;
-use crate::member::member_named;
+use crate::member::{Woken, member_named};
 use crate::session::{Refused, Sessions};
-use mdb_datum::Text;
 use std::alloc::AllocError;
-
-/// The member of a set that a text tells to have fired: where it stands among the members, its name,
-/// and what the text has behind the name.
-#[derive(Clone, Copy)]
-struct Woken<'a, 't> {
-    place: usize,
-    name: &'a Text,
-    behind: &'t [u8],
-}
 
 impl<'a> Sessions<'a> {
     /// Waits for the members of the set at a place, or for the watch that cancels.
@@ -160,7 +150,12 @@ impl<'a> Sessions<'a> {
     }
 
     /// Whether a place is that of a watch that may be told to have fired after so many commits.
-    fn place_has_fired(&self, knows: &Client<'a>, place: Option<usize>, commits: u64) -> bool
+    pub(super) fn place_has_fired(
+        &self,
+        knows: &Client<'a>,
+        place: Option<usize>,
+        commits: u64,
+    ) -> bool
         requires known { AreKnown self.now knows.now }
         ensures { (schema : DbSchema) (H : History) (txns : List Begun)
             → IsKnown schema H txns self.now knows.now
@@ -170,7 +165,7 @@ impl<'a> Sessions<'a> {
             return false;
         };
         match knows.watching.watches.at(place) {
-            Some(watch) => self.has_fired(watch, commits),
+            Some(watch) => watch.has_fired(self.store.table(watch.at.table), commits),
             None => false,
         }
     }
@@ -209,27 +204,5 @@ fn told_member<'a, 't>(knows: &Client<'a>, set: usize, text: &'t [u8]) -> Option
         → IfSome result (λ told. told.place < length s.members.items) }
 {
     let rest = behind(b"fired ", text)?;
-    let place = member_named(&knows.watching, set, rest)?;
-    let name = member_name(knows, set, place)?;
-    let behind = behind(name.as_str().as_bytes(), rest)?;
-    Some(Woken {
-        place,
-        name,
-        behind,
-    })
-}
-
-/// The name of a set's member at a place.
-fn member_name<'a>(knows: &Client<'a>, set: usize, place: usize) -> Option<&'a Text>
-    ensures { (s : Set) → slice_get knows.now.watching.sets.values.items set ≡ Some s
-        → option_map (λ name. name.now) result
-        ≡ option_and_then (slice_get knows.now.watching.watches.names)
-        (slice_get s.members.items place) }
-{
-    let members = knows.watching.sets.at(set)?;
-    knows
-        .watching
-        .watches
-        .names
-        .at(*members.members.get(place)?)
+    member_named(&knows.watching, set, rest)
 }

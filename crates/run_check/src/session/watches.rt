@@ -1,25 +1,22 @@
 //! Lines of watches.
-ghost use Rattle.std.specs.Prelude.{◌≡◌, ◌<◌, ◌≤◌, ◌+◌, [], Decides, IfOk, List, OnOk, Some};
+ghost use Rattle.std.specs.Prelude.{◌≡◌, ◌≤◌, ◌+◌, [], Decides, IfOk, List, OnOk, Some};
 ghost use Rattle.std.specs.Prelude.{if◌then◌else◌, length, slice_get};
 ghost use Rattle.mdb_schema.specs.Guarded.{IsUnchanged};
 ghost use Rattle.mdb_schema.specs.History.{History, IsMadeBy};
 ghost use Rattle.mdb_schema.specs.Schema.{DbSchema};
-ghost use Rattle.mdb_schema.specs.Watchable.{HasFound, IsTouched};
 ghost use Rattle.client_script.specs.Client as plain;
 ghost use Rattle.client_script.specs.declared.command.Command.TheVariants as commands;
 ghost use Rattle.client_script.specs.declared.command.WatchesCommand.TheVariants as watches_lines;
 ghost use Rattle.run_check.specs.declared.client.Client.{Client};
 ghost use Rattle.run_check.specs.inner.ClientView.{known, watches_known};
-ghost use Rattle.run_check.specs.inner.GuardView.{IsWatchedAt};
-ghost use Rattle.run_check.specs.inner.SessionView.{AreKnown, IsDue, IsKnown, IsSoundWatch, TellsLine, TellsSize};
-ghost use Rattle.run_check.specs.inner.StoreView.{Begun, indexes_at};
+ghost use Rattle.run_check.specs.inner.SessionView.{AreKnown, IsDue, IsKnown, TellsLine, TellsSize};
+ghost use Rattle.run_check.specs.inner.StoreView.{Begun};
 
 use crate::called::{awaited_both, awaited_set, limited_watch, looked_watch, watch_place};
 use crate::client::Client;
 use crate::decimal::number_behind;
 use crate::reply::write_numbered;
 use crate::session::{Refused, Sessions};
-use crate::watching::Watch;
 use client_script::WatchesCommand;
 use mdb_datum::Text;
 use std::alloc::AllocError;
@@ -118,7 +115,7 @@ impl<'a> Sessions<'a> {
             return Ok(());
         }
         if let Some(number) = self.say_number(knows, b"fired @", text)? {
-            let fired = self.is_fired_at(knows, place, number);
+            let fired = self.place_has_fired(knows, Some(place), number);
             self.keep_if(fired);
             return Ok(());
         }
@@ -151,22 +148,12 @@ impl<'a> Sessions<'a> {
             (IsUnchanged schema H (client + 1) w.query w.number commits)) }
     {
         match knows.watching.watches.at(place) {
-            Some(watch) => self.is_quiet(client, watch, commits),
+            Some(watch) => {
+                let indexes = self.store.table(watch.at.table);
+                let is_own = self.is_own(client, commits);
+                watch.is_quiet(self.alloc, indexes, commits, is_own)
+            }
             None => Ok(false),
-        }
-    }
-
-    /// Whether the watch at a place may be told to have fired after so many commits.
-    fn is_fired_at(&self, knows: &Client<'a>, place: usize, commits: u64) -> bool
-        requires known { AreKnown self.now knows.now }
-        ensures { (schema : DbSchema) (H : History) (txns : List Begun) (w : plain.Watch)
-            → IsKnown schema H txns self.now knows.now
-            → slice_get (watches_known knows.now.watching) place ≡ Some w
-            → Decides result (IsTouched schema H w.query w.number commits) }
-    {
-        match knows.watching.watches.at(place) {
-            Some(watch) => self.has_fired(watch, commits),
-            None => false,
         }
     }
 
@@ -185,39 +172,5 @@ impl<'a> Sessions<'a> {
             Some(commit) => commit.client == client,
             None => false,
         }
-    }
-
-    /// Whether a client may be told that a watch is quiet after so many commits.
-    pub(super) fn is_quiet(
-        &self,
-        client: usize,
-        watch: &Watch<'a>,
-        commits: u64,
-    ) -> Result<bool, AllocError>
-        requires table { watch.now.at.table < length self.now.store.tables.items }
-        requires index { watch.now.at.index < length (indexes_at self.now.store watch.now.at.table) }
-        ensures { (schema : DbSchema) (H : History) (txns : List Begun) (v : Client)
-            → IsKnown schema H txns self.now v → IsSoundWatch schema H watch.now
-            → commits ≤ length H
-            → IfOk result (λ is_quiet. Decides is_quiet
-            (IsUnchanged schema H (client + 1) watch.now.query.now watch.now.number commits)) }
-    {
-        let indexes = self.store.table(watch.at.table);
-        watch.is_quiet(self.alloc, indexes, commits, self.is_own(client, commits))
-    }
-
-    /// Whether a watch may be told to have fired after so many commits.
-    pub(super) fn has_fired(&self, watch: &Watch<'a>, commits: u64) -> bool
-        requires table { watch.now.at.table < length self.now.store.tables.items }
-        requires index { watch.now.at.index < length (indexes_at self.now.store watch.now.at.table) }
-        ensures { (schema : DbSchema) (H : History) (txns : List Begun)
-            (w : IsWatchedAt schema H txns watch.now.query.now watch.now.at
-            (indexes_at self.now.store watch.now.at.table))
-            → Decides watch.now.has_found
-            (HasFound schema H watch.now.query.now watch.now.number w.lookup.at)
-            → Decides result
-            (IsTouched schema H watch.now.query.now watch.now.number commits) }
-    {
-        watch.has_fired(self.store.table(watch.at.table), commits)
     }
 }

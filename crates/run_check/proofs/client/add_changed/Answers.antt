@@ -10,8 +10,7 @@ use Rattle.run_check.proofs.client.add_changed.Goals as goal
 
 pub returns-clause-added : goal.returns-clause-added
 returns-clause-added c =
-    let key = c.extend_from_slice.new.self in
-    let is : key.items ≡ c.args.table ∷ c.args.id.now = search rules in
+    let is : c.in_ok-key.key.items ≡ c.args.table ∷ c.args.id.now = search rules in
     ap (map (λ (v : Vec ℕ Global). v.items)) c.in_ok-insert.ensures.keys
-    ∙ key_inserted c.args.writing.now.changed.keys key
+    ∙ key_inserted c.args.writing.now.changed.keys c.in_ok-key.key
     ∙ ap (insert_key (slice_cmp nat_cmp) (changed_of c.args.writing.now)) is

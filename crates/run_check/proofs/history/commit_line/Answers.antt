@@ -10,11 +10,11 @@ use Rattle.run_check.proofs.history.commit_line.Goals as goal
 
 pub returns-in-Insert : goal.returns-in-Insert
 returns-in-Insert c =
-    subst (λ (l : WriteCommand). OnOk c.commit_put.result (Makes c.args.schema.now c.args.number (λ s. accepted_line c.args.schema.now s l) c.args.store.now c.commit_put.new.store)) (sym c.in-Insert.is) c.commit_put.ensures
+    subst (λ (l : WriteCommand). OnOk c.commit_edit.result (Makes c.args.schema.now c.args.number (λ s. accepted_line c.args.schema.now s l) c.args.store.now c.commit_edit.new.store)) (sym c.in-Insert.is) c.commit_edit.ensures
 
 pub returns-in-Delete : goal.returns-in-Delete
 returns-in-Delete c =
-    subst (λ (l : WriteCommand). OnOk c.commit_remove.result (Makes c.args.schema.now c.args.number (λ s. accepted_line c.args.schema.now s l) c.args.store.now c.commit_remove.new.store)) (sym c.in-Delete.is) c.commit_remove.ensures
+    subst (λ (l : WriteCommand). OnOk c.commit_edit-in-Delete.result (Makes c.args.schema.now c.args.number (λ s. accepted_line c.args.schema.now s l) c.args.store.now c.commit_edit-in-Delete.new.store)) (sym c.in-Delete.is) c.commit_edit-in-Delete.ensures
 
 pub returns-in-DeleteAll : goal.returns-in-DeleteAll
 returns-in-DeleteAll c =

@@ -9,14 +9,14 @@ use Rattle.run_check.proofs.history.remove_rows.Goals as goal
 pub loop-at-init : goal.loop-at-init
 loop-at-init c = made_none c.args.schema.now c.args.number c.args.store.now
 
-pub commit_remove-requires : goal.commit_remove-requires
-commit_remove-requires c = still_begun c.args.schema.now c.args.number (removed_each c.args.schema.now c.args.table.now (take c.loop-at.at c.args.rows.now)) c.args.store.now c.loop-at.store c.loop-at.invariant c.requires
+pub commit_edit-requires : goal.commit_edit-requires
+commit_edit-requires c = still_begun c.args.schema.now c.args.number (removed_each c.args.schema.now c.args.table.now (take c.loop-at.at c.args.rows.now)) c.args.store.now c.loop-at.store c.loop-at.invariant c.requires
 
 pub loop-at-preserved : goal.loop-at-preserved
 loop-at-preserved c =
     let within : c.loop-at.at < length c.args.rows.now = omega arith in
-    one_removed c.args.schema.now c.args.table.now c.args.number c.args.store.now c.loop-at.store c.commit_remove.new.store c.args.rows.now c.loop-at.at c.index-rows-at.result
-    (slice_get-get_or c.args.rows.now c.loop-at.at c.index-rows-at.result within ∙ ap Some (sym c.index-rows-at.is)) c.loop-at.invariant c.in_ok-commit_remove.ensures
+    one_removed c.args.schema.now c.args.table.now c.args.number c.args.store.now c.loop-at.store c.commit_edit.new.store c.args.rows.now c.loop-at.at c.index-rows-at.result
+    (slice_get-get_or c.args.rows.now c.loop-at.at c.index-rows-at.result within ∙ ap Some (sym c.index-rows-at.is)) c.loop-at.invariant c.in_ok-commit_edit.ensures
 
 pub returns : goal.returns
 returns c =

@@ -1,13 +1,11 @@
-use Rattle.std.proofs.Common.{◌∙◌, ◌+◌, ◌++◌, ◌∷◌, [], Some, ap, sym}
-use Rattle.mdb_datum.specs.Bytes.{Bytes}
+use Rattle.std.proofs.Common.{◌∙◌, Some, ap, sym}
 use Rattle.run_check.specs.inner.IndexView.{end_of}
 use Rattle.run_check.proofs.KeyRanges.{end_of-full, end_of-push}
 use Rattle.run_check.proofs.index.after_prefix.Goals as goal
 
 pub returns-then-last-lt255 : goal.returns-then-last-lt255
 returns-then-last-lt255 c =
-    let first = c.in_ok-end.ensures.items_if_clones_equal (λ x y e. e) in
-    ap Some (c.in_ok-push.ensures.items ∙ ap (λ (xs : Bytes). xs ++ (c.in-Some.last.now + 1) ∷ []) first)
+    ap Some c.in_ok-end.ensures
     ∙ sym (sym c.bytes.invariant ∙ ap end_of c.in-Some.ensures.cases.0 ∙ end_of-push c.in-Some.first.now c.in-Some.last.now c.if-last-lt255.true)
 
 pub bytes-preserved : goal.bytes-preserved

@@ -8,6 +8,7 @@ use Rattle.run_check.specs.TextLines.{number_behind}
 use Rattle.run_check.specs.inner.SessionView.{TellsMade}
 use Rattle.run_check.proofs.ChecksTold.{check_breaks, fired_looked, looks_on, nothing_looked, quiet_looked}
 use Rattle.run_check.proofs.NumbersTold.{IsSaid, none_said, number_said, said_known}
+use Rattle.run_check.proofs.PlacesWatched.{fired_there}
 use Rattle.run_check.proofs.WatchLines.{refused_line}
 use Rattle.run_check.proofs.session.Sessions.check.Goals as goal
 
@@ -45,8 +46,8 @@ returns-in-Some c = record {
       quiet_looked schema H txns (c.args.client + 1) c.args.name.now c.args.text.now s v watch (record { knows = knows; due = due; judged = judged; empty = empty }) x k told said c.in-Some.number c.in-Some.is c.in_ok-quiet.quiet tells c.keep_if.new.self c.keep_if.ensures.text c.keep_if.ensures.kept;
 }
 
-pub is_fired_at-fired-requires : goal.is_fired_at-fired-requires
-is_fired_at-fired-requires c = record {
+pub place_has_fired-fired-requires : goal.place_has_fired-fired-requires
+place_has_fired-fired-requires c = record {
   known =
       let (schema, H, txns, knows) = c.requires.known in
       let x = c.say_number.new.self in
@@ -76,10 +77,10 @@ returns-in-Some-2 c = record {
       let number = number_said schema H txns x k looking.knows (codes "fired @") text y l told now c.in-Some-2.number c.in-Some-2.is in
       let there = subst (λ (u : Client). slice_get (watches_known u.watching) c.in_ok-place.place ≡ Some watch) (sym number.after)
       (subst (λ (u : Client). slice_get (watches_known u.watching) c.in_ok-place.place ≡ Some watch) (sym first.same) at) in
-      let tells = c.is_fired_at-fired.ensures schema H txns watch (said_known schema H txns x k looking.knows (codes "fired @") text y l told now) there in
+      let tells = fired_there schema H (watches_known l.watching) c.in-Some-2.number c.in_ok-place.place watch c.place_has_fired-fired.result there (c.place_has_fired-fired.ensures schema H txns (said_known schema H txns x k looking.knows (codes "fired @") text y l told now)) in
       let z = c.keep_if-in-Some-2.new.self in
       subst (λ (u : Client). TellsMade schema H client (commands.Watches (watches_lines.Check c.args.name.now)) text z.text.items (known txns u) z l) first.same
-      (fired_looked schema H txns client c.args.name.now text x k watch looking y l told now c.in-Some-2.number c.in-Some-2.is c.is_fired_at-fired.result tells z c.keep_if-in-Some-2.ensures.text c.keep_if-in-Some-2.ensures.kept);
+      (fired_looked schema H txns client c.args.name.now text x k watch looking y l told now c.in-Some-2.number c.in-Some-2.is c.place_has_fired-fired.result tells z c.keep_if-in-Some-2.ensures.text c.keep_if-in-Some-2.ensures.kept);
 }
 
 pub returns : goal.returns

@@ -1,8 +1,11 @@
-use Rattle.std.proofs.Common.{◌≡◌, ◌+◌, ◌++◌, ap, sym, subst, refl, Some, None}
+use Rattle.std.proofs.Common.{◌≡◌, ◌∙◌, ◌+◌, ◌++◌, List, map, ap, sym, subst, refl, Some, None}
+use Rattle.std.specs.Borrow.{Bor}
+use Rattle.std.specs.Prelude.{reverse}
+use Rattle.mdb_datum.specs.Bytes.{Bytes}
 use Rattle.mdb_schema.specs.History.{state_at}
 use Rattle.mdb_schema.specs.Schema.{DbSchema}
 use Rattle.mdb_schema.specs.State.{State}
-use Rattle.client_script.specs.Reply.{changed_lines}
+use Rattle.client_script.specs.Reply.{changed_lines, did_lines}
 use Rattle.run_check.specs.declared.client.Client.{Client}
 use Rattle.run_check.specs.declared.sight.Sight.{Sight}
 use Rattle.run_check.specs.inner.ChangeView.{ShowsState, changes_of}
@@ -34,5 +37,6 @@ returns-clause-told c = λ schema H now txns k.
     let made = c.write_numbered.new.out.items in
     let changes : (old new : State) → ShowsState schema old before s.store → ShowsState schema new after s.store → c.write_changes.new.out.items ≡ made ++ changed_lines (changes_of schema old new (changed_of w)) =
     subst (λ (x : DbSchema). (old new : State) → ShowsState x old before s.store → ShowsState x new after s.store → c.write_changes.new.out.items ≡ made ++ changed_lines (changes_of x old new (changed_of w))) k.schema_is c.in_ok-write_changes.ensures in
+    let texts = c.in_ok-write_deferred.ensures ∙ ap (λ (ts : List (Bor Bytes)). c.write_changes.new.out.items ++ did_lines (reverse (map (λ (t : Bor Bytes). t.now) ts))) c.deref.ensures.value in
     commit_told schema H txns s v k w opened now s.text.items made c.write_changes.new.out.items c.write_deferred.new.out.items (with_last c.take_writing.new.self) c.in_ok-write_numbered.ensures
-    (changes (state_at schema H w.number) (state_seen schema H txns after) (shows_before schema H txns s v k w opened) (shows_now schema H txns s v k w opened)) c.in_ok-write_deferred.ensures (ap with_last c.in_ok-writing.ensures.closed)
+    (changes (state_at schema H w.number) (state_seen schema H txns after) (shows_before schema H txns s v k w opened) (shows_now schema H txns s v k w opened)) texts (ap with_last c.in_ok-writing.ensures.closed)

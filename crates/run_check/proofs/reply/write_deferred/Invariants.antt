@@ -2,7 +2,7 @@ use Rattle.std.proofs.Common.{◌≡◌, ◌≤◌, ◌++◌, List, ℕ, length,
 use Rattle.std.specs.Borrow.{Bor}
 use Rattle.std.specs.Prelude.{reverse}
 use Rattle.client_script.specs.Reply.{did_lines}
-use Rattle.run_check.proofs.reply.write_texts.Given as goal
+use Rattle.run_check.proofs.reply.write_deferred.Given as goal
 
 -- what was added so far, followed by the lines of the texts that are left, is the whole
 abbrev pub invariant-loop-left : goal.invariant-loop-left
