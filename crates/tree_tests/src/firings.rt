@@ -10,7 +10,6 @@ use std::sync::Arc;
 use watch_word::{Front, Watch, WatchCell};
 
 mod limit;
-mod run;
 
 /// Whether a cell has fired.
 fn has_moved(cell: &Arc<WatchCell>, front: &Front) -> Result<bool, AllocError>

@@ -1,10 +1,11 @@
 //! Nodes and edges alone, and the empty tree. Trees with keys are tried where they can be written.
-ghost use Rattle.std.specs.Prelude.{IfOk};
 ghost use Rattle.radix_node.specs.Edges.{EdgesRise};
 ghost use Rattle.radix_node.specs.Node.{edges_of, nodes_in};
 
 use crate::ending::holds;
-use crate::txns::written::{is_node, row};
+use crate::txns::both::Told;
+use crate::txns::tables::BYTES;
+use crate::txns::written::{is_node, labels_are, row};
 use radix_node::{Edge, Edges, Ids, Leaf, Left, Node, NodeRef, Tree};
 use std::alloc::{AllocError, Global};
 use std::sync::Arc;
@@ -22,16 +23,16 @@ fn empty_tree(alloc: Global) -> Result<(Tree, u64), AllocError> {
     Ok((tree, ids.next()))
 }
 
-/// Whether a tree has no key, and its root neither a leaf nor edges.
+/// Whether a tree has no key, its root neither a leaf nor edges, and both watches of a missing key
+/// are the cell 7.
 fn is_empty(tree: &Tree) -> bool {
-    let led = tree.seek(b"").is_some() && tree.seek(b"k").is_none();
-    led && tree.len() == 0 && tree.root().count() == 0 && is_node(tree.root(), b"", false, b"")
-}
-
-/// Whether both watches of a missing key are the cell 7.
-fn is_watched_at_7(tree: &Tree) -> bool {
     let (cell, row) = tree.get_watch(b"k");
-    cell.id() == 7 && row.is_none() && tree.seek_watch(b"k").id() == 7
+    let led = tree.seek(b"").is_some() && tree.seek(b"k").is_none();
+    let watched = cell.id() == 7 && row.is_none() && tree.seek_watch(b"k").id() == 7;
+    led && watched
+        && tree.len() == 0
+        && tree.root().count() == 0
+        && is_node(tree.root(), b"", false, b"")
 }
 
 /// Takes only what threads may share and hand to each other.
@@ -41,11 +42,11 @@ fn for_threads<T: Send + Sync>(shared: T) -> T {
 
 /// Whether a new tree, which threads may share, has no key, and is watched at its root, where its
 /// first owner is gone.
-fn is_new_tree_empty(alloc: Global) -> Result<bool, AllocError> {
+fn is_new_tree_empty(alloc: Global) -> Told {
     let (first, next) = empty_tree(alloc)?;
     let tree = for_threads(first.share()?);
     drop(first);
-    Ok(next == 8 && is_empty(&tree) && is_watched_at_7(&tree))
+    Ok(next == 8 && is_empty(&tree))
 }
 
 #[test]
@@ -61,72 +62,144 @@ fn cell(alloc: Global, id: u64) -> Result<Arc<WatchCell>, AllocError> {
     open_cell(alloc, &book, &front, id)
 }
 
-/// A node without leaf and edges, whose cell has the id 1.
-fn bare(alloc: Global, prefix: &[u8]) -> Result<NodeRef, AllocError> {
-    Node::of(alloc, prefix, None, Edges::new(alloc), cell(alloc, 1)?)
+/// An edge to a node without leaf and edges, whose cell has the id 1.
+fn edge(alloc: Global, label: u8) -> Result<Edge, AllocError> {
+    let node = Node::of(alloc, &[label], None, Edges::new(alloc), cell(alloc, 1)?)?;
+    Ok(Edge::of(label, node))
 }
 
-/// An edge to such a node.
-fn edge(alloc: Global, label: u8, prefix: &[u8]) -> Result<Edge, AllocError> {
-    Ok(Edge::of(label, bare(alloc, prefix)?))
+/// What is done to edges, and asked of them.
+enum Step {
+    /// Puts an edge, and tells whether that gives an old one.
+    Put(u8, bool),
+    /// A label has this place, or the one where it would go.
+    Find(u8, Result<usize, usize>),
+    /// A copy with an edge `x` in place of those from one place up to another has these labels.
+    Spliced(usize, usize, &'static [u8]),
+    /// A copy without the edge at a place has these labels.
+    Without(usize, &'static [u8]),
+    /// A second owner has these labels.
+    Share(&'static [u8]),
 }
 
-/// Edges by these labels.
-fn edges_by(alloc: Global, labels: &[u8]) -> Result<Edges, AllocError>
-    ensures { IfOk result (λ e. EdgesRise (nodes_in (edges_of e))) }
-{
-    let mut edges = Edges::new(alloc);
-    for label in labels {
-        edges.put(edge(alloc, *label, b"")?)?;
-    }
-    Ok(edges)
-}
-
-/// Labels, and their places among `a`, `b` and `d`, or those where they would go.
-static PLACES: [(u8, Result<usize, usize>); 4] = [
-    (b'c', Err(2)),
-    (b'd', Ok(2)),
-    (0, Err(0)),
-    (255, Err(3)),
+static STEPS: [Step; 22] = [
+    Step::Put(b'b', false),
+    Step::Put(b'd', false),
+    Step::Put(b'a', false),
+    Step::Find(b'c', Err(2)),
+    Step::Find(b'd', Ok(2)),
+    Step::Find(0, Err(0)),
+    Step::Find(255, Err(3)),
+    Step::Put(b'c', false),
+    Step::Spliced(1, 3, b"axd"),
+    Step::Spliced(0, 0, b"xabcd"),
+    Step::Spliced(4, 4, b"abcdx"),
+    Step::Spliced(0, 4, b"x"),
+    Step::Without(2, b"abd"),
+    Step::Without(0, b"bcd"),
+    Step::Without(3, b"abc"),
+    Step::Share(b"abcd"),
+    Step::Put(b'b', true),
+    Step::Share(b"abcd"),
+    Step::Put(0, false),
+    Step::Put(255, false),
+    Step::Share(b"\0abcd\xff"),
+    Step::Find(b'b', Ok(2)),
 ];
 
-/// Whether each label has its place.
-fn are_placed(edges: &Edges) -> bool
-    requires { EdgesRise (nodes_in (edges_of edges.now)) }
+/// Whether a put of an edge gives an old one where that is said, and the new one is in its place.
+fn is_put(alloc: Global, edges: &mut Edges, label: u8, had: bool) -> Told
+    requires { EdgesRise (nodes_in (edges_of edges.old)) }
+    ensures { EdgesRise (nodes_in (edges_of edges.new)) }
 {
-    for (label, place) in &PLACES {
-        if edges.find(*label) != *place {
-            return false;
+    let old = edges.put(edge(alloc, label)?)?;
+    Ok(old.is_some() == had)
+}
+
+/// Whether a copy with an edge `x` in place of some has these labels.
+fn is_spliced(alloc: Global, edges: &Edges, from: usize, to: usize, labels: &[u8]) -> Told {
+    if from > to || to > edges.len() {
+        return Ok(false);
+    }
+    let copy = edges.spliced(from, to, edge(alloc, b'x')?)?;
+    Ok(labels_are(&copy, labels))
+}
+
+/// Whether a copy without an edge has these labels.
+fn is_without(edges: &Edges, at: usize, labels: &[u8]) -> Told {
+    if at >= edges.len() {
+        return Ok(false);
+    }
+    let copy = edges.without(at)?;
+    Ok(labels_are(&copy, labels))
+}
+
+/// Whether a second owner has these labels.
+fn is_shared(edges: &Edges, labels: &[u8]) -> Told {
+    let copy = edges.share()?;
+    Ok(labels_are(&copy, labels))
+}
+
+/// Whether a step is answered as it says.
+fn is_done(alloc: Global, edges: &mut Edges, step: &Step) -> Told
+    requires { EdgesRise (nodes_in (edges_of edges.old)) }
+    ensures { EdgesRise (nodes_in (edges_of edges.new)) }
+{
+    match step {
+        Step::Put(label, had) => is_put(alloc, edges, *label, *had),
+        Step::Find(label, place) => Ok(edges.find(*label) == *place),
+        Step::Spliced(from, to, labels) => is_spliced(alloc, edges, *from, *to, labels),
+        Step::Without(at, labels) => is_without(edges, *at, labels),
+        Step::Share(labels) => is_shared(edges, labels),
+    }
+}
+
+/// Whether all steps are.
+fn are_done(alloc: Global) -> Told {
+    let mut edges = Edges::new(alloc);
+    for step in &STEPS {
+        if !is_done(alloc, &mut edges, step)? {
+            return Ok(false);
         }
     }
-    true
-}
-
-/// Whether a put of an edge `b` gives an old one, and the new one is in its place.
-fn is_replaced(alloc: Global, edges: &mut Edges) -> Result<bool, AllocError>
-    requires { EdgesRise (nodes_in (edges_of edges.old)) }
-{
-    let old = edges.put(edge(alloc, b'b', b"new")?)?;
-    match edges.get(1) {
-        Some(edge) => Ok(
-            old.is_some() && edges.len() == 3 && edge.node().prefix() == b"new".as_slice(),
-        ),
-        None => Ok(false),
-    }
-}
-
-/// Whether both hold of edges that are put in another order.
-fn three_are_placed(alloc: Global) -> Result<bool, AllocError> {
-    let mut edges = edges_by(alloc, b"dab")?;
-    Ok(are_placed(&edges) && is_replaced(alloc, &mut edges)?)
+    Ok(true)
 }
 
 #[test]
-fn a_label_has_its_place_or_the_one_where_it_would_go(rt: HostRuntime) -> Result<(), Fail> {
-    holds(three_are_placed(rt.alloc()))
+fn edges_are_placed_and_copied_by_their_labels(rt: HostRuntime) -> Result<(), Fail> {
+    holds(are_done(rt.alloc()))
+}
+
+/// Whether all bytes are labels in order once they are put in a scattered one, since 167 is odd.
+fn all_are_placed(alloc: Global) -> Told {
+    let mut edges = Edges::new(alloc);
+    for byte in &BYTES {
+        if !is_put(alloc, &mut edges, byte.wrapping_mul(167), false)? {
+            return Ok(false);
+        }
+    }
+    Ok(labels_are(&edges, &BYTES) && edges.get(256).is_none())
+}
+
+#[test]
+fn all_256_labels_are_in_order(rt: HostRuntime) -> Result<(), Fail> {
+    holds(all_are_placed(rt.alloc()))
 }
 
 // ---- nodes
+
+/// The leaf of the key `foo`, whose cell has the id 5.
+fn leaf(alloc: Global) -> Result<Arc<Leaf, Global>, AllocError> {
+    let row = row(alloc, 1)?;
+    Leaf::of(alloc, b"foo", &row, cell(alloc, 5)?)
+}
+
+/// A node of the prefix `foo`, whose cell has the id 3, with that leaf and an edge.
+fn foo(alloc: Global) -> Result<NodeRef, AllocError> {
+    let mut edges = Edges::new(alloc);
+    is_put(alloc, &mut edges, b'a', false)?;
+    Node::of(alloc, b"foo", Some(leaf(alloc)?), edges, cell(alloc, 3)?)
+}
 
 /// A key, what it has after the prefix `foo`, and how many bytes they have in common.
 static AFTER_FOO: [(&[u8], Option<&[u8]>, usize); 4] = [
@@ -146,30 +219,19 @@ fn are_after(node: &Node) -> bool {
     true
 }
 
-/// The same of a node of the prefix `foo`.
-fn are_after_foo(alloc: Global) -> Result<bool, AllocError> {
-    let foo = bare(alloc, b"foo")?;
-    Ok(are_after(foo.node()))
-}
-
-#[test]
-fn what_a_key_has_after_a_prefix(rt: HostRuntime) -> Result<(), Fail> {
-    holds(are_after_foo(rt.alloc()))
-}
-
-/// Bounds, and how many cells have an id below: those of the edges' nodes have the id 1.
-static BOUNDS: [(u64, usize); 4] = [(6, 4), (5, 3), (3, 2), (1, 0)];
+/// Bounds, and how many cells have an id below: that of the edge's node has the id 1.
+static BELOW: [(u64, usize); 4] = [(6, 3), (5, 2), (3, 1), (1, 0)];
 
 /// Whether so many cells of a node are listed, where ids below a bound are.
-fn lists(node: &Node, below: u64, count: usize, alloc: Global) -> Result<bool, AllocError> {
+fn lists(node: &Node, below: u64, count: usize, alloc: Global) -> Told {
     let mut cells = Left::new(alloc);
     node.push_cells(below, &mut cells)?;
     Ok(cells.len() == count)
 }
 
 /// Whether they are for each bound.
-fn lists_each(node: &Node, alloc: Global) -> Result<bool, AllocError> {
-    for (below, count) in &BOUNDS {
+fn lists_each(node: &Node, alloc: Global) -> Told {
+    for (below, count) in &BELOW {
         if !lists(node, *below, *count, alloc)? {
             return Ok(false);
         }
@@ -177,21 +239,16 @@ fn lists_each(node: &Node, alloc: Global) -> Result<bool, AllocError> {
     Ok(true)
 }
 
-/// A leaf of the key `p`, whose cell has the id 5.
-fn leaf(alloc: Global) -> Result<Arc<Leaf, Global>, AllocError> {
-    let row = row(alloc, 1)?;
-    Leaf::of(alloc, b"p", &row, cell(alloc, 5)?)
-}
-
-/// The same of a node whose cell has the id 3, with that leaf and two edges.
-fn lists_own(alloc: Global) -> Result<bool, AllocError> {
-    let leaf = leaf(alloc)?;
-    let edges = edges_by(alloc, b"ab")?;
-    let node = Node::of(alloc, b"p", Some(leaf), edges, cell(alloc, 3)?)?;
-    lists_each(node.node(), alloc)
+/// Whether both hold of that node.
+fn is_foo(alloc: Global) -> Told {
+    let foo = foo(alloc)?;
+    let told = lists_each(foo.node(), alloc)?;
+    Ok(told && are_after(foo.node()))
 }
 
 #[test]
-fn cells_are_listed_below_a_bound(rt: HostRuntime) -> Result<(), Fail> {
-    holds(lists_own(rt.alloc()))
+fn a_node_tells_what_is_after_its_prefix_and_lists_cells_below_a_bound(
+    rt: HostRuntime,
+) -> Result<(), Fail> {
+    holds(is_foo(rt.alloc()))
 }

@@ -8,6 +8,7 @@ ghost use Rattle.radix_node.specs.Cells.{AreCellsOf, AreOf};
 
 use super::has_moved;
 use crate::ending::holds;
+use crate::txns::both::Told;
 use crate::txns::written::Work;
 use notify_walk::fire_all;
 use radix_node::Tree;
@@ -27,9 +28,10 @@ fn key(number: u64) -> [u8; 2]
 }
 
 /// Puts a key, and then those of so many first bytes.
-fn put_firsts(work: &mut Work, lone: &[u8], firsts: u64) -> Result<(), AllocError>
-    requires { firsts ≤ 64 }
-{
+fn put_firsts(work: &mut Work, lone: &[u8], firsts: u64) -> Result<(), AllocError> {
+    if firsts > 64 {
+        return Err(AllocError);
+    }
     work.put(lone, 0)?;
     for number in 0..firsts * SECONDS {
         work.put(&key(number), 1)?;
@@ -37,12 +39,12 @@ fn put_firsts(work: &mut Work, lone: &[u8], firsts: u64) -> Result<(), AllocErro
     Ok(())
 }
 
-/// Takes out the keys of so many first bytes.
-fn take_firsts(work: &mut Work, gone: u8) -> Result<(), AllocError>
+/// Takes out the keys that begin with one of these.
+fn take_each(work: &mut Work, prefixes: &[&[u8]]) -> Result<(), AllocError>
     ensures { work.new.start ≡ work.old.start }
 {
-    for first in 0..gone {
-        work.take_all(&[first])?;
+    for prefix in prefixes {
+        work.take_all(prefix)?;
     }
     Ok(())
 }
@@ -108,52 +110,68 @@ fn fires_firsts(
     Ok(moved == 2 * gone * SECONDS && others == 0)
 }
 
-/// Whether a transaction on a tree with the keys of some first bytes, of which those of so many are
-/// gone, ends with a notice that lists so many cells, and fires the watches of what has gone alone.
-fn ends_so(
-    work: Work,
-    old: &Tree,
-    gone: u64,
-    firsts: u64,
-    listed: Option<u32>,
-) -> Result<bool, AllocError>
+/// A lone key, and how many first bytes have keys beside it; the prefixes of keys that go, and how many
+/// first bytes have none then; and how many cells the notice lists.
+type Case = (
+    &'static [u8],
+    u64,
+    &'static [&'static [u8]],
+    u64,
+    Option<u32>,
+);
+
+static CASES: [Case; 3] = [
+    // all keys
+    (b"", 18, &[b""], 18, Some(8_192)),
+    // and one cell more
+    (b"\x12", 18, &[b""], 18, None),
+    // a walk fires what has left alone
+    (
+        b"",
+        36,
+        &[
+            b"\x00", b"\x01", b"\x02", b"\x03", b"\x04", b"\x05", b"\x06", b"\x07", b"\x08",
+            b"\x09", b"\x0a", b"\x0b", b"\x0c", b"\x0d", b"\x0e", b"\x0f", b"\x10", b"\x11",
+            b"\x12",
+        ],
+        19,
+        None,
+    ),
+];
+
+/// Whether a transaction on a tree with the keys of a case ends with a notice that lists so many cells,
+/// and fires the watches of what has gone alone.
+fn ends_so(work: Work, old: &Tree, case: &Case) -> Told
     requires begun { old.now ≡ work.start }
-    requires within { gone ≤ firsts }
-    requires few { firsts ≤ 64 }
 {
+    let (_, firsts, _, gone, listed) = *case;
     let (_, notice, front) = work.freeze()?;
+    if gone > firsts || firsts > 64 {
+        return Ok(false);
+    }
     Ok(lists(&notice, listed) && fires_firsts(old, &notice, &front, gone, firsts)?)
 }
 
-/// Whether it is so where all keys go at once, of 18 first bytes and a lone key.
-fn all_fire(alloc: Global, lone: &[u8], listed: Option<u32>) -> Result<bool, AllocError> {
+/// Whether it is so where those keys go.
+fn is_right(alloc: Global, case: &Case) -> Told {
     let mut work = Work::new(alloc)?;
-    put_firsts(&mut work, lone, 18)?;
+    put_firsts(&mut work, case.0, case.1)?;
     let old = work.begin()?;
-    work.take_all(b"")?;
-    ends_so(work, &old, 18, 18, listed)
+    take_each(&mut work, case.2)?;
+    ends_so(work, &old, case)
 }
 
 #[test]
 fn a_notice_lists_8192_cells(rt: HostRuntime) -> Result<(), Fail> {
-    holds(all_fire(rt.alloc(), b"", Some(8_192)))
+    holds(is_right(rt.alloc(), &CASES[0]))
 }
 
 #[test]
 fn one_cell_more_is_found_by_a_walk(rt: HostRuntime) -> Result<(), Fail> {
-    holds(all_fire(rt.alloc(), b"\x12", None))
-}
-
-/// Whether it is so where the keys of the first 19 bytes of 36 go.
-fn some_fire(alloc: Global) -> Result<bool, AllocError> {
-    let mut work = Work::new(alloc)?;
-    put_firsts(&mut work, b"", 36)?;
-    let old = work.begin()?;
-    take_firsts(&mut work, 19)?;
-    ends_so(work, &old, 19, 36, None)
+    holds(is_right(rt.alloc(), &CASES[1]))
 }
 
 #[test]
 fn a_walk_fires_what_has_left_alone(rt: HostRuntime) -> Result<(), Fail> {
-    holds(some_fire(rt.alloc()))
+    holds(is_right(rt.alloc(), &CASES[2]))
 }

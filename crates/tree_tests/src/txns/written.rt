@@ -3,7 +3,6 @@ ghost use Rattle.std.specs.Prelude.{◌≡◌, ◌≤◌, true, false, IfOk, OnO
 ghost use Rattle.radix_node.specs.Cells.{AreBelow, AreCellsOf, AreOf};
 ghost use Rattle.radix_txn.specs.Notice.{IsNotice};
 
-use super::Line;
 use mdb_datum::{Datum, Row, read_doc};
 use radix_node::{Edges, Ids, Node, Tree};
 use radix_txn::{Edit, Notice, TreeTxn};
@@ -21,7 +20,7 @@ fn row_of(alloc: Global, text: &str) -> Result<Row, AllocError> {
 }
 
 /// The row of a number.
-pub fn row(alloc: Global, number: u64) -> Result<Row, AllocError> {
+pub fn row(alloc: Global, number: i128) -> Result<Row, AllocError> {
     let text = format!(in alloc; "{{\"n\":{number}}}")?;
     row_of(alloc, text.as_str())
 }
@@ -95,26 +94,28 @@ impl Work {
         key.len() <= 2_048 && !self.txn.spoiled()
     }
 
-    /// Puts the row of a number under a key, and gives the old row.
-    pub fn put(&mut self, key: &[u8], number: u64) -> Result<Option<Row>, AllocError> {
+    /// Puts a row under a key, and gives the number of the old row.
+    pub fn put_row(&mut self, key: &[u8], row: &Row) -> Result<Option<i128>, AllocError> {
+        if !self.is_ready(key) || self.ids.left() < 4_096 {
+            return Err(AllocError);
+        }
+        let old = self.txn.insert(&self.front, &mut self.ids, key, row)?;
+        Ok(number_of(old.as_ref()))
+    }
+
+    /// Puts the row of a number under a key.
+    pub fn put(&mut self, key: &[u8], number: i128) -> Result<Option<i128>, AllocError> {
         let row = row(self.alloc, number)?;
         self.put_row(key, &row)
     }
 
-    /// Puts a row under a key, and gives the old row.
-    fn put_row(&mut self, key: &[u8], row: &Row) -> Result<Option<Row>, AllocError> {
+    /// Takes out a key, and gives the number of its row.
+    pub fn take(&mut self, key: &[u8]) -> Result<Option<i128>, AllocError> {
         if !self.is_ready(key) || self.ids.left() < 4_096 {
             return Err(AllocError);
         }
-        self.txn.insert(&self.front, &mut self.ids, key, row)
-    }
-
-    /// Takes out a key, and gives its row.
-    pub fn take(&mut self, key: &[u8]) -> Result<Option<Row>, AllocError> {
-        if !self.is_ready(key) || self.ids.left() < 4_096 {
-            return Err(AllocError);
-        }
-        self.txn.delete(&self.front, &mut self.ids, key)
+        let old = self.txn.delete(&self.front, &mut self.ids, key)?;
+        Ok(number_of(old.as_ref()))
     }
 
     /// Takes out the keys that begin with a prefix, and tells how many there were.
@@ -201,26 +202,6 @@ fn ended_by(txn: TreeTxn) -> Result<(Tree, Notice), AllocError>
     txn.freeze()
 }
 
-/// Puts these keys in turn, each with its place for its number.
-fn put_each(work: &mut Work, keys: &[&[u8]]) -> Result<(), AllocError> {
-    for (place, key) in keys.iter().enumerate() {
-        work.put(key, place as u64)?;
-    }
-    Ok(())
-}
-
-/// A transaction with these keys put in turn, each with its place for its number.
-pub fn work_of(alloc: Global, keys: &[&[u8]]) -> Result<Work, AllocError> {
-    let mut work = Work::new(alloc)?;
-    put_each(&mut work, keys)?;
-    Ok(work)
-}
-
-/// The tree of these keys.
-pub fn tree_of(alloc: Global, keys: &[&[u8]]) -> Result<Tree, AllocError> {
-    work_of(alloc, keys)?.stand()
-}
-
 // ---- trees
 
 /// Whether these are the labels of edges, in their order.
@@ -238,6 +219,10 @@ pub fn is_node(node: &Node, prefix: &[u8], has_leaf: bool, labels: &[u8]) -> boo
     node.prefix() == prefix && node.leaf().is_some() == has_leaf && labels_are(node.edges(), labels)
 }
 
+/// A node of a tree: a path that leads to it, its own prefix, whether it has a leaf, and the labels
+/// of its edges.
+pub type Line = (&'static [u8], &'static [u8], bool, &'static [u8]);
+
 /// Whether the path of each line leads to its node.
 pub fn nodes_are(tree: &Tree, nodes: &[Line]) -> bool {
     for (path, prefix, has_leaf, labels) in nodes {
@@ -253,5 +238,10 @@ pub fn nodes_are(tree: &Tree, nodes: &[Line]) -> bool {
 
 /// Whether a notice has the cell of an id.
 pub fn has(notice: &Notice, id: u64) -> bool {
-    notice.cells().iter().any(|cell| cell.id() == id)
+    for cell in notice.cells() {
+        if cell.id() == id {
+            return true;
+        }
+    }
+    false
 }
