@@ -1,6 +1,5 @@
 -- The error that tells the refusal of a write, test by test.
 use Rattle.std.proofs.Common.{◌≡◌, ◌∙◌, ℕ, List, Some, Ok, Err, drop, slice_get, refl, sym, ap, subst, inl, inr}
-use Rattle.mdb_encode.specs.Bytes.{Bytes}
 use Rattle.mdb_encode.specs.KeyAnswers.{AnswersKeys, key_error}
 use Rattle.mdb_encode.specs.KeyRefusal.{KeyRefusal, wrong_kind, out_of_range, bad_uuid, too_many, too_long}
 use Rattle.mdb_encode.specs.Keys.{Keyed}
@@ -13,10 +12,6 @@ use Rattle.mdb_schema.proofs.Each.{behind, each_stops}
 use Rattle.mdb_schema.proofs.PassedTests.{goes_on}
 
 -- ---- the keys of a row in one index
-
-pub keys_answered : (k : Keyed) (ks : List Bytes) → AnswersKeys k (Ok ks) → k ≡ Ok ks
-keys_answered (Ok js) ks e = ap Ok (sym e)
-keys_answered (Err r) ks e = cc
 
 told_key : (place : ℕ) (r : KeyRefusal) → told_at place (key_error r) ≡ write_error (bad_key place r)
 told_key place wrong_kind = refl

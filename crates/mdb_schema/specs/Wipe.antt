@@ -1,8 +1,8 @@
 -- A wipe: the writes that take out each row that a question lists, each once, in the order of its
 -- first listing; or the first rule that the question breaks (go-memdb's `Txn.DeleteAll` and
--- `Txn.DeletePrefix`). The rules of the question are those of `lookup_of` in `Answer.antt`, after
--- that the table is there. A wipe by prefix has one more before them, `no_prefix_name` of
--- `wiped_rows_by_prefix` below.
+-- `Txn.DeletePrefix`). The rules, in their order: `unknown_table`; for a wipe by prefix
+-- `no_prefix_name`; those of `lookup_of` in `Answer.antt` that a question which asks as `get` may
+-- break, which are `unknown_index` and the rules of the arguments.
 use Rattle.std.specs.Prelude.{List, [], ◌∷◌, not, if◌then◌else◌, filter, map, Ok}
 use Rattle.mdb_datum.specs.Pairs.{rows_of, with_prefix}
 use Rattle.mdb_datum.specs.Row.{Fields}
