@@ -7,10 +7,12 @@ use Rattle.radix_node.specs.Cells.{AreApart, AreBelow, AreOf, CellTree, Piece, a
 use Rattle.radix_node.specs.Ids.{Book, Counter}
 use Rattle.radix_node.specs.Shape.{HasShape}
 use Rattle.radix_node.specs.Watches.{TellTheSame, HoldsWatched}
+use Rattle.radix_txn.specs.Drawn.{IsReady}
 use Rattle.radix_txn.specs.Notice.{IsBetween, IsDrawn, IsNotice, IsOpened, IsTold}
 use Rattle.radix_node.specs.Paths.{Has}
 use Rattle.radix_node.proofs.Members.{cell_piece, has_cell}
 use Rattle.radix_node.proofs.OneBook.{all_are, each_is}
+use Rattle.radix_txn.specs.Txn.{Txn}
 use Rattle.radix_txn.specs.inner.Unspoiled.{IsChanged, IsWritten}
 use Rattle.radix_txn.specs.inner.Steps.{IsNew, IsOnward, IsStep, Ledger, Steps, Tally, tally}
 use Rattle.radix_txn.proofs.Steps.{at, count_other, drawn_after, drawn_before, drawn_between, lt_or_le, step_same, step_then, step_weaker}
@@ -142,6 +144,21 @@ module _ (b : Bool) (first : ℕ) (start tree new : CellTree) (gone : List Cell)
       omega (arith, few, p, q)
 
 -- ---- in the words of a write's answers
+
+-- what a write knows of the transaction that it finds
+pub record Found (log : Log) (ids : Counter) (t : Txn) : Type 0 where
+  pub sound : t.spoiled ≡ false
+  pub below : AreBelow ids.next t.tree
+  pub of : AreOf log.book t.tree
+  pub below_start : AreBelow ids.next t.start
+
+pub found : (room : ℕ) (log : Log) (ids : Counter) (t u : Txn) → t ≡ u → IsReady room log ids u → Found log ids t
+found room log ids t u same ready = subst (Found log ids) (sym same) (record {
+  sound = ready.sound;
+  below = ready.within.tree;
+  of = subst (λ k. AreOf k u.tree) (sym ready.book) ready.within.of;
+  below_start = ready.within.start;
+})
 
 -- a write has ended: what is true of the tree then
 pub record Ended (start tree new : CellTree) (l d : Ledger) : Type 0 where

@@ -1,6 +1,6 @@
 -- The transaction has the tree that is left, and the cells that have left.
 use Rattle.std.proofs.Common.{refl, ◌≡◌, ◌≤◌, ◌∙◌, true, sym, ap, subst, IfNone, IfSome, cond}
-use Rattle.radix_node.specs.Cells.{AreBelow, AreOf, pieces_of, plain_of, root_of}
+use Rattle.radix_node.specs.Cells.{AreOf, pieces_of, plain_of, root_of}
 use Rattle.radix_node.specs.Ids.{Counter}
 use Rattle.radix_node.specs.Nodes.{pairs_of}
 use Rattle.radix_node.specs.Shape.{HasShape}
@@ -10,103 +10,64 @@ use Rattle.radix_txn.specs.inner.Outside.{AllIn, outside_node}
 use Rattle.radix_txn.specs.inner.Removal.{IsAbsent, IsTaken, taken_keys}
 use Rattle.radix_txn.specs.declared.remove.Deleted.{Deleted}
 use Rattle.radix_txn.specs.inner.Steps.{IsOnward, Ledger, Steps}
-use Rattle.radix_txn.proofs.CellTxn.{drawn_ends, ended, first_low, kept_new, none_drawn}
+use Rattle.radix_txn.proofs.CellTxn.{Ended, drawn_ends, ended, first_low, found, kept_new, none_drawn}
 use Rattle.radix_txn.proofs.WriteEnds.{absent_ends, taken_ends, takes_some}
+use Rattle.radix_txn.proofs.txn.TreeTxn.take_out.Goals.{In-Some}
 use Rattle.radix_txn.proofs.txn.TreeTxn.take_out.Goals as goal
+
+-- the cells after the write
+abbrev ledger : In-Some → Ledger
+ledger c = record { log = c.in_ok-cells.cells.log; first = c.take_with.new.state.first; next = c.take_with.new.ids.next; left = c.take_with.new.state.left }
+
+-- what is true once something is taken out
+ends : (c : In-Some) → let s = c.self.inside.state in Ended c.self.inside.start s.tree c.take_with.new.state.tree
+    (let l : Ledger = record { log = c.args.front.now; first = cond s.changed s.first c.args.ids.now.next; next = c.args.ids.now.next; left = s.left } in l) (ledger c)
+ends c =
+    let s = c.self.inside.state in
+    let f = found 4096 c.args.front.now c.args.ids.now _ c.args.self.now c.self.view_is c.requires.ready in
+    let w = c.take_with.new.state in
+    let l = c.in_ok-cells.cells in
+    let d = ledger c in
+    let step = subst (λ o. IfSome o (λ (t : Deleted). Steps (pieces_of c.begin.new.state.tree) l (pieces_of w.tree) d)) c.in-Some.is c.in_ok-taken.ensures.cells in
+    let fresh = subst (λ o. IfSome o (λ (t : Deleted). l.first ≤ w.tree.cell.id)) c.in-Some.is c.in_ok-taken.ensures.fresh in
+    let onward : IsOnward l d = record { log = refl; first = subst (λ o. IfSome o (λ (t : Deleted). w.first ≡ l.first)) c.in-Some.is c.in_ok-taken.ensures.began } in
+    ended s.changed s.first c.args.ids.now.next c.self.inside.start s.tree _ w.tree s.left c.args.front.now l d (c.self.invariant f.sound) f.below_start f.below f.of c.in_ok-cells.ensures.tree c.in_ok-cells.ensures.ledger step onward fresh
 
 pub begin-requires-clause-begun : goal.begin-requires-clause-begun
 begin-requires-clause-begun c =
     let s = c.self.inside.state in
-    let kept = c.self.invariant (ap (λ (t : Txn). t.spoiled) c.self.view_is ∙ c.requires.ready.sound) in
-    let below : AreBelow c.args.ids.now.next s.tree = subst (AreBelow c.args.ids.now.next) (sym (ap (λ (t : Txn). t.tree) c.self.view_is)) c.requires.ready.within.tree in
-    first_low s.changed s.first c.self.inside.start s.tree s.left c.args.ids.now.next kept below
+    let f = found 4096 c.args.front.now c.args.ids.now _ c.args.self.now c.self.view_is c.requires.ready in
+    first_low s.changed s.first c.self.inside.start s.tree s.left c.args.ids.now.next (c.self.invariant f.sound) f.below
 
 pub invariant_of-self-2 : goal.invariant_of-self-2
 invariant_of-self-2 c sound =
-    let s = c.self.inside.state in
-    let kept = c.self.invariant (ap (λ (t : Txn). t.spoiled) c.self.view_is ∙ c.requires.ready.sound) in
-    let below : AreBelow c.args.ids.now.next s.tree = subst (AreBelow c.args.ids.now.next) (sym (ap (λ (t : Txn). t.tree) c.self.view_is)) c.requires.ready.within.tree in
-    let of : AreOf c.args.front.now.book s.tree = subst (λ k. AreOf k s.tree) (sym c.requires.ready.book) (subst (AreOf c.args.ids.now.book) (sym (ap (λ (t : Txn). t.tree) c.self.view_is)) c.requires.ready.within.of) in
-    let below_start : AreBelow c.args.ids.now.next c.self.inside.start = subst (AreBelow c.args.ids.now.next) (sym (ap (λ (t : Txn). t.start) c.self.view_is)) c.requires.ready.within.start in
     let w = c.take_with.new.state in
-    let l = c.in_ok-cells.cells in
-    let d : Ledger = record { log = l.log; first = w.first; next = c.take_with.new.ids.next; left = w.left } in
-    let step = subst (λ o. IfSome o (λ (t : Deleted). Steps (pieces_of c.begin.new.state.tree) l (pieces_of w.tree) d)) c.in-Some.is c.in_ok-taken.ensures.cells in
-    let fresh = subst (λ o. IfSome o (λ (t : Deleted). l.first ≤ w.tree.cell.id)) c.in-Some.is c.in_ok-taken.ensures.fresh in
-    let onward : IsOnward l d = record { log = refl; first = subst (λ o. IfSome o (λ (t : Deleted). w.first ≡ l.first)) c.in-Some.is c.in_ok-taken.ensures.began } in
-    let end = ended s.changed s.first c.args.ids.now.next c.self.inside.start s.tree _ w.tree s.left c.args.front.now l d kept below_start below of c.in_ok-cells.ensures.tree c.in_ok-cells.ensures.ledger step onward fresh in
     let changed = subst (λ o. IfSome o (λ (t : Deleted). w.changed ≡ true)) c.in-Some.is c.in_ok-taken.ensures.changed in
-    kept_new _ _ c.self.inside.start _ w.tree _ d changed refl refl refl end.changed
+    kept_new _ _ c.self.inside.start _ w.tree _ (ledger (goal.at.invariant_of-self-2 c).In-Some) changed refl refl refl (ends (goal.at.invariant_of-self-2 c).In-Some).changed
 
 pub returns-clause-below : goal.returns-clause-below
-returns-clause-below c =
-    let s = c.self.inside.state in
-    let kept = c.self.invariant (ap (λ (t : Txn). t.spoiled) c.self.view_is ∙ c.requires.ready.sound) in
-    let below : AreBelow c.args.ids.now.next s.tree = subst (AreBelow c.args.ids.now.next) (sym (ap (λ (t : Txn). t.tree) c.self.view_is)) c.requires.ready.within.tree in
-    let of : AreOf c.args.front.now.book s.tree = subst (λ k. AreOf k s.tree) (sym c.requires.ready.book) (subst (AreOf c.args.ids.now.book) (sym (ap (λ (t : Txn). t.tree) c.self.view_is)) c.requires.ready.within.of) in
-    let below_start : AreBelow c.args.ids.now.next c.self.inside.start = subst (AreBelow c.args.ids.now.next) (sym (ap (λ (t : Txn). t.start) c.self.view_is)) c.requires.ready.within.start in
-    let w = c.take_with.new.state in
-    let l = c.in_ok-cells.cells in
-    let d : Ledger = record { log = l.log; first = w.first; next = c.take_with.new.ids.next; left = w.left } in
-    let step = subst (λ o. IfSome o (λ (t : Deleted). Steps (pieces_of c.begin.new.state.tree) l (pieces_of w.tree) d)) c.in-Some.is c.in_ok-taken.ensures.cells in
-    let fresh = subst (λ o. IfSome o (λ (t : Deleted). l.first ≤ w.tree.cell.id)) c.in-Some.is c.in_ok-taken.ensures.fresh in
-    let onward : IsOnward l d = record { log = refl; first = subst (λ o. IfSome o (λ (t : Deleted). w.first ≡ l.first)) c.in-Some.is c.in_ok-taken.ensures.began } in
-    let end = ended s.changed s.first c.args.ids.now.next c.self.inside.start s.tree _ w.tree s.left c.args.front.now l d kept below_start below of c.in_ok-cells.ensures.tree c.in_ok-cells.ensures.ledger step onward fresh in
-    end.below
+returns-clause-below c = (ends (goal.at.returns-clause-below c).In-Some).below
 
 pub returns-clause-of : goal.returns-clause-of
 returns-clause-of c =
-    let s = c.self.inside.state in
-    let kept = c.self.invariant (ap (λ (t : Txn). t.spoiled) c.self.view_is ∙ c.requires.ready.sound) in
-    let below : AreBelow c.args.ids.now.next s.tree = subst (AreBelow c.args.ids.now.next) (sym (ap (λ (t : Txn). t.tree) c.self.view_is)) c.requires.ready.within.tree in
-    let of : AreOf c.args.front.now.book s.tree = subst (λ k. AreOf k s.tree) (sym c.requires.ready.book) (subst (AreOf c.args.ids.now.book) (sym (ap (λ (t : Txn). t.tree) c.self.view_is)) c.requires.ready.within.of) in
-    let below_start : AreBelow c.args.ids.now.next c.self.inside.start = subst (AreBelow c.args.ids.now.next) (sym (ap (λ (t : Txn). t.start) c.self.view_is)) c.requires.ready.within.start in
     let w = c.take_with.new.state in
-    let l = c.in_ok-cells.cells in
-    let d : Ledger = record { log = l.log; first = w.first; next = c.take_with.new.ids.next; left = w.left } in
-    let step = subst (λ o. IfSome o (λ (t : Deleted). Steps (pieces_of c.begin.new.state.tree) l (pieces_of w.tree) d)) c.in-Some.is c.in_ok-taken.ensures.cells in
-    let fresh = subst (λ o. IfSome o (λ (t : Deleted). l.first ≤ w.tree.cell.id)) c.in-Some.is c.in_ok-taken.ensures.fresh in
-    let onward : IsOnward l d = record { log = refl; first = subst (λ o. IfSome o (λ (t : Deleted). w.first ≡ l.first)) c.in-Some.is c.in_ok-taken.ensures.began } in
-    let end = ended s.changed s.first c.args.ids.now.next c.self.inside.start s.tree _ w.tree s.left c.args.front.now l d kept below_start below of c.in_ok-cells.ensures.tree c.in_ok-cells.ensures.ledger step onward fresh in
-    let book = subst (λ o. IfSome o (λ (t : Deleted). c.take_with.new.ids.book ≡ l.log.book)) c.in-Some.is c.in_ok-taken.ensures.book in
-    subst (λ k. AreOf k w.tree) (sym book) end.of
+    let book = subst (λ o. IfSome o (λ (t : Deleted). c.take_with.new.ids.book ≡ c.in_ok-cells.cells.log.book)) c.in-Some.is c.in_ok-taken.ensures.book in
+    subst (λ k. AreOf k w.tree) (sym book) (ends (goal.at.returns-clause-of c).In-Some).of
 
 pub returns-clause-below_start : goal.returns-clause-below_start
-returns-clause-below_start c =
-    let s = c.self.inside.state in
-    let kept = c.self.invariant (ap (λ (t : Txn). t.spoiled) c.self.view_is ∙ c.requires.ready.sound) in
-    let below : AreBelow c.args.ids.now.next s.tree = subst (AreBelow c.args.ids.now.next) (sym (ap (λ (t : Txn). t.tree) c.self.view_is)) c.requires.ready.within.tree in
-    let of : AreOf c.args.front.now.book s.tree = subst (λ k. AreOf k s.tree) (sym c.requires.ready.book) (subst (AreOf c.args.ids.now.book) (sym (ap (λ (t : Txn). t.tree) c.self.view_is)) c.requires.ready.within.of) in
-    let below_start : AreBelow c.args.ids.now.next c.self.inside.start = subst (AreBelow c.args.ids.now.next) (sym (ap (λ (t : Txn). t.start) c.self.view_is)) c.requires.ready.within.start in
-    let w = c.take_with.new.state in
-    let l = c.in_ok-cells.cells in
-    let d : Ledger = record { log = l.log; first = w.first; next = c.take_with.new.ids.next; left = w.left } in
-    let step = subst (λ o. IfSome o (λ (t : Deleted). Steps (pieces_of c.begin.new.state.tree) l (pieces_of w.tree) d)) c.in-Some.is c.in_ok-taken.ensures.cells in
-    let fresh = subst (λ o. IfSome o (λ (t : Deleted). l.first ≤ w.tree.cell.id)) c.in-Some.is c.in_ok-taken.ensures.fresh in
-    let onward : IsOnward l d = record { log = refl; first = subst (λ o. IfSome o (λ (t : Deleted). w.first ≡ l.first)) c.in-Some.is c.in_ok-taken.ensures.began } in
-    let end = ended s.changed s.first c.args.ids.now.next c.self.inside.start s.tree _ w.tree s.left c.args.front.now l d kept below_start below of c.in_ok-cells.ensures.tree c.in_ok-cells.ensures.ledger step onward fresh in
-    end.below_start
+returns-clause-below_start c = (ends (goal.at.returns-clause-below_start c).In-Some).below_start
 
 -- ---- the cells that are drawn
 
 pub returns-clause-drawn : goal.returns-clause-drawn
 returns-clause-drawn c =
     let s = c.self.inside.state in
-    let kept = c.self.invariant (ap (λ (t : Txn). t.spoiled) c.self.view_is ∙ c.requires.ready.sound) in
-    let below : AreBelow c.args.ids.now.next s.tree = subst (AreBelow c.args.ids.now.next) (sym (ap (λ (t : Txn). t.tree) c.self.view_is)) c.requires.ready.within.tree in
-    let of : AreOf c.args.front.now.book s.tree = subst (λ k. AreOf k s.tree) (sym c.requires.ready.book) (subst (AreOf c.args.ids.now.book) (sym (ap (λ (t : Txn). t.tree) c.self.view_is)) c.requires.ready.within.of) in
-    let below_start : AreBelow c.args.ids.now.next c.self.inside.start = subst (AreBelow c.args.ids.now.next) (sym (ap (λ (t : Txn). t.start) c.self.view_is)) c.requires.ready.within.start in
     let w = c.take_with.new.state in
-    let l = c.in_ok-cells.cells in
-    let d : Ledger = record { log = l.log; first = w.first; next = c.take_with.new.ids.next; left = w.left } in
-    let step = subst (λ o. IfSome o (λ (t : Deleted). Steps (pieces_of c.begin.new.state.tree) l (pieces_of w.tree) d)) c.in-Some.is c.in_ok-taken.ensures.cells in
-    let fresh = subst (λ o. IfSome o (λ (t : Deleted). l.first ≤ w.tree.cell.id)) c.in-Some.is c.in_ok-taken.ensures.fresh in
-    let onward : IsOnward l d = record { log = refl; first = subst (λ o. IfSome o (λ (t : Deleted). w.first ≡ l.first)) c.in-Some.is c.in_ok-taken.ensures.began } in
-    let end = ended s.changed s.first c.args.ids.now.next c.self.inside.start s.tree _ w.tree s.left c.args.front.now l d kept below_start below of c.in_ok-cells.ensures.tree c.in_ok-cells.ensures.ledger step onward fresh in
-    let book = subst (λ o. IfSome o (λ (t : Deleted). c.take_with.new.ids.book ≡ l.log.book)) c.in-Some.is c.in_ok-taken.ensures.book in
     let ids = c.args.ids.now in
+    let d = ledger (goal.at.returns-clause-drawn c).In-Some in
+    let book = subst (λ o. IfSome o (λ (t : Deleted). c.take_with.new.ids.book ≡ c.in_ok-cells.cells.log.book)) c.in-Some.is c.in_ok-taken.ensures.book in
     let drawn = ap (λ k. let n : Counter = record { book = k; next = d.next } in n) book in
-    drawn_ends c.args.front.now ids c.take_with.new.ids c.self.inside.start s.tree c.args.self.now.tree w.tree w.tree (cond s.changed s.first ids.next) s.left d (ap (λ (t : Txn). t.tree) c.self.view_is) refl c.requires.ready.book drawn end
+    drawn_ends c.args.front.now ids c.take_with.new.ids c.self.inside.start s.tree c.args.self.now.tree w.tree w.tree (cond s.changed s.first ids.next) s.left d (ap (λ (t : Txn). t.tree) c.self.view_is) refl c.requires.ready.book drawn (ends (goal.at.returns-clause-drawn c).In-Some)
 
 pub returns-in_err-cells-clause-drawn : goal.returns-in_err-cells-clause-drawn
 returns-in_err-cells-clause-drawn c = none_drawn _ _ _ _ _ (c.in_err-cells.ensures.tree ∙ ap (λ (t : Txn). t.tree) c.self.view_is)
