@@ -13,38 +13,29 @@ pub fn edges_under(node: &Node) -> &[Edge]
     node.edges().iter().as_slice()
 }
 
-/// The node at the edge of a label, if there is one, and the edges of higher labels. They are found
-/// by one search, in the logarithm of the number of edges.
-pub fn child_and_higher(node: &Node, label: u8) -> (Option<&Node>, &[Edge])
-    requires { let n = plain_node node.now in EdgesRise n.under }
-    ensures child { let n = plain_node node.now in
-        option_map (λ m. labelled (record { label = label; node = plain_node m.now })) result.0
-        ≡ edge_of label n.under }
-    ensures higher { let n = plain_node node.now in
-        nodes_in (map edge_node result.1.now) ≡ higher label n.under }
-{
-    let edges = node.edges();
-    let all = edges.iter().as_slice();
-    match edges.find_edge(label) {
-        Ok((at, edge)) => (Some(edge.node()), all.split_at(at + 1).1),
-        Err(at) => (None, all.split_at(at).1),
-    }
-}
-
-/// The edges of lower labels, and the node at the edge of a label, if there is one. They are found
-/// as by [`child_and_higher`].
-pub fn lower_and_child(node: &Node, label: u8) -> (&[Edge], Option<&Node>)
+/// The edges of lower labels, the node at the edge of a label, if there is one, and the edges of
+/// higher labels. They are found by one search, in the logarithm of the number of edges.
+pub fn split_at_label(node: &Node, label: u8) -> (&[Edge], Option<&Node>, &[Edge])
     requires { let n = plain_node node.now in EdgesRise n.under }
     ensures lower { let n = plain_node node.now in
         nodes_in (map edge_node result.0.now) ≡ lower label n.under }
     ensures child { let n = plain_node node.now in
         option_map (λ m. labelled (record { label = label; node = plain_node m.now })) result.1
         ≡ edge_of label n.under }
+    ensures higher { let n = plain_node node.now in
+        nodes_in (map edge_node result.2.now) ≡ higher label n.under }
 {
     let edges = node.edges();
     let all = edges.iter().as_slice();
     match edges.find_edge(label) {
-        Ok((at, edge)) => (all.split_at(at).0, Some(edge.node())),
-        Err(at) => (all.split_at(at).0, None),
+        Ok((at, edge)) => (
+            all.split_at(at).0,
+            Some(edge.node()),
+            all.split_at(at + 1).1,
+        ),
+        Err(at) => {
+            let (lower, higher) = all.split_at(at);
+            (lower, None, higher)
+        }
     }
 }

@@ -5,7 +5,7 @@ ghost use Rattle.radix_node.specs.Cells.{plain_of};
 ghost use Rattle.radix_node.specs.Nodes.{pairs_of};
 ghost use Rattle.radix_iter.specs.inner.LevelRows.{rows_up};
 
-use crate::edges::child_and_higher;
+use crate::edges::split_at_label;
 use crate::level::{Level, push_edges, push_if_higher, push_up};
 use crate::walk::{Rest, Walk};
 use radix_node::Tree;
@@ -35,7 +35,7 @@ fn push_at_least<'a>(
     let mut node = tree.root();
     let mut rest = key;
     while let Some((first, after)) = rest.split_first() {
-        let (child, higher) = child_and_higher(node, *first);
+        let (_, child, higher) = split_at_label(node, *first);
         push_edges(levels, higher)?;
         let Some(child) = child else {
             return Ok(());

@@ -5,7 +5,7 @@ ghost use Rattle.radix_node.specs.Cells.{plain_of};
 ghost use Rattle.radix_node.specs.Nodes.{pairs_of};
 ghost use Rattle.radix_iter.specs.inner.LevelRows.{rows_down};
 
-use crate::edges::lower_and_child;
+use crate::edges::split_at_label;
 use crate::level::{Level, push_before, push_if_lower, push_own};
 use crate::walk::{Rest, Walk};
 use radix_node::Tree;
@@ -35,7 +35,7 @@ fn push_at_most<'a>(
     let mut node = tree.root();
     let mut rest = key;
     while let Some((first, after)) = rest.split_first() {
-        let (lower, child) = lower_and_child(node, *first);
+        let (lower, child, _) = split_at_label(node, *first);
         push_before(levels, node, lower)?;
         let Some(child) = child else {
             return Ok(());
