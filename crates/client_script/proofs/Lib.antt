@@ -15,4 +15,5 @@ pub mod PrintedCounts
 pub mod RowCounts
 pub mod RuleNames
 pub mod ScriptAnswered
+pub mod Threads
 pub mod WatchLines

@@ -1,13 +1,13 @@
 -- The scripts and the replies to them fix the history.
-use Rattle.std.proofs.Common.{arith, ◌≡◌, refl, ap, subst, sym, ◌∙◌, ℕ, zero, suc, ◌+◌, ◌-◌, ◌<◌, ◌≤◌, ◌⊎◌, inl, inr, List, [], ◌∷◌, ◌++◌, length, map, Some, None, Option, Ok, Err, slice_get, take, drop, get_or, Contains, IsPermutation}
+use Rattle.std.proofs.Common.{arith, ◌≡◌, refl, ap, subst, sym, ◌∙◌, ℕ, zero, suc, ◌+◌, ◌-◌, ◌<◌, ◌≤◌, ◌⊎◌, inl, inr, List, [], ◌∷◌, ◌++◌, length, map, Some, Ok, Err, slice_get, take, drop, Contains, IsPermutation}
 use Rattle.std.specs.List.{enumerate_from}
 use Rattle.std.specs.Prelude.{Bool, true, false, nat_lt, codes}
 use Rattle.std.proofs.lemmas.List.{take-append-drop, length-take-le, length-map}
 use Rattle.std.proofs.lemmas.List.FromFn.{length-enumerate_from}
 use Rattle.std.proofs.lemmas.List.Sorted.{length_permutation, Contains-permutation}
-use Rattle.std.proofs.lemmas.Option.{slice_get-get_or}
-use Rattle.std.proofs.Math.Seq.{take-length, take-suc}
+use Rattle.std.proofs.Math.Seq.{take-length}
 use Rattle.mdb_datum.specs.Bytes.{Bytes}
+use Rattle.mdb_datum.proofs.ListPlaces.{there_within}
 use Rattle.mdb_schema.proofs.Membership.{Contains-nil, Contains-first, Contains-later, Contains-cons_cases, Contains-from_map}
 use Rattle.mdb_schema.specs.State.{State}
 use Rattle.mdb_schema.specs.History.{Commit, History, state_at}
@@ -15,7 +15,7 @@ use Rattle.mdb_schema.specs.Schema.{DbSchema}
 use Rattle.mdb_schema.specs.Tests.{◌>>=◌, passed}
 use Rattle.client_script.specs.Within.{IsWithin}
 use Rattle.client_script.proofs.LongerHistory.{aside_within, each_within, turn_longer, start_within}
-use Rattle.client_script.proofs.CommitChanges.{seen_after}
+use Rattle.client_script.proofs.CommitChanges.{entry_taken, seen_after}
 use Rattle.client_script.proofs.OneClient.{TellsCommit, insert_prints, snapshot_prints, StandsFrom, all_rise, above_each, answered_rises, Rises, numbered, self_le}
 use Rattle.client_script.specs.Client.{Writing, Transaction, reading, writing, Client, at_start, state_seen, none_open, sight_of, Judged}
 use Rattle.client_script.specs.Legal.{Legal, printed, number_printed, all_printed, callers}
@@ -288,23 +288,14 @@ module _ (schema : DbSchema) (H H' : History) where
         let at = numbered 1 (callers H) (suc k) (search (arith)) (rw (length-map H (λ (c : Commit). c.caller)) (omega arith)) in
         sessions_entry k at.0 (omega arith) (omega arith) same 1 scripts replies sessions sessions' (Contains-permutation _ _ (suc k, at.0) numbers at.1)
 
-    pub grows : (k : ℕ) → k < length H → k < length H' → slice_get H k ≡ slice_get H' k → take k H ≡ take k H' → take (suc k) H ≡ take (suc k) H'
-    grows k lt lt' entry same =
-        take-suc H k none lt
-        ∙ ap (λ (G : History). G ++ get_or H k none ∷ []) same
-        ∙ ap (λ (c : Commit). take k H' ++ c ∷ []) (ap at_or (sym (slice_get-get_or H k none lt) ∙ entry ∙ slice_get-get_or H' k none lt'))
-        ∙ sym (take-suc H' k none lt')
-      where
-        none : Commit
-        none = record { caller = 0; writes = [] }
-
-        at_or : Option Commit → Commit
-        at_or None = none
-        at_or (Some c) = c
+    grows : (k : ℕ) → k < length H → slice_get H k ≡ slice_get H' k → take k H ≡ take k H' → take (suc k) H ≡ take (suc k) H'
+    grows k lt entry same =
+        let at = there_within H k lt in
+        sym (entry_taken H k at.0 at.1) ∙ ap (λ (G : History). G ++ at.0 ∷ []) same ∙ entry_taken H' k at.0 (sym entry ∙ at.1)
 
     first : (k : ℕ) → k ≤ length H → take k H ≡ take k H'
     first zero le = refl
-    first (suc k) le = let e = same_size in grows k le (omega arith) (next_entry k le (first k (omega arith))) (first k (omega arith))
+    first (suc k) le = grows k le (next_entry k le (first k (omega arith))) (first k (omega arith))
 
     -- the replies and the scripts fix the history
     pub one_history : H ≡ H'

@@ -2,7 +2,7 @@
 use Rattle.std.proofs.Common.{◌≡◌, refl, ap, sym, ◌∙◌, ℕ, ◌++◌, Option, Some, None, slice_get}
 use Rattle.std.specs.Prelude.{codes, option_and_then, option_map}
 use Rattle.mdb_datum.specs.Bytes.{Bytes}
-use Rattle.mdb_encode.specs.ArgRefusal.{arg_count, arg_kind, arg_out_of_range, arg_bad_uuid, arg_too_long, no_prefix_form}
+use Rattle.mdb_encode.specs.ArgRefusal.{arg_count}
 use Rattle.mdb_encode.specs.KeyRefusal.{wrong_kind, out_of_range, bad_uuid, too_many, too_long}
 use Rattle.mdb_schema.specs.Answer as asked
 use Rattle.mdb_schema.specs.ErrorsTold.{ask_error, write_error}
@@ -44,26 +44,10 @@ rule_same schema table place not_found other there = refl
 -- ---- of a question
 
 pub question_same : (why : asked.AskRefusal) → question_name (ask_error why) ≡ question_word why
-question_same asked.unknown_table = refl
-question_same asked.no_prefix_name = refl
-question_same asked.unknown_index = refl
-question_same asked.not_unique = refl
 question_same (asked.bad_argument arg_count) = refl
-question_same (asked.bad_argument arg_kind) = refl
-question_same (asked.bad_argument arg_out_of_range) = refl
-question_same (asked.bad_argument arg_bad_uuid) = refl
-question_same (asked.bad_argument arg_too_long) = refl
-question_same (asked.bad_argument no_prefix_form) = refl
+question_same why = refl
 
 -- a refusal is no want of memory
 pub rule_of_question : (why : asked.AskRefusal) → question_rule (ask_error why) ≡ Some (rules.Question (ask_error why))
-rule_of_question asked.unknown_table = refl
-rule_of_question asked.no_prefix_name = refl
-rule_of_question asked.unknown_index = refl
-rule_of_question asked.not_unique = refl
 rule_of_question (asked.bad_argument arg_count) = refl
-rule_of_question (asked.bad_argument arg_kind) = refl
-rule_of_question (asked.bad_argument arg_out_of_range) = refl
-rule_of_question (asked.bad_argument arg_bad_uuid) = refl
-rule_of_question (asked.bad_argument arg_too_long) = refl
-rule_of_question (asked.bad_argument no_prefix_form) = refl
+rule_of_question why = refl

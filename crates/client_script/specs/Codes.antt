@@ -97,26 +97,11 @@ command_from p = command_of p.0 p.1.0 p.1.1.0 p.1.1.1.0 p.1.1.1.1
 
 pub command_back : (c : Command) → command_from (parts_of c) ≡ c
 command_back (command.Transaction transaction_line.Read) = refl
-command_back (command.Transaction transaction_line.Write) = refl
-command_back (command.Transaction transaction_line.End) = refl
-command_back (command.Transaction transaction_line.Commit) = refl
-command_back (command.Transaction transaction_line.Abort) = refl
 command_back (command.Write (write_line.Insert t r)) = refl
-command_back (command.Write (write_line.Delete t r)) = refl
-command_back (command.Write (write_line.DeleteAll q)) = refl
-command_back (command.Write (write_line.DeletePrefix q)) = refl
-command_back (command.Defer t) = refl
 command_back (command.Ask (ask_line.Question q)) = refl
 command_back (command.Name (name_line.Snapshot n)) = refl
-command_back (command.Ask (ask_line.InSnapshot n q)) = refl
-command_back (command.Name (name_line.Watch n q)) = refl
-command_back (command.Name (name_line.WatchIn n k q)) = refl
 command_back (command.Watches (watches_line.Check n)) = refl
-command_back (command.Watches (watches_line.Add s n)) = refl
-command_back (command.Watches (watches_line.AddLimit s l n o)) = refl
-command_back (command.Size s) = refl
-command_back (command.Watches (watches_line.Wait s)) = refl
-command_back (command.Watches (watches_line.WaitUntil s u)) = refl
+command_back c = refl
 
 abbrev parts_code : Coded Parts
 parts_code = coded× coded_ℕ

@@ -22,7 +22,7 @@ use Rattle.client_session.specs.Progress.{Progress}
 use Rattle.client_session.specs.Steps.{AnswersStep, HasDoneOnce, IsBlocked, Waits}
 use Rattle.client_session.specs.declared.session_state.SessionState.{SessionState}
 use Rattle.client_session.specs.declared.stepped.Stepped.TheVariants as stepped
-use Rattle.client_session.specs.inner.Carried.{AddsSome, AnswersLine, CarriedOn, CarriesOut, SoFar, StepsLine, Stops, StopsLine}
+use Rattle.client_session.specs.inner.Carried.{Adds, AddsSome, AnswersLine, CarriedOn, CarriesOut, SoFar, StepsLine, Stops, StopsLine}
 use Rattle.client_session.specs.inner.StateView.{Follows, HoldsUp, IsHeldUp, IsWaiting}
 use Rattle.client_session.specs.inner.OpenView.{caller_of, is_writing, writes}
 use Rattle.client_session.specs.inner.Transcript.{Transcript}
@@ -198,9 +198,9 @@ goes_on script state n text failed d h is ok more = record {
   made = subst (λ (o : Option SessionState). AreMade (caller_in o) h.replies) is (h.made ok);
 }
 
--- some lines were answered, and then none is left, or memory was wanting
-pub has_added : (pass : Caller) (script : List Line) (from to : ℕ) (old text : Transcript) (d : SessionState) (failed : Bool) → (some : AddsSome pass (caller_of d.«open») script from to old text) → (failed ≡ false → AreMade (caller_of d.«open») (some.before.replies ++ some.adds.replies)) → to ≤ length script → (failed ≡ false → to ≡ length script) → (failed ≡ true → is_writing d.«open» ≡ false) → HasDone script (Some d) to text failed
-has_added pass script from to old text d failed some made within all closed =
+-- some lines were answered, and so much is said of what comes then
+added_so : (pass : Caller) (script : List Line) (from to : ℕ) (old text : Transcript) (d : SessionState) (failed : Bool) → (some : AddsSome pass (caller_of d.«open») script from to old text) → (failed ≡ false → AreMade (caller_of d.«open») (some.before.replies ++ some.adds.replies)) → to ≤ length script → (failed ≡ false → to < length script → Follows d some.adds.client) → (failed ≡ true → is_writing d.«open» ≡ false) → HasDone script (Some d) to text failed
+added_so pass script from to old text d failed some made within follows closed =
     let adds = some.adds in
     let p = caller_of d.«open» in
     record {
@@ -212,27 +212,22 @@ has_added pass script from to old text d failed some made within all closed =
       written = adds.written;
       counted = adds.counted;
       made = made;
-      follows = λ ok more d' is. let end = all ok in absurd (omega (arith, end, more));
+      follows = λ ok more d' is. let same : d ≡ d' = cc in subst (λ (x : SessionState). Follows x adds.client) same (follows ok more);
       closed = closed;
     }
+
+-- then none is left, or memory was wanting
+pub has_added : (pass : Caller) (script : List Line) (from to : ℕ) (old text : Transcript) (d : SessionState) (failed : Bool) → (some : AddsSome pass (caller_of d.«open») script from to old text) → (failed ≡ false → AreMade (caller_of d.«open») (some.before.replies ++ some.adds.replies)) → to ≤ length script → (failed ≡ false → to ≡ length script) → (failed ≡ true → is_writing d.«open» ≡ false) → HasDone script (Some d) to text failed
+has_added pass script from to old text d failed some made within all closed = added_so pass script from to old text d failed some made within (λ ok more. let end = all ok in absurd (omega (arith, end, more))) closed
 
 -- lines were answered from one place on to another, and the state has what the client knows then
 pub has_carried : (pass : Caller) (script : List Line) (from to : ℕ) (old text : Transcript) (d : SessionState) (failed : Bool) → CarriedOn pass script from to old d text → to ≤ length script → failed ≡ false → HasDone script (Some d) to text failed
 has_carried pass script from to old text d failed on within ok =
     let c = on.carried in
-    let p = caller_of d.«open» in
-    record {
-      here = refl;
-      within = within;
-      replies = on.before.replies ++ c.replies;
-      client = c.client;
-      runs = subst (λ (n : ℕ). RunsByCells (cells_seen p) n at_start (take to script) (on.before.replies ++ c.replies) c.client) (sym c.later.number) c.runs;
-      written = c.written;
-      counted = c.counted;
-      made = λ _. made_both pass p c.later on.before.replies on.before.made c.replies c.made c.own c.told c.rising;
-      follows = λ _ more d' is. let same : d ≡ d' = cc in subst (λ (x : SessionState). Follows x c.client) same c.follows;
-      closed = λ fails. cc;
-    }
+    let adds : Adds pass (caller_of d.«open») on.before.replies (take to script) text =
+    record { replies = c.replies; client = c.client; runs = c.runs; written = c.written; counted = c.counted; later = c.later; read = c.read; counts = c.counts; loads = c.loads } in
+    added_so pass script from to old text d failed (record { before = on.before; adds = adds })
+    (λ _. made_both pass (caller_of d.«open») c.later on.before.replies on.before.made c.replies c.made c.own c.told c.rising) within (λ _ more. c.follows) (λ fails. cc)
 
 -- ---- a call, by the fields before and after
 

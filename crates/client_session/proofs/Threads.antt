@@ -2,20 +2,9 @@
 use denote.Param.Send.{IsSend, IsSync, sendable}
 use Rattle.std.proofs.Crossing.{crosses}
 use Rattle.std.proofs.MapsCrossing as maps
-use Rattle.mdb_datum.proofs.Threads.{row_send}
-use Rattle.mdb_datum.proofs.datum.Items.TheLaws.TheKnot as datum
 use Rattle.mdb_datum.specs.contracts.text.Text
 use Rattle.mdb_encode.specs.contracts.key.Key
-use Rattle.mdb_schema.specs.contracts.query.Parts
-use Rattle.mdb_schema.specs.contracts.query.Query
-use Rattle.client_script.specs.contracts.command.AskCommand
-use Rattle.client_script.specs.contracts.command.Command
-use Rattle.client_script.specs.contracts.command.NameCommand
-use Rattle.client_script.specs.contracts.command.TransactionCommand
-use Rattle.client_script.specs.contracts.command.WatchesCommand
-use Rattle.client_script.specs.contracts.command.WriteCommand
-use Rattle.client_script.specs.contracts.line.Line
-use Rattle.client_script.specs.contracts.script.Script
+use Rattle.client_script.proofs.Threads.{query_send, query_sync, script_send, text_send}
 use Rattle.mem_txn.proofs.Threads.{db_txn_send, pass_send, read_send, snapshot_send}
 use Rattle.mem_txn.specs.contracts.held.Held
 use Rattle.mem_txn.specs.contracts.held.Watching as WatchingOf
@@ -34,53 +23,10 @@ use Rattle.client_session.specs.contracts.«open».Open
 use Rattle.client_session.specs.contracts.session.Session
 use Rattle.client_session.specs.contracts.watching.Watching
 
-text-send : IsSend (Text.the_field).row
-text-send = search (sendable, crosses) depth 20
-
-text-sync : IsSync (Text.the_field).row
-text-sync = search (sendable, crosses) depth 20
-
-parts-send : IsSend Parts.the_row
-parts-send = search (sendable, crosses, datum.crosses, text-send) depth 20
-
-parts-sync : IsSync Parts.the_row
-parts-sync = search (sendable, crosses, datum.crosses, text-sync) depth 20
-
-query-send : IsSend Query.the_row
-query-send = search (sendable, crosses, parts-send, parts-sync) depth 20
-
-query-sync : IsSync Query.the_row
-query-sync = search (sendable, crosses, parts-send, parts-sync) depth 20
-
--- each of the variants is looked through
-transaction-send : IsSend (TransactionCommand.the_field).row
-transaction-send = search (sendable, crosses) depth 20
-
-write_rows-send : IsSend (WriteCommand.the_field).row
-write_rows-send = search (sendable, crosses, text-send, row_send, query-send) depth 100 fits 100000
-
-ask-send : IsSend (AskCommand.the_field).row
-ask-send = search (sendable, crosses, text-send, query-send) depth 100 fits 100000
-
-name-send : IsSend (NameCommand.the_field).row
-name-send = search (sendable, crosses, text-send, query-send) depth 100 fits 100000
-
-watches_line-send : IsSend (WatchesCommand.the_field).row
-watches_line-send = search (sendable, crosses, text-send) depth 100 fits 100000
-
-command-send : IsSend (Command.the_field).row
-command-send = search (sendable, crosses, text-send, transaction-send, write_rows-send, ask-send, name-send, watches_line-send) depth 100 fits 100000
-
-line-send : IsSend Line.the_row
-line-send = search (sendable, crosses, command-send) depth 100 fits 100000
-
-script-send : IsSend Script.the_row
-script-send = search (sendable, crosses, line-send) depth 100 fits 100000
-
 -- ---- what is open, and the snapshots
 
 write-send : IsSend (WriteTxn.the_field Text.the_row).row
-write-send = search (sendable, crosses, db_txn_send, text-send) depth 20
+write-send = search (sendable, crosses, db_txn_send, text_send) depth 20
 
 pass-field-send : IsSend Pass.the_field.row
 pass-field-send = search (sendable, pass_send) depth 20
@@ -118,16 +64,16 @@ spot-sync : IsSync Spot.the_field.row
 spot-sync = search (sendable, crosses, key-sync, watch-sync) depth 20
 
 watching_of-send : IsSend WatchingOf.the_row
-watching_of-send = search (sendable, crosses, query-send, spot-send) depth 20
+watching_of-send = search (sendable, crosses, query_send, spot-send) depth 20
 
 watching_of-sync : IsSync WatchingOf.the_row
-watching_of-sync = search (sendable, crosses, query-sync, spot-sync) depth 20
+watching_of-sync = search (sendable, crosses, query_sync, spot-sync) depth 20
 
 held-send : IsSend Held.the_row
 held-send = search (sendable, crosses, watching_of-send, watching_of-sync) depth 20
 
 member-send : IsSend Member.the_row
-member-send = search (sendable, crosses, text-send, held-send) depth 20
+member-send = search (sendable, crosses, text_send, held-send) depth 20
 
 set-send : IsSend WatchSet.the_row
 set-send = search (sendable, crosses, member-send) depth 20
@@ -147,4 +93,4 @@ state-send : IsSend SessionState.the_row
 state-send = search (sendable, open-send, snapshots-send, watching-send) depth 20
 
 pub session_send : IsSend Session.the_row
-session_send = search (sendable, crosses, script-send, state-send) depth 100 fits 100000
+session_send = search (sendable, crosses, script_send, state-send) depth 100 fits 100000

@@ -277,26 +277,15 @@ module _ (p : Caller) (now : ℕ) (old new : Watching) (v : Client) (ids : IdsTe
           ap with_first (called_watch p old v name h knows there) ∙ ap (with_other (watch_of name h)) (called_watch p old v other o knows beside)
           ∙ ap (λ (n : ℕ). Ok (if nat_lt n limit then watch_of name h else watch_of other o)) (count_known p old v set knows) ∙ ap (λ (c : Bool). Ok (if c then watch_of name h else watch_of other o)) is
 
-      pub limit_first : (r : own.Reply) → nat_lt (length (members_in old.sets set)) limit ≡ true → new.watches ≡ old.watches → AddsTo old.sets new.sets set name h r
-          → WatchTold p now new v (watches_line.AddLimit set limit name other) (reply_of p.schema r)
-      limit_first r is watches adds =
-          let a = set_added p old new v set name h r ids knows holds (holds.watches name h there) watches adds in
+      -- the watch that was chosen is added under its name
+      limit_added : (b : Bool) → nat_lt (length (members_in old.sets set)) limit ≡ b → (who : Bytes) (x : HeldWatch) → (if b then watch_of name h else watch_of other o) ≡ watch_of who x → get_by_text old.watches.kept who ≡ Some x
+          → (r : own.Reply) → new.watches ≡ old.watches → AddsTo old.sets new.sets set who x r → WatchTold p now new v (watches_line.AddLimit set limit name other) (reply_of p.schema r)
+      limit_added b is who x chosen at r watches adds =
+          let a = set_added p old new v set who x r ids knows holds (holds.watches who x at) watches adds in
           record {
             next = a.next;
-            says = judged_so v (limit_judged v set limit name other) (watch_of name h) (reply_of p.schema r) a.next _ (limit_found true is) a.added;
-            cells = subst (λ (x : Reply). WatchTellsCells (cells_seen p) v (watches_line.AddLimit set limit name other) x a.next) (sym (ap (reply_of p.schema) adds.reply)) a.each;
-            knows = a.knows;
-            holds = a.holds;
-          }
-
-      pub limit_other : (r : own.Reply) → nat_lt (length (members_in old.sets set)) limit ≡ false → new.watches ≡ old.watches → AddsTo old.sets new.sets set other o r
-          → WatchTold p now new v (watches_line.AddLimit set limit name other) (reply_of p.schema r)
-      limit_other r is watches adds =
-          let a = set_added p old new v set other o r ids knows holds (holds.watches other o beside) watches adds in
-          record {
-            next = a.next;
-            says = judged_so v (limit_judged v set limit name other) (watch_of other o) (reply_of p.schema r) a.next _ (limit_found false is) a.added;
-            cells = subst (λ (x : Reply). WatchTellsCells (cells_seen p) v (watches_line.AddLimit set limit name other) x a.next) (sym (ap (reply_of p.schema) adds.reply)) a.each;
+            says = judged_so v (limit_judged v set limit name other) (watch_of who x) (reply_of p.schema r) a.next _ (limit_found b is ∙ ap (λ (w : Watch). Ok w) chosen) a.added;
+            cells = subst (λ (y : Reply). WatchTellsCells (cells_seen p) v (watches_line.AddLimit set limit name other) y a.next) (sym (ap (reply_of p.schema) adds.reply)) a.each;
             knows = a.knows;
             holds = a.holds;
           }
@@ -310,8 +299,8 @@ module _ (p : Caller) (now : ℕ) (old new : Watching) (v : Client) (ids : IdsTe
 
         limit_either : (b : Bool) → nat_lt (length (members_in old.sets set)) limit ≡ b → new.watches ≡ old.watches → ((q : Bytes) → get_by_text mid.kept q ≡ cond (bytes_eq set q) None (get_by_text old.sets.kept q)) → ms ≡ one_more (chosen_of b) → PutsBack mid new.sets set ms r
             → WatchTold p now new v (watches_line.AddLimit set limit name other) (reply_of p.schema r)
-        limit_either true is watches left more puts = limit_first r is watches (put_added old.sets mid new.sets set name h ms r left more puts)
-        limit_either false is watches left more puts = limit_other r is watches (put_added old.sets mid new.sets set other o ms r left more puts)
+        limit_either true is watches left more puts = limit_added true is name h refl there r watches (put_added old.sets mid new.sets set name h ms r left more puts)
+        limit_either false is watches left more puts = limit_added false is other o refl beside r watches (put_added old.sets mid new.sets set other o ms r left more puts)
 
         -- the set that was taken out has a watch more, and was put back
         pub limit_told : new.watches ≡ old.watches → ((q : Bytes) → get_by_text mid.kept q ≡ cond (bytes_eq set q) None (get_by_text old.sets.kept q)) → found ≡ members_in old.sets set

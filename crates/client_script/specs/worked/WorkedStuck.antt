@@ -1,5 +1,5 @@
 -- Worked checks of stuck output: clients that wait in vain, and near ones that don't.
-use Rattle.std.specs.Prelude.{◌≡◌, ◌≢◌, ◌≤◌, ◌<◌, ◌+◌, ◌++◌, ℕ, zero, suc, List, [], ◌∷◌, Option, Some, None, Ok, Err, codes, refl}
+use Rattle.std.specs.Prelude.{◌≡◌, ◌≢◌, ◌≤◌, ◌++◌, ℕ, zero, suc, List, [], ◌∷◌, Option, Some, None, Ok, Err, codes, refl}
 use Rattle.std.proofs.Common.{arith, ap, subst, sym, ◌∙◌, lit≤, inl}
 use Rattle.mdb_datum.specs.Bytes.{Bytes}
 use Rattle.mdb_datum.specs.Doc.{text}
@@ -17,7 +17,7 @@ use Rattle.client_script.specs.Reply.{Reply, answered, ended, output_text, read_
 use Rattle.client_script.specs.Session.{Runs}
 use Rattle.client_script.specs.Stuck.{AreUnmoved, HaltedSession, IsHalted, Stop, Stuck, WaitsInVain, first_stop, stuck_text}
 use Rattle.client_script.specs.Turn.{name_turn, outcome}
-use Rattle.client_script.specs.Watching.{IsAmong, awaited_by}
+use Rattle.client_script.specs.Watching.{awaited_by}
 use Rattle.client_script.specs.declared.command.Command.{Command}
 use Rattle.client_script.specs.declared.command.Command.TheVariants as command
 use Rattle.client_script.specs.declared.command.NameCommand.TheVariants as name_line

@@ -8,7 +8,8 @@ use Rattle.mdb_datum.specs.Bytes.{Bytes}
 use Rattle.run_io.specs.Inputs.{scripts_in}
 use Rattle.run_io.specs.inner.ContentsOf.{bytes_in}
 use Rattle.run_io.specs.inner.ReadingResult.{IsReadingResult}
-use Rattle.run_io.proofs.Threads.{load_error_send, scripts_send}
+use Rattle.client_script.proofs.Threads.{scripts_send}
+use Rattle.run_io.proofs.Threads.{load_error_send}
 use Rattle.run_io.proofs.reading.+read_range.Goals as goal
 
 pub read_both-join_deep-scripts-requires-send-A : goal.read_both-join_deep-scripts-requires-send-A
