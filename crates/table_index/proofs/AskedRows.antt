@@ -1,5 +1,6 @@
 -- What a question is answered from the trees of a table.
 use Rattle.std.proofs.Common.{◌≡◌, ◌∙◌, ◌<◌, ℕ, List, length, slice_get, Some, option_map, Result, Ok, Err, MatchResult, get_or, refl, sym, ap, subst, arith}
+use Rattle.std.proofs.Math.ListN.{get_or-map}
 use Rattle.std.proofs.lemmas.List.{length-map}
 use Rattle.std.proofs.lemmas.Option.{slice_get-map, slice_get_read, slice_get_within}
 use Rattle.mdb_datum.specs.Row.{Fields, Pair}
@@ -13,8 +14,9 @@ use Rattle.mdb_schema.specs.declared.answer.Answer.{Answer}
 use Rattle.mdb_schema.specs.declared.ask.Ask.{Ask}
 use Rattle.mdb_schema.specs.declared.ask_error.AskError.{AskError}
 use Rattle.mdb_schema.specs.declared.ask_error.AskError.TheVariants.{Memory}
+use Rattle.radix_node.specs.Cells.{CellTree, plain_of}
 use Rattle.radix_node.specs.Nodes.{Plain, pairs_of}
-use Rattle.table_index.specs.inner.IndexTrees.{AreTrees, rows_held}
+use Rattle.table_index.specs.inner.IndexTrees.{AreTrees, plains, rows_held}
 use Rattle.table_index.specs.inner.Lookups.{AnswersLookup}
 
 -- ---- the tree at a place
@@ -36,6 +38,13 @@ module _ (t : TableSchema) (trees : List Plain) (held : AreTrees t trees) (place
       ∙ slice_get-map found t.indexes place
       ∙ ap (option_map found) there in
       cc
+
+-- the same of a tree that is read at such a place
+pub pairs_read : (t : TableSchema) (trees : List CellTree) → AreTrees t (plains trees) → (place : ℕ) (i : IndexSchema)
+    → slice_get t.indexes place ≡ Some i → (tree : CellTree) → tree ≡ get_or trees place tree
+    → pairs_of (plain_of tree) ≡ entries t i (rows_held t (plains trees))
+pairs_read t trees held place i there tree at =
+    pairs_there t (plains trees) held place i there (plain_of tree) (ap plain_of at ∙ sym (get_or-map plain_of trees place tree))
 
 -- ---- the answer, of where the question looks
 

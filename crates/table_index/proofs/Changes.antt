@@ -1,18 +1,23 @@
 -- The trees of a change, as its contracts speak of them.
-use Rattle.std.proofs.Common.{◌≡◌, ◌∙◌, ◌<◌, ℕ, List, All, map, length, get_or, refl, sym, ap, subst, arith}
+use Rattle.std.proofs.Common.{◌≡◌, ◌∙◌, ◌<◌, ℕ, Bool, false, List, All, map, length, get_or, refl, sym, ap, subst, arith}
+use Rattle.std.specs.Vec.{with_items}
 use Rattle.std.proofs.Math.ListN.{get_or-map}
-use Rattle.std.proofs.lemmas.List.{length-map}
+use Rattle.std.proofs.lemmas.List.{length-map, with_items_is}
 use Rattle.std.proofs.lemmas.List.Elements.{All-map}
 use Rattle.watch_word.specs.Logs.{Log}
+use Rattle.mdb_schema.specs.Schema.{TableSchema}
 use Rattle.radix_node.specs.Cells.{AreBelow, AreOf, CellTree}
 use Rattle.radix_node.specs.Ids.{Counter}
 use Rattle.radix_txn.specs.Drawn.{IsWithin}
 use Rattle.radix_txn.specs.Txn.{Txn}
-use Rattle.table_index.specs.Table.{AreAllBelow, AreAllOf, AreDrawn, AreSeparate, TableChange}
+use Rattle.table_index.specs.Table.{AreAllBelow, AreAllOf, TableChange}
 use Rattle.table_index.specs.Drawn.{HasDrawnCells, MayBeWritten}
 use Rattle.table_index.specs.inner.Drawn.{AreReady, HaveDrawn}
-use Rattle.table_index.specs.inner.IndexTrees.{AreSound, starts_of, trees_of}
+use Rattle.table_index.specs.inner.IndexTrees.{AreTrees, nodes_of, starts_of, trees_of}
+use Rattle.table_index.specs.inner.Views.{IsChange, change_view}
+use Rattle.table_index.specs.declared.table_txn.TableTxn.TheInside as table_txn
 use Rattle.table_index.proofs.DrawnIds.{same_drawn}
+use Rattle.table_index.proofs.WriteAnswers.{change_of}
 
 -- ---- ids
 
@@ -29,36 +34,55 @@ txns_within ids xs trees of start k d within = record {
   of = one_of (AreOf ids.book) (λ (x : Txn). x.tree) xs k d within of;
 }
 
--- the trees may be written
-pub change_ready : (front : Log) (ids : Counter) (items xs : List Txn) (now : TableChange) → xs ≡ items → trees_of items ≡ now.trees → starts_of items ≡ now.start → AreSound items → MayBeWritten front ids now
-    → AreReady front ids xs
-change_ready front ids items xs now is trees start sound ready =
-    subst (AreReady front ids) (sym is) (record {
-      sound = sound;
-      book = ready.book;
-      within =
-          txns_within ids items (subst (AreAllBelow ids.next) (sym trees) ready.below) (subst (AreAllOf ids.book) (sym trees) ready.of)
-          (subst (AreAllBelow ids.next) (sym start) ready.start);
-    })
+-- ---- a write of a change: it reads its trees as a list, and leaves a list in their place
 
--- and they were: what a write drew for the lists that it reads and leaves, it drew for the change
-pub change_drawn : (log : Log) (n : ℕ) (i j : Counter) (before read made new : List Txn) (old now : TableChange) → read ≡ before → made ≡ new → trees_of before ≡ old.trees → trees_of made ≡ now.trees
-    → starts_of made ≡ now.start → HaveDrawn log n i j read new → HasDrawnCells log n i j old now
-change_drawn log n i j before read made new old now reads makes view trees start drawn =
-    let within : All (IsWithin j) made = subst (All (IsWithin j)) (sym makes) drawn.within in
+module _ (inside : table_txn.Inside) (now : TableChange) (view : change_view inside ≡ now) (read : List Txn)
+    (reads : read ≡ inside.trees.items) where
+  -- the trees may be written
+  pub trees_ready : IsChange inside → (front : Log) (ids : Counter) → MayBeWritten front ids now → AreReady front ids read
+  trees_ready lawful front ids may =
+      let ready : MayBeWritten front ids (change_view inside) = subst (MayBeWritten front ids) (sym view) may in
+      subst (AreReady front ids) (sym reads) (record {
+        sound = lawful.sound ready.sound;
+        book = ready.book;
+        within = txns_within ids inside.trees.items ready.below ready.of ready.start;
+      })
+
+  -- and they hold the entries of the rows
+  pub trees_held : IsChange inside → now.spoiled ≡ false → AreTrees inside.def (nodes_of read)
+  trees_held lawful sound =
+      let kept : inside.spoiled ≡ false = ap (λ (x : TableChange). x.spoiled) view ∙ sound in
+      subst (λ (txns : List Txn). AreTrees inside.def (nodes_of txns)) (sym reads) (lawful.trees kept)
+
+-- the list that a write reads, and the one that it leaves
+pub record AreLent (inside : table_txn.Inside) (now : TableChange) (read new : List Txn) : Type 0 where
+  pub view : change_view inside ≡ now
+  pub reads : read ≡ inside.trees.items
+  pub count : length new ≡ inside.trees.len
+
+-- what is said of the lists is said of the change
+pub of_change : {inside : table_txn.Inside} {now : TableChange} {read new : List Txn} → AreLent inside now read new
+    → (P : TableChange → TableChange → Type 0) (spoiled : Bool)
+    → P (change_of inside.def read inside.spoiled) (change_of inside.def new spoiled)
+    → P now (change_of inside.def (with_items inside.trees new).items spoiled)
+of_change {inside} {now} {read} {new} lent P spoiled h =
+    let before : change_of inside.def read inside.spoiled ≡ now =
+    ap (λ (txns : List Txn). change_of inside.def txns inside.spoiled) lent.reads ∙ lent.view in
+    subst (λ (txns : List Txn). P now (change_of inside.def txns spoiled)) (sym (with_items_is inside.trees new lent.count))
+    (subst (λ (x : TableChange). P x (change_of inside.def new spoiled)) before h)
+
+-- what a write drew for its lists it drew for the change
+pub change_drawn : (log : Log) (n : ℕ) (i j : Counter) (t : TableSchema) (before after : List Txn) (old new : Bool)
+    → HaveDrawn log n i j before after
+    → HasDrawnCells log n i j (change_of t before old) (change_of t after new)
+change_drawn log n i j t before after old new drawn =
+    let within : All (IsWithin j) after = drawn.within in
     record {
-      below = subst (AreAllBelow j.next) trees (All-map (AreBelow j.next) (λ (x : Txn). x.tree) made (λ k d h. let b = within k d h in b.tree));
-      of = subst (AreAllOf j.book) trees (All-map (AreOf j.book) (λ (x : Txn). x.tree) made (λ k d h. let b = within k d h in b.of));
-      start = subst (AreAllBelow j.next) start (All-map (AreBelow j.next) (λ (x : Txn). x.start) made (λ k d h. let b = within k d h in b.start));
-      drawn =
-          subst (λ (ts : List CellTree). AreDrawn log i j ts now.trees) view
-          (subst (λ (ts : List CellTree). AreDrawn log i j (trees_of before) ts) trees
-          (subst (λ (xs : List Txn). AreDrawn log i j (trees_of before) (trees_of xs)) (sym makes)
-          (subst (λ (xs : List Txn). AreDrawn log i j (trees_of xs) (trees_of new)) reads drawn.drawn)));
-      separate = λ h.
-          let views : trees_of read ≡ old.trees = ap trees_of reads ∙ view in
-          let made_trees : trees_of new ≡ now.trees = ap trees_of (sym makes) ∙ trees in
-          subst AreSeparate made_trees (drawn.separate (subst AreSeparate (sym views) h));
+      below = All-map (AreBelow j.next) (λ (x : Txn). x.tree) after (λ k d h. let b = within k d h in b.tree);
+      of = All-map (AreOf j.book) (λ (x : Txn). x.tree) after (λ k d h. let b = within k d h in b.of);
+      start = All-map (AreBelow j.next) (λ (x : Txn). x.start) after (λ k d h. let b = within k d h in b.start);
+      drawn = drawn.drawn;
+      separate = drawn.separate;
       book = drawn.book;
       later = drawn.later;
       few = drawn.few;
@@ -76,7 +100,3 @@ no_cells_drawn log n ids x ready = record {
   later = omega arith;
   few = omega arith;
 }
-
--- what is said of the lists that a write reads and leaves is said of those of the change
-pub carried : (P : List Txn → List Txn → Type 0) (before read made new : List Txn) → read ≡ before → made ≡ new → P read new → P before made
-carried P before read made new reads makes h = subst (λ (xs : List Txn). P before xs) (sym makes) (subst (λ (xs : List Txn). P xs new) reads h)

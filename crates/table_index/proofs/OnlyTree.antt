@@ -1,5 +1,5 @@
 -- A wipe of a table that has the index `id` alone: the cut of its tree takes out each row's keys.
-use Rattle.std.proofs.Common.{◌≡◌, ◌∙◌, ◌++◌, ◌<◌, ℕ, zero, suc, List, [], ◌∷◌, map, length, slice_get, Bool, true, false, not, Contains, eq-eqb, refl, sym, ap, subst, inl, inr, arith}
+use Rattle.std.proofs.Common.{◌≡◌, ◌∙◌, ◌++◌, ◌<◌, ℕ, zero, suc, List, [], ◌∷◌, map, length, true, not, Contains, eq-eqb, sym, ap, subst, inl, inr, arith}
 use Rattle.std.specs.Ordering.{eq_by_cmp}
 use Rattle.std.specs.Prelude.{nat_eq}
 use Rattle.std.proofs.lemmas.Bool.{both_ways, not-true, not_from_false, false_from_ne_true}
@@ -23,7 +23,7 @@ use Rattle.table_index.specs.inner.IndexTrees.{AreSound}
 use Rattle.table_index.specs.inner.TreeEdits.{without_each}
 use Rattle.table_index.specs.inner.Wipes.{IsTaking, cut_at}
 use Rattle.table_index.proofs.ListedKeys.{there_uncut}
-use Rattle.table_index.proofs.WipeSteps.{Stands, all_entries, taken_step}
+use Rattle.table_index.proofs.WipeSteps.{Stands, taken_step}
 
 -- a key that begins with the one of the cut is out already
 key_out : (key k : Bytes) (es : List Pair) → is_prefix key k ≡ true → without_all (k ∷ []) (without_prefix key es) ≡ without_prefix key es

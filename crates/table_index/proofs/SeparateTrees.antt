@@ -1,5 +1,5 @@
 -- No two trees of a table share an id, from write to write.
-use Rattle.std.proofs.Common.{◌≡◌, ◌∙◌, ◌≤◌, ◌<◌, ◌⊎◌, [], ◌∷◌, ℕ, zero, suc, List, All, Some, set, length, get_or, slice_get, inl, inr, refl, sym, ap, subst, arith}
+use Rattle.std.proofs.Common.{◌≡◌, ◌∙◌, ◌≤◌, ◌<◌, ◌⊎◌, [], ◌∷◌, ℕ, zero, suc, List, All, set, get_or, inl, inr, refl, sym, ap, subst, arith}
 use Rattle.std.proofs.lemmas.List.Elements.{All-head, All-tail}
 use Rattle.std.proofs.lemmas.Option.{same_Some}
 use Rattle.watch_word.specs.Logs.{Cell, Log}

@@ -1,26 +1,22 @@
-use Rattle.std.proofs.Common.{◌*◌, ◌<◌, length, sym, arith, rules}
+use Rattle.std.proofs.Common.{◌*◌, length, sym, arith, rules}
 use Rattle.std.proofs.lemmas.Grind.{common_steps}
 use Rattle.table_index.proofs.DrawnIds.{ready_more}
 use Rattle.table_index.proofs.WrittenTrees.{wrote_key}
 use Rattle.table_index.proofs.replace.insert_all.Goals as goal
 
 pub loop-key-preserved : goal.loop-key-preserved
-loop-key-preserved c =
-    let within : c.loop-key.key-index < length c.args.keys.now = omega arith in
-    record {
-      sound = search rules;
-      pairs = grind (arith, common_steps);
-      drawn = search rules;
-      written =
-          wrote_key c.args.keys.now c.args.txn.now c.loop-key.txn c.insert.new.txn c.key-item.result c.loop-key.invariant.written c.in_ok-insert.ensures.written
-          (c.loop-key.key-index, within, sym c.key-item.is);
-    }
+loop-key-preserved c = record {
+  sound = search rules;
+  pairs = grind (arith, common_steps);
+  drawn = search rules;
+  written =
+      wrote_key c.args.keys.now c.args.txn.now c.loop-key.txn c.insert.new.txn c.key-item.result c.loop-key.invariant.written c.in_ok-insert.ensures.written
+      (c.loop-key.key-index, omega arith, sym c.key-item.is);
+}
 
 pub insert-requires : goal.insert-requires
-insert-requires c =
-    let within : c.loop-key.key-index < length c.args.keys.now = omega arith in
-    record {
-      ready =
-          ready_more (4096 * c.loop-key.key-index) 4096 (4096 * length c.args.keys.now) c.args.front.now c.args.ids.now c.loop-key.ids c.args.txn.now c.loop-key.txn (omega (arith, within)) c.requires.ready
-          c.loop-key.invariant.drawn c.loop-key.invariant.sound;
-    }
+insert-requires c = record {
+  ready =
+      ready_more (4096 * c.loop-key.key-index) 4096 (4096 * length c.args.keys.now) c.args.front.now c.args.ids.now c.loop-key.ids c.args.txn.now c.loop-key.txn (omega arith) c.requires.ready
+      c.loop-key.invariant.drawn c.loop-key.invariant.sound;
+}

@@ -1,12 +1,10 @@
-use Rattle.std.proofs.Common.{◌≡◌, ◌∙◌, ℕ, List, ap, get_or, subst, sym, MatchResult}
-use Rattle.std.proofs.Math.ListN.{get_or-map}
+use Rattle.std.proofs.Common.{◌≡◌, ◌∙◌, ℕ, List, ap, get_or, subst, MatchResult}
 use Rattle.mdb_datum.specs.Row.{Pair}
 use Rattle.mdb_schema.specs.Answer.{answer, is_exact}
 use Rattle.mdb_schema.specs.declared.ask_error.AskError.TheVariants.{Memory}
-use Rattle.radix_node.specs.Cells.{plain_of}
 use Rattle.table_index.specs.Table.{TableRows}
 use Rattle.table_index.specs.inner.IndexTrees.{plains}
-use Rattle.table_index.proofs.AskedRows.{answered, pairs_there, refused}
+use Rattle.table_index.proofs.AskedRows.{answered, pairs_read, refused}
 use Rattle.table_index.proofs.table.Table.ask.Goals as goal
 
 pub returns-in-Err : goal.returns-in-Err
@@ -21,7 +19,6 @@ returns-in-Ok c =
     let at = c.in-Ok.at in
     let read = c.index.result.now in
     let is : read ≡ get_or trees at.place read = c.index.ensures ∙ ap (λ (place : ℕ). get_or trees place read) c.place.ensures in
-    let plain : plain_of read ≡ get_or (plains trees) at.place (plain_of read) = ap plain_of is ∙ sym (get_or-map plain_of trees at.place read) in
-    let pairs = pairs_there t (plains trees) c.self.invariant at.place at.index c.in-Ok.ensures.there (plain_of read) plain in
+    let pairs = pairs_read t trees c.self.invariant at.place at.index c.in-Ok.ensures.there read is in
     answered t (plains trees) (c.args.self.now.schema, c.args.self.now.rows) (ap (λ (x : TableRows). (x.schema, x.rows)) c.self.view_is) c.ask.result q c.ask.ensures at c.answer_at.result c.in-Ok.ensures.answers
     (subst (λ (es : List Pair). MatchResult c.answer_at.result (λ a. a ≡ answer q.ask (is_exact at.index q) at.key es) (λ e. e ≡ Memory)) pairs c.answer_at.ensures)

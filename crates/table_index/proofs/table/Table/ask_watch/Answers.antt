@@ -1,5 +1,4 @@
 use Rattle.std.proofs.Common.{◌≡◌, ◌∙◌, ◌<◌, ℕ, List, Err, Some, true, ap, get_or, length, slice_get, refl, subst, sym, arith, MatchResult}
-use Rattle.std.proofs.Math.ListN.{get_or-map}
 use Rattle.std.proofs.lemmas.List.{length-map}
 use Rattle.std.proofs.lemmas.Option.{slice_get_read}
 use Rattle.mdb_datum.specs.Row.{Pair}
@@ -9,7 +8,7 @@ use Rattle.radix_node.specs.Cells.{plain_of}
 use Rattle.table_index.specs.Table.{TableRows}
 use Rattle.table_index.specs.Watched.{is_watchable}
 use Rattle.table_index.specs.inner.IndexTrees.{plains}
-use Rattle.table_index.proofs.AskedRows.{answered, pairs_there, place_there, refused}
+use Rattle.table_index.proofs.AskedRows.{answered, pairs_read, place_there, refused}
 use Rattle.table_index.proofs.WatchedRows.{answer_alone, spot_of, unwatched, watched_answer}
 use Rattle.table_index.proofs.table.Table.ask_watch.Goals as goal
 
@@ -30,8 +29,7 @@ returns-in-Ok-clause-answers c =
     let at = c.in-Ok.at in
     let read = c.index.result.now in
     let is : read ≡ get_or trees at.place read = c.index.ensures ∙ ap (λ (place : ℕ). get_or trees place read) c.place.ensures in
-    let plain : plain_of read ≡ get_or (plains trees) at.place (plain_of read) = ap plain_of is ∙ sym (get_or-map plain_of trees at.place read) in
-    let pairs = pairs_there t (plains trees) c.self.invariant at.place at.index c.in-Ok.ensures.there (plain_of read) plain in
+    let pairs = pairs_read t trees c.self.invariant at.place at.index c.in-Ok.ensures.there read is in
     let watchable : is_watchable q.ask ≡ true = sym (c.is_watchable.ensures ∙ ap is_watchable c.ask.ensures) ∙ c.if-not-is_watchable.false in
     watched_answer (is_watchable q.ask) (ask_rows now.schema now.rows q) c.watched_at.result watchable
     (answered t (plains trees) (now.schema, now.rows) (ap (λ (x : TableRows). (x.schema, x.rows)) c.self.view_is) c.ask-2.result q c.ask-2.ensures at (unwatched c.watched_at.result) c.in-Ok.ensures.answers
