@@ -59,27 +59,34 @@ within-set ids ids' ts at old new there all drawn = record {
 }
 
 -- a table may be written by a counter that has counted its ids
-pub may_be_written : (front : Log) (ids : Counter) (t : TableChange) → t.spoiled ≡ false → front.book ≡ ids.book → IsWithin ids t → MayBeWritten front ids t
-may_be_written front ids t sound book within = record {
+pub may_be_written : (front : Log) (ids : Counter) (old t : TableChange) → t ≡ old → old.spoiled ≡ false → front.book ≡ ids.book
+    → IsWithin ids old → MayBeWritten front ids t
+may_be_written front ids old t is sound book within = subst (MayBeWritten front ids) (sym is) (record {
   sound = sound;
   book = book;
   below = within.trees.below;
   of = within.trees.of;
   start = within.start.below;
-}
+})
 
--- a write leaves the trees with which the change began
-pub write_draws : (log : Log) (n : ℕ) (ids ids' : Counter) (old new : TableChange) → IsWithin ids old → new.start ≡ old.start → HasDrawnCells log n ids ids' old new → Draws ids ids' old new
-write_draws log n ids ids' old new within start drawn = record {
-  within = record {
-    start = record { below = drawn.start; of = subst (AreAllOf ids'.book) (sym start) (subst (λ (b : Book). AreAllOf b old.start) (sym drawn.book) within.start.of) };
-    trees = record { below = drawn.below; of = drawn.of };
-  };
-  opened = opened_more ids.next log ids ids' old.trees old.trees new.trees (omega arith) (none_opened ids.next old.trees) drawn.drawn;
-  separate = drawn.separate;
-  book = drawn.book;
-  later = drawn.later;
-}
+-- a write of what a table was opened as leaves the trees with which the change began
+pub write_draws : (log : Log) (n : ℕ) (ids ids' : Counter) (old t new : TableChange) → t ≡ old → IsWithin ids old → new.start ≡ t.start
+    → HasDrawnCells log n ids ids' t new → Draws ids ids' old new
+write_draws log n ids ids' old t new is before start drawn =
+    let within : IsWithin ids t = subst (IsWithin ids) (sym is) before in
+    subst (λ (t : TableChange). Draws ids ids' t new) is (record {
+      within = record {
+        start = record {
+          below = drawn.start;
+          of = subst (AreAllOf ids'.book) (sym start) (subst (λ (b : Book). AreAllOf b t.start) (sym drawn.book) within.start.of);
+        };
+        trees = record { below = drawn.below; of = drawn.of };
+      };
+      opened = opened_more ids.next log ids ids' t.trees t.trees new.trees (omega arith) (none_opened ids.next t.trees) drawn.drawn;
+      separate = drawn.separate;
+      book = drawn.book;
+      later = drawn.later;
+    })
 
 -- nothing was written
 pub none_drawn : (ids : Counter) (old new : TableChange) → new ≡ old → IsWithin ids old → Draws ids ids old new

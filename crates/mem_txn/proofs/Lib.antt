@@ -35,6 +35,7 @@ pub mod StepsMade
 pub mod TableAnswers
 pub mod TableFirst
 pub mod TablesFound
+pub mod TablesWritten
 pub mod Threads
 pub mod ToldAcross
 pub mod TxnWritten

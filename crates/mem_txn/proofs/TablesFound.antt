@@ -1,10 +1,10 @@
 -- The table of a name among tables that stand for a state, and what a question of it is answered.
-use Rattle.std.proofs.Common.{◌≡◌, ◌∙◌, ◌<◌, ◌+◌, ◌++◌, ℕ, zero, List, [], ◌∷◌, map, length, take, drop, get_or, slice_get, append-nil, Bool, true, false, Option, Some, None, option_map, option_and_then, Result, refl, sym, ap, subst, arith}
+use Rattle.std.proofs.Common.{◌≡◌, ◌∙◌, ◌<◌, ◌+◌, ◌++◌, ℕ, zero, List, [], ◌∷◌, map, length, take, drop, slice_get, append-nil, Bool, true, false, Option, Some, None, option_map, option_and_then, Result, refl, sym, ap, subst, arith}
 use Rattle.std.specs.Prelude.{if◌then◌else◌}
 use Rattle.std.specs.Str.{bytes_eq}
 use Rattle.std.proofs.Math.Seq.{drop-length}
 use Rattle.std.proofs.lemmas.List.{length-map, take_all}
-use Rattle.std.proofs.lemmas.Option.{slice_get-map, slice_get_read}
+use Rattle.std.proofs.lemmas.Option.{slice_get-map}
 use Rattle.mdb_datum.specs.Row.{Fields}
 use Rattle.mdb_encode.specs.Bytes.{Bytes}
 use Rattle.mdb_schema.specs.Answer.{Asked, ask, ask_rows, unknown_table}
@@ -17,7 +17,7 @@ use Rattle.mdb_schema.specs.declared.answer.Answer.{Answer}
 use Rattle.mdb_schema.specs.declared.ask_error.AskError.{AskError}
 use Rattle.mdb_schema.proofs.Tables.{IsTableAt, table_at-some}
 use Rattle.table_index.specs.Table.{TableRows, TableChange}
-use Rattle.mem_txn.specs.inner.VersionTables.{AnswersAskAt, StandFor, Tables, schemas_of, standing, state_of}
+use Rattle.mem_txn.specs.inner.VersionTables.{AnswersAskAt, StandFor, schemas_of, standing, state_of}
 
 -- ---- the place of a name
 
@@ -103,14 +103,6 @@ module _ (tables : List TableChange) (schema : DbSchema) (s : State) (stand : St
       ap (λ (ts : DbSchema). slice_get ts place) (sym stand.schemas)
       ∙ slice_get-map (λ (r : TableRows). r.schema) (map standing tables) place
       ∙ ap (option_map (λ (r : TableRows). r.schema)) (standing_there t there)
-
--- ---- the table at a place of a list of them
-
-pub place_within : (old new : Tables) (place : ℕ) → old ≡ new → place < length new.tables → place < length old.tables
-place_within old new place same within = subst (λ (t : Tables). place < length t.tables) (sym same) within
-
-pub place_there : (ts : List TableChange) (place : ℕ) (t : TableChange) → place < length ts → t ≡ get_or ts place t → slice_get ts place ≡ Some t
-place_there ts place t within is = slice_get_read ts (length ts) place t refl within is
 
 -- a vector whose list was lent as a whole, and is as it was
 pub lent_whole : {X : Type 0} (items present : List X) (n : ℕ) → present ≡ items → n ≡ length items → take n (present ++ drop (length present) items) ≡ items

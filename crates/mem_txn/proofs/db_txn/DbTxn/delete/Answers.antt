@@ -1,10 +1,8 @@
-use Rattle.std.proofs.Common.{◌≡◌, List, Ok, Err, Some, refl, subst}
-use Rattle.mdb_datum.specs.Row.{Fields}
-use Rattle.mdb_encode.specs.Bytes.{Bytes}
-use Rattle.mdb_schema.specs.Schema.{TableSchema, table_place}
+use Rattle.std.proofs.Common.{◌≡◌, Some, refl}
+use Rattle.mdb_schema.specs.Schema.{table_place}
 use Rattle.mdb_schema.specs.Write.{remove, remove_row}
-use Rattle.mem_txn.specs.DbTxn.{AnswersTxnWrite, DbTxn, gives_row, present}
-use Rattle.mem_txn.specs.declared.txn_error.TxnWriteError.TheVariants.{Refused}
+use Rattle.mem_txn.specs.DbTxn.{gives_row, present}
+use Rattle.mem_txn.specs.declared.db_txn.DbTxn.TheInside as db_txn
 use Rattle.mem_txn.specs.inner.DbTxnView.{db_txn_view}
 use Rattle.mem_txn.proofs.TablesFound.{stand_within, table_place_within}
 use Rattle.mem_txn.proofs.TxnWritten.{refused_answer, refused_holds, written_answer, written_holds}
@@ -18,55 +16,40 @@ def_at-def-requires c =
 pub remove_in-requires-clause-within : goal.remove_in-requires-clause-within
 remove_in-requires-clause-within c =
     let t = c.self.inside in
-    let found : table_place c.args.table.now t.pass.caller.schema ≡ Some c.in-Some.place = cc in
-    stand_within t.tables.tables t.pass.caller.schema (present (db_txn_view t)) (c.self.invariant.tables c.if-self.false) c.in-Some.place c.args.table.now found
+    let found : table_place c.args.table.now c.self.inside.pass.caller.schema ≡ Some c.in-Some.place = cc in
+    stand_within t.tables.tables t.pass.caller.schema (present (db_txn_view t)) (c.self.invariant.tables c.if-self.false) c.in-Some.place
+    c.args.table.now found
 
 pub invariant_of-self : goal.invariant_of-self
 invariant_of-self c =
-    let t = c.self.inside in
-    let row = c.args.row.now in
-    let found : table_place c.args.table.now t.pass.caller.schema ≡ Some c.in-Some.place = cc in
-    let holds = written_holds gives_row (λ (n : Bytes). remove n row) (λ (s : TableSchema) (rows : List Fields). remove_row s row rows) c.args.table.now (λ schema s. refl) t c.self.invariant c.if-self.false c.in-Some.place found
-    c.remove_in.new.tables c.remove_in.new.writes.items c.def_at-def.result.now c.def_at-def.ensures.there refl c.in-Ok.old c.in-Ok.ensures.0 c.in-Ok.ensures.1 in
-    record {
-      few = c.self.invariant.few;
-      number = c.self.invariant.number;
-      tables = λ sound. holds.tables;
-      ids = λ sound. holds.ids;
-      since = λ sound. holds.since;
-    }
+    let found : table_place c.args.table.now c.self.inside.pass.caller.schema ≡ Some c.in-Some.place = cc in
+    let left : db_txn.Inside = record c.self.inside { tables = c.remove_in.new.tables; writes = c.remove_in.new.writes } in
+    written_holds gives_row remove remove_row c.args.table.now c.args.row.now (λ schema s. refl) c.self.inside left
+    refl c.args.self.now c.self.view_is c.self.invariant c.if-self.false c.in-Some.place found c.def_at-def.result.now
+    c.def_at-def.ensures.there refl c.in-Ok.old c.in-Ok.ensures.0 c.in-Ok.ensures.1
 
 pub invariant_of-self-in-Err : goal.invariant_of-self-in-Err
 invariant_of-self-in-Err c =
-    let t = c.self.inside in
-    let row = c.args.row.now in
-    let found : table_place c.args.table.now t.pass.caller.schema ≡ Some c.in-Some.place = cc in
-    let holds = refused_holds gives_row (λ (n : Bytes). remove n row) (λ (s : TableSchema) (rows : List Fields). remove_row s row rows) c.args.table.now (λ schema s. refl) t c.self.invariant c.if-self.false c.in-Some.place found
-    c.remove_in.new.tables c.remove_in.new.writes.items c.in-Err.error c.in-Err.ensures.0 c.in-Err.ensures.1 c.is_memory-self-inside.result c.is_memory-self-inside.ensures in
-    record {
-      few = c.self.invariant.few;
-      number = c.self.invariant.number;
-      tables = λ sound. (holds sound).tables;
-      ids = λ sound. (holds sound).ids;
-      since = λ sound. (holds sound).since;
-    }
+    let found : table_place c.args.table.now c.self.inside.pass.caller.schema ≡ Some c.in-Some.place = cc in
+    let lost = c.is_memory-self-inside.result in
+    let left : db_txn.Inside = record c.self.inside { tables = c.remove_in.new.tables; writes = c.remove_in.new.writes; spoiled = lost } in
+    refused_holds gives_row remove remove_row c.args.table.now c.args.row.now (λ schema s. refl) c.self.inside left
+    refl c.args.self.now c.self.view_is c.self.invariant c.if-self.false c.in-Some.place found c.in-Err.error c.in-Err.ensures.0
+    c.in-Err.ensures.1 c.is_memory-self-inside.ensures
 
 pub returns-in-Ok : goal.returns-in-Ok
 returns-in-Ok c =
-    let t = c.self.inside in
-    let row = c.args.row.now in
-    let found : table_place c.args.table.now t.pass.caller.schema ≡ Some c.in-Some.place = cc in
-    let new : DbTxn = record { caller = t.pass.caller; writes = c.remove_in.new.writes.items; spoiled = t.spoiled } in
-    subst (λ (o : DbTxn). AnswersTxnWrite gives_row (remove c.args.table.now row) o.spoiled (Ok c.in-Ok.old) o new) c.self.view_is
-    (written_answer gives_row (λ (n : Bytes). remove n row) (λ (s : TableSchema) (rows : List Fields). remove_row s row rows) c.args.table.now (λ schema s. refl) t c.self.invariant c.if-self.false c.in-Some.place found
-    c.remove_in.new.tables c.remove_in.new.writes.items c.def_at-def.result.now c.def_at-def.ensures.there refl c.in-Ok.old c.in-Ok.ensures.0 c.in-Ok.ensures.1)
+    let found : table_place c.args.table.now c.self.inside.pass.caller.schema ≡ Some c.in-Some.place = cc in
+    let left : db_txn.Inside = record c.self.inside { tables = c.remove_in.new.tables; writes = c.remove_in.new.writes } in
+    written_answer gives_row remove remove_row c.args.table.now c.args.row.now (λ schema s. refl) c.self.inside left
+    refl c.args.self.now c.self.view_is c.self.invariant c.if-self.false c.in-Some.place found c.def_at-def.result.now
+    c.def_at-def.ensures.there refl c.in-Ok.old c.in-Ok.ensures.0 c.in-Ok.ensures.1
 
 pub returns-in-Err : goal.returns-in-Err
 returns-in-Err c =
-    let t = c.self.inside in
-    let row = c.args.row.now in
-    let found : table_place c.args.table.now t.pass.caller.schema ≡ Some c.in-Some.place = cc in
-    let new : DbTxn = record { caller = t.pass.caller; writes = c.remove_in.new.writes.items; spoiled = c.is_memory-self-inside.result } in
-    subst (λ (o : DbTxn). AnswersTxnWrite gives_row (remove c.args.table.now row) o.spoiled (Err (Refused c.in-Err.error)) o new) c.self.view_is
-    (refused_answer gives_row (λ (n : Bytes). remove n row) (λ (s : TableSchema) (rows : List Fields). remove_row s row rows) c.args.table.now (λ schema s. refl) t c.self.invariant c.if-self.false c.in-Some.place found
-    c.remove_in.new.tables c.remove_in.new.writes.items c.in-Err.error c.in-Err.ensures.0 c.in-Err.ensures.1 c.is_memory-self-inside.result c.is_memory-self-inside.ensures)
+    let found : table_place c.args.table.now c.self.inside.pass.caller.schema ≡ Some c.in-Some.place = cc in
+    let lost = c.is_memory-self-inside.result in
+    let left : db_txn.Inside = record c.self.inside { tables = c.remove_in.new.tables; writes = c.remove_in.new.writes; spoiled = lost } in
+    refused_answer gives_row remove remove_row c.args.table.now c.args.row.now (λ schema s. refl) c.self.inside left
+    refl c.args.self.now c.self.view_is c.self.invariant c.if-self.false c.in-Some.place found c.in-Err.error c.in-Err.ensures.0
+    c.in-Err.ensures.1 c.is_memory-self-inside.ensures
