@@ -21,7 +21,7 @@ use Rattle.run_check.specs.Output as outputs
 use Rattle.run_check.specs.OutputView.{output_of}
 use Rattle.run_check.specs.Reads.{Reads, lists_of}
 use Rattle.run_check.specs.Shape as shapes
-use Rattle.run_check.specs.Shape.{Read, shape}
+use Rattle.run_check.specs.Shape.{Read}
 use Rattle.run_check.specs.Views.{printed_of}
 use Rattle.run_check.specs.declared.commits.Committed.{Committed}
 use Rattle.run_check.specs.declared.output.Output.{Output}
@@ -81,6 +81,15 @@ module _ (schema : DbSchema) (names : List Bytes) (scripts : List (List Line)) (
 
 -- ---- the clients
 
+-- the one at a place has this script, and was told these replies
+pub record IsNext (scripts : List (List Line)) (o : Output) (k : ℕ) (script : List Line) (ps : List shapes.Printed) : Type 0 where
+  pub script_is : slice_get scripts k ≡ Some script
+  pub replies_are : slice_get (lists_of o.clients.items) k ≡ Some ps
+
+-- what a check of it tells, whatever text it is of
+abbrev Hears : DbSchema → ℕ → List Line → List shapes.Printed → Sessions → Sessions → Result (Unit {0}) Stop → Type 0
+Hears schema k script ps s s' r = (f : Found) (txns : List Begun) → IsReady schema f.history txns s → IsHeard schema f k script ps → ClientChecked schema f.history (k + 1) script ps s' r
+
 module _ (schema : DbSchema) (names : List Bytes) (scripts : List (List Line)) (out : Bytes) (o : Output) (is : IsOutputOf names scripts out o) where
   -- what was found
   abbrev pub found : Found
@@ -136,16 +145,16 @@ module _ (schema : DbSchema) (names : List Bytes) (scripts : List (List Line)) (
   -- ---- client by client
 
   -- a client that comes next
-  pub next_heard : IsLawfulSchema schema → (k : ℕ) (script : List Line) (ps : List shapes.Printed) → slice_get scripts k ≡ Some script → slice_get (lists_of o.clients.items) k ≡ Some ps → IsHeard schema (found_by schema (output_of scripts o)) k script ps
-  next_heard lawful k script ps script_is replies_are = record {
+  pub next_heard : IsLawfulSchema schema → (k : ℕ) (script : List Line) (ps : List shapes.Printed) → IsNext scripts o k script ps → IsHeard schema (found_by schema (output_of scripts o)) k script ps
+  next_heard lawful k script ps next = record {
     names = names;
     scripts = scripts;
     out = out;
     lawful = lawful;
     checked = is.checked;
     passes = found_is;
-    script_is = script_is;
-    replies_are = replies_are;
+    script_is = next.script_is;
+    replies_are = next.replies_are;
   }
 
   pub all_heard : length o.clients.items ≡ length scripts
@@ -165,24 +174,26 @@ module _ (schema : DbSchema) (names : List Bytes) (scripts : List (List Line)) (
   none_checked_yet s ready = record { txns = []; ready = ready; so_far = no_client_told_yet schema H scripts (lists_of o.clients.items) }
 
   -- the next client was told all
-  pub one_checked_more : (k : ℕ) (s s' : Sessions) (script : List Line) (ps : List shapes.Printed) → AreCheckedTo schema scripts o k s → slice_get scripts k ≡ Some script → slice_get (lists_of o.clients.items) k ≡ Some ps → (u : Unit {0}) → ClientChecked schema (found_by schema (output_of scripts o)).history (k + 1) script ps s' (Ok u) → AreCheckedTo schema scripts o (k + 1) s'
-  one_checked_more k s s' script ps so_far script_is replies_are u told =
+  pub one_checked_more : IsLawfulSchema schema → (k : ℕ) (s s' : Sessions) (script : List Line) (ps : List shapes.Printed) → AreCheckedTo schema scripts o k s → IsNext scripts o k script ps → (u : Unit {0}) → Hears schema k script ps s s' (Ok u) → AreCheckedTo schema scripts o (k + 1) s'
+  one_checked_more lawful k s s' script ps so_far next u hears =
       let number : k + 1 ≡ 1 + k = omega arith in
+      let told = hears (found_by schema (output_of scripts o)) so_far.txns so_far.ready (next_heard schema names scripts out o is lawful k script ps next) in
       record {
         txns = told.0;
         ready = told.2;
         so_far = subst (AreToldSoFar schema H scripts (lists_of o.clients.items)) (search (arith))
-            (client_told schema H scripts (lists_of o.clients.items) k script ps so_far.so_far script_is replies_are (subst (λ (n : ℕ). AreTold schema H n at_start script ps) number told.1));
+            (client_told schema H scripts (lists_of o.clients.items) k script ps so_far.so_far next.script_is next.replies_are (subst (λ (n : ℕ). AreTold schema H n at_start script ps) number told.1));
       }
 
   -- it can't be told one, or there was no memory
-  pub one_not_checked : IsLawfulSchema schema → (k : ℕ) (s s' : Sessions) (script : List Line) (ps : List shapes.Printed) → AreCheckedTo schema scripts o k s → slice_get scripts k ≡ Some script → slice_get (lists_of o.clients.items) k ≡ Some ps → (stop : Stop) → ClientChecked schema (found_by schema (output_of scripts o)).history (k + 1) script ps s' (Err stop) → Judges schema names scripts out (Err stop)
-  one_not_checked lawful k s s' script ps so_far script_is replies_are stops.Memory told = tt
-  one_not_checked lawful k s s' script ps so_far script_is replies_are (stops.Bad line) told =
+  pub one_not_checked : IsLawfulSchema schema → (k : ℕ) (s s' : Sessions) (script : List Line) (ps : List shapes.Printed) → AreCheckedTo schema scripts o k s → IsNext scripts o k script ps → (stop : Stop) → Hears schema k script ps s s' (Err stop) → Judges schema names scripts out (Err stop)
+  one_not_checked lawful k s s' script ps so_far next stops.Memory hears = tt
+  one_not_checked lawful k s s' script ps so_far next (stops.Bad line) hears =
       let number : k + 1 ≡ 1 + k = omega arith in
+      let told = hears (found_by schema (output_of scripts o)) so_far.txns so_far.ready (next_heard schema names scripts out o is lawful k script ps next) in
       bad_judged schema names scripts out lawful is.checked line
       (bad_by_replies schema names scripts out (found_by schema (output_of scripts o)) (found_is schema names scripts out o is) line
-      (client_untold schema H scripts (lists_of o.clients.items) k line script ps so_far.so_far script_is replies_are (subst (λ (n : ℕ). AreToldUpTo schema H n at_start script ps line) number told)))
+      (client_untold schema H scripts (lists_of o.clients.items) k line script ps so_far.so_far next.script_is next.replies_are (subst (λ (n : ℕ). AreToldUpTo schema H n at_start script ps line) number told)))
 
   -- all were told all
   pub all_checked : (k : ℕ) (s : Sessions) → AreCheckedTo schema scripts o k s → length o.clients.items ≤ k → Judges schema names scripts out (Ok tt)

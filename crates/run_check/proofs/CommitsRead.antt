@@ -59,26 +59,9 @@ ends_number (c ∷ changed) texts = refl
 
 pub commit_read : (r : Reply) → ((n : ℕ) (changed : List Changed) (texts : List Bytes) → r ≡ committed n changed texts → n < 2 ^ 64) → number_behind (codes "commit @") (reply_text r) ≡ commit_of r
 commit_read (committed n changed texts) small = number_after (codes "commit @") (changed_lines changed ++ did_lines texts) n (small n changed texts refl) (ends_number changed texts)
-commit_read (read_at n) small = refl
-commit_read (write_at n) small = refl
-commit_read ended small = refl
-commit_read aborted small = refl
-commit_read inserted small = refl
-commit_read replaced small = refl
-commit_read deleted small = refl
-commit_read (wiped k) small = refl
-commit_read deferred small = refl
 commit_read (answered (One None)) small = refl
-commit_read (answered (One (Some row))) small = refl
 commit_read (answered (Many rows)) small = refl
-commit_read (snapshot_at n) small = refl
-commit_read (snapshot_within n) small = refl
-commit_read (quiet_at n) small = refl
-commit_read (fired_at n) small = refl
-commit_read (sized k) small = refl
-commit_read (woken_by name n) small = refl
-commit_read (stopped_at n) small = refl
-commit_read (refused rule) small = refl
+commit_read r small = refl
 
 commit_number : (r : Reply) → IsSmall r → number_behind (codes "commit @") (reply_text r) ≡ commit_of r
 commit_number r small = commit_read r (λ n changed texts is. subst IsSmall is small)
@@ -86,25 +69,8 @@ commit_number r small = commit_read r (λ n changed texts is. subst IsSmall is s
 -- small replies have few rows
 few_rows : (r : Reply) → IsSmall r → HasFewRows r
 few_rows (committed n changed texts) small = small
-few_rows (answered (One row)) small = tt
 few_rows (answered (Many rows)) small = small
-few_rows (read_at n) small = tt
-few_rows (write_at n) small = tt
-few_rows ended small = tt
-few_rows aborted small = tt
-few_rows inserted small = tt
-few_rows replaced small = tt
-few_rows deleted small = tt
-few_rows (wiped k) small = tt
-few_rows deferred small = tt
-few_rows (snapshot_at n) small = tt
-few_rows (snapshot_within n) small = tt
-few_rows (quiet_at n) small = tt
-few_rows (fired_at n) small = tt
-few_rows (sized k) small = tt
-few_rows (woken_by name n) small = tt
-few_rows (stopped_at n) small = tt
-few_rows (refused rule) small = tt
+few_rows r small = tt
 
 -- what is open behind a line, by the lines alone
 pub working_mode : (w : Working) (c : Command) (text : Bytes) → (working_after w c text).mode ≡ mode_after w.mode c
@@ -114,18 +80,7 @@ working_mode w c text = of w.mode w.begun w.lines c
     of Idle b ls (command.Transaction transaction_line.Write) = refl
     of Reads b ls (command.Transaction transaction_line.Write) = refl
     of Writes b ls (command.Transaction transaction_line.Write) = refl
-    of m b ls (command.Transaction transaction_line.Read) = refl
-    of m b ls (command.Transaction transaction_line.End) = refl
-    of m b ls (command.Transaction transaction_line.Commit) = refl
-    of m b ls (command.Transaction transaction_line.Abort) = refl
-    of Idle b ls (command.Write line) = refl
-    of Reads b ls (command.Write line) = refl
-    of Writes b ls (command.Write line) = refl
-    of m b ls (command.Defer text') = refl
-    of m b ls (command.Ask a) = refl
-    of m b ls (command.Name n) = refl
-    of m b ls (command.Size set) = refl
-    of m b ls (command.Watches c') = refl
+    of m b ls c = refl
 
 -- ---- commits that are those of the history
 

@@ -170,39 +170,11 @@ open_more : (w : Working) (c : Command) (text : Bytes) → open_lines (working_a
 open_more w c text = of w.mode w.begun w.lines c
   where
     of : (m : Mode) (b : Option ℕ) (ls : List WriteCommand) (c : Command) → open_lines (working_after (record { mode = m; begun = b; lines = ls }) c text).mode (working_after (record { mode = m; begun = b; lines = ls }) c text).lines ≤ open_lines m ls + 1
-    of Idle b ls (command.Transaction transaction_line.Read) = omega arith
     of Idle b ls (command.Transaction transaction_line.Write) = omega arith
-    of Idle b ls (command.Transaction transaction_line.End) = omega arith
-    of Idle b ls (command.Transaction transaction_line.Commit) = omega arith
-    of Idle b ls (command.Transaction transaction_line.Abort) = omega arith
-    of Idle b ls (command.Write line) = omega arith
-    of Idle b ls (command.Defer t) = omega arith
-    of Idle b ls (command.Ask a) = omega arith
-    of Idle b ls (command.Name n) = omega arith
-    of Idle b ls (command.Size set) = omega arith
-    of Idle b ls (command.Watches x) = omega arith
-    of Reads b ls (command.Transaction transaction_line.Read) = omega arith
     of Reads b ls (command.Transaction transaction_line.Write) = omega arith
-    of Reads b ls (command.Transaction transaction_line.End) = omega arith
-    of Reads b ls (command.Transaction transaction_line.Commit) = omega arith
-    of Reads b ls (command.Transaction transaction_line.Abort) = omega arith
-    of Reads b ls (command.Write line) = omega arith
-    of Reads b ls (command.Defer t) = omega arith
-    of Reads b ls (command.Ask a) = omega arith
-    of Reads b ls (command.Name n) = omega arith
-    of Reads b ls (command.Size set) = omega arith
-    of Reads b ls (command.Watches x) = omega arith
-    of Writes b ls (command.Transaction transaction_line.Read) = omega arith
     of Writes b ls (command.Transaction transaction_line.Write) = omega arith
-    of Writes b ls (command.Transaction transaction_line.End) = omega arith
-    of Writes b ls (command.Transaction transaction_line.Commit) = omega arith
-    of Writes b ls (command.Transaction transaction_line.Abort) = omega arith
     of Writes b ls (command.Write line) = let more = length-append ls (line ∷ []) in omega (arith, more)
-    of Writes b ls (command.Defer t) = omega arith
-    of Writes b ls (command.Ask a) = omega arith
-    of Writes b ls (command.Name n) = omega arith
-    of Writes b ls (command.Size set) = omega arith
-    of Writes b ls (command.Watches x) = omega arith
+    of m b ls c = omega arith
 
 -- at the line that tells a commit, they are its lines, and none is open behind it
 commit_spread : (client : ℕ) (w : Working) (mode : Mode) (c : Command) (p : Printed) → w.mode ≡ mode → ((m : ℕ) → number_behind (codes "commit @") p.text ≡ Some m → TellsCommit mode c) → all_lines (commit_in client w p (number_behind (codes "commit @") p.text)) + open_lines (working_after w c p.text).mode (working_after w c p.text).lines ≤ open_lines w.mode w.lines + 1

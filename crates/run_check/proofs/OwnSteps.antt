@@ -36,11 +36,18 @@ use Rattle.run_check.proofs.KeysWritten.{ChangesOnly, cover_then, only_there, ri
 use Rattle.run_check.proofs.OwnWrites.{are_ready, are_seen, more_none, more_one, now_lawful, own_grown, rows_there, state_one, with_one}
 use Rattle.run_check.proofs.StoreGrows.{step_put, step_remove, store_grows}
 
--- an answer where these indexes are seen so, which are those of the table
-pub answers_as : (t : TableSchema) (R : List Fields → List KeyVersions → Type 0) (here sight : Sight) (zs xs : List KeyVersions) → sight ≡ here → zs ≡ xs → ((rows : List Fields) → AreSeen t rows sight xs → R rows xs) → (rows : List Fields) → AreSeen t rows here zs → R rows zs
-answers_as t R here sight zs xs e same done rows seen =
-    subst (λ (us : List KeyVersions). R rows us) (sym same)
-    (done rows (subst (λ (z : Sight). AreSeen t rows z xs) (sym e) (subst (λ (us : List KeyVersions). AreSeen t rows here us) same seen)))
+-- the indexes of the table at a place, as they are lent to a write of one row
+pub record AreLent (s : Sessions) (place : ℕ) (t : TableSchema) (v : Vec index.Index Global) (xs : List KeyVersions) : Type 0 where
+  pub there : slice_get s.schema.now place ≡ Some t
+  pub is : v ≡ get_or s.store.tables.items place v
+  pub same : xs ≡ v.items
+  pub len : length xs ≡ v.len
+
+-- what the write asks of them
+pub record MayWrite (w : Writing) (place : ℕ) (t : TableSchema) (xs : List KeyVersions) : Type 0 where
+  pub ready : AreReady (stamps.Own w.own) xs
+  pub long : length xs ≡ length t.indexes
+  pub few : place < 256
 
 abbrev so : State → ℕ → Changed → Stepped
 so base place d = Ok (slice_set base place d.0, d.1)
@@ -48,6 +55,9 @@ so base place d = Ok (slice_set base place d.0, d.1)
 module _ (schema : DbSchema) (H : History) (txns : List Begun) (s : Sessions) (w : Writing) (writing : IsWriting schema H txns s w) where
   abbrev base : State
   base = state_now schema H txns w.number w.own
+
+  abbrev here : Sight
+  here = record { commits = w.number; own = Some w.own }
 
   pub has_none : (x : Sessions) → x.schema.now ≡ s.schema.now → StandsFor schema H txns x.store → HasMore schema H txns [] w x w
   has_none x same stands = record {
@@ -57,18 +67,34 @@ module _ (schema : DbSchema) (H : History) (txns : List Begun) (s : Sessions) (w
     kept = refl;
   }
 
-  module _ (place : ℕ) (t : TableSchema) (there : slice_get schema place ≡ Some t) where
-    pub few_tables : place < 256
-    few_tables = omega (arith, slice_get_within schema place t there, writing.lawful.few)
+  module _ (place : ℕ) (t : TableSchema) (v : Vec index.Index Global) (xs : List KeyVersions) (lent : AreLent s place t v xs) where
+    there : slice_get schema place ≡ Some t
+    there = ap (λ (d : DbSchema). slice_get d place) (sym writing.schema_is) ∙ lent.there
 
-    abbrev here : Sight
-    here = record { commits = w.number; own = Some w.own }
+    held_there : slice_get s.store.tables.items place ≡ Some v
+    held_there = slice_get-get_or s.store.tables.items place v (omega (arith, slice_get_within schema place t there, writing.stands.tables)) ∙ ap Some (sym lent.is)
+
+    same_indexes : indexes_at s.store place ≡ xs
+    same_indexes = indexes_held s.store place v held_there ∙ sym lent.same
+
+    pub may_write : MayWrite w place t xs
+    may_write = record {
+      ready = subst (λ (zs : List KeyVersions). AreReady (stamps.Own w.own) zs) same_indexes (are_ready schema H txns w.number w.own (changed_of w) writing.carried s.store writing.stands place t there);
+      long = ap (λ (zs : List KeyVersions). length zs) (sym same_indexes) ∙ writing.stands.indexes place t there;
+      few = omega (arith, slice_get_within schema place t there, writing.lawful.few);
+    }
 
     abbrev held : (rows : List Fields) × (slice_get base place ≡ Some rows)
     held = rows_there schema H txns w.number w.own (changed_of w) writing.carried s.store writing.stands place t there
 
     seen : AreSeen t held.0 here (indexes_at s.store place)
     seen = are_seen schema H txns w.number w.own (changed_of w) writing.carried s.store writing.stands place t there held.0 held.1
+
+    -- an answer for the indexes as they are lent, and seen so, is one for those of the table
+    answered : (R : List Fields → List KeyVersions → Type 0) (sight : Sight) → sight ≡ here → ((rows : List Fields) → AreSeen t rows sight xs → R rows xs) → R held.0 (indexes_at s.store place)
+    answered R sight is answers =
+        subst (λ (zs : List KeyVersions). R held.0 zs) (sym same_indexes)
+        (answers held.0 (subst (λ (z : Sight). AreSeen t held.0 z xs) (sym is) (subst (λ (zs : List KeyVersions). AreSeen t held.0 here zs) same_indexes seen)))
 
     module _ (name : Bytes) (row : Fields) (named : table_place name schema ≡ Some place) where
       putting : step schema base (put name row) ≡ (put_row t row held.0 >>= (λ (d : Changed). so base place d))
@@ -77,139 +103,119 @@ module _ (schema : DbSchema) (H : History) (txns : List Begun) (s : Sessions) (w
       removing : step schema base (remove name row) ≡ (remove_row t row held.0 >>= (λ (d : Changed). so base place d))
       removing = step_remove schema base place t held.0 name named there held.1 row
 
-    -- ---- a write that is done
+    module _ (ys : List KeyVersions) where
+      abbrev after : Sessions
+      after = record s { store = record { tables = with_item s.store.tables place (with_items v ys) } }
 
-    module _ (x : Sessions) (schema_same : x.schema.now ≡ s.schema.now) (ys : List KeyVersions) (written : IsWrittenAt place ys s.store x.store) (long : length ys ≡ length (indexes_at s.store place)) where
-      module _ (write : Write) (told : Tested Changed) (rows : List Fields) (held : slice_get base place ≡ Some rows) (stepped : step schema base write ≡ (told >>= (λ (d : Changed). so base place d))) (name : t.name ≡ table_of write)
-          (changed : HasChanged t rows (row_put write) told (stamps.Own w.own) (indexes_at s.store place) ys) where
-        pub is_step : step schema base write ≡ Ok (slice_set base place changed.changed.0, changed.changed.1)
-        is_step = stepped ∙ ap (λ (r : Tested Changed). r >>= (λ (d : Changed). so base place d)) changed.done
+      written : length ys ≡ length xs → IsWrittenAt place ys s.store after.store
+      written long = written_at s.store place v ys held_there (long ∙ lent.len)
 
-        now_stands : StandsFor schema H (with_one schema H txns w.number w.own (changed_of w) writing.carried write) x.store
-        now_stands =
-            store_grows schema writing.lawful H txns H (with_one schema H txns w.number w.own (changed_of w) writing.carried write) (stamps.Own w.own) base write (own_grown schema H txns w.number w.own (changed_of w) writing.carried write) s.store x.store writing.stands
-            place t rows there held name told stepped ys changed long written (state_long schema base (now_lawful schema H txns w.number w.own))
+      -- ---- a write that is done
 
-        module _ (id : Bytes) (others : (i : Bytes) → bytes_eq id i ≡ false → row_at t i changed.changed.0 ≡ row_at t i rows) (y : Writing) (own : y.own ≡ record { txn = w.own.txn; writes = w.own.writes + 1 })
-            (keys : changed_of y ≡ changed_then t.tracked place id (changed_of w)) (kept : y ≡ record w { own = y.own; changed = y.changed }) where
-          state_now_is : state_now schema H (with_one schema H txns w.number w.own (changed_of w) writing.carried write) w.number (record { txn = w.own.txn; writes = w.own.writes + 1 }) ≡ slice_set base place changed.changed.0
-          state_now_is = state_one schema H txns w.number w.own (changed_of w) writing.carried write ∙ ap (state_or base) is_step
+      module _ (long : length ys ≡ length xs) where
+        module _ (write : Write) (told : Tested Changed) (stepped : step schema base write ≡ (told >>= (λ (d : Changed). so base place d))) (name : t.name ≡ table_of write)
+            (changed : HasChanged t held.0 (row_put write) told (stamps.Own w.own) (indexes_at s.store place) ys) where
+          is_step : step schema base write ≡ Ok (slice_set base place changed.changed.0, changed.changed.1)
+          is_step = stepped ∙ ap (λ (r : Tested Changed). r >>= (λ (d : Changed). so base place d)) changed.done
 
-          still_carried : IsCarried schema H (with_one schema H txns w.number w.own (changed_of w) writing.carried write) w.number (record { txn = w.own.txn; writes = w.own.writes + 1 }) (changed_then t.tracked place id (changed_of w))
-          still_carried =
-              let c = writing.carried in
-              let more = more_one w.own.txn txns c.begun write c.is in
-              record {
-                there = c.there;
-                last = c.last ∙ sym more.long;
-                begun = record { number = c.begun.number; writes = c.begun.writes ++ write ∷ [] };
-                is = more.here c.begun c.is;
-                on = c.on;
-                all = omega (arith, c.all, length-append c.begun.writes (write ∷ []));
-                tracked = tracked_then place id (changed_of w) schema t there c.tracked;
-                rise = rise_then place id (changed_of w) t.tracked c.rise;
-                cover = cover_then place id (changed_of w) schema t there (state_at schema H w.number) base
-                    (state_now schema H (with_one schema H txns w.number w.own (changed_of w) writing.carried write) w.number (record { txn = w.own.txn; writes = w.own.writes + 1 }))
-                    (subst (λ (n : State). ChangesOnly place id (changed_of w) schema t there base n) (sym state_now_is) (only_there place id (changed_of w) schema t there base rows changed.changed.0 held others)) c.cover;
-              }
+          now_stands : StandsFor schema H (with_one schema H txns w.number w.own (changed_of w) writing.carried write) after.store
+          now_stands =
+              store_grows schema writing.lawful H txns H (with_one schema H txns w.number w.own (changed_of w) writing.carried write) (stamps.Own w.own) base write (own_grown schema H txns w.number w.own (changed_of w) writing.carried write) s.store after.store writing.stands
+              place t held.0 there held.1 name told stepped ys changed (long ∙ ap (λ (zs : List KeyVersions). length zs) (sym same_indexes)) (written long) (state_long schema base (now_lawful schema H txns w.number w.own))
 
-          pub has_one : HasMore schema H txns (write ∷ []) w x y
-          has_one = record {
-            now = with_one schema H txns w.number w.own (changed_of w) writing.carried write;
-            more = more_one w.own.txn txns writing.carried.begun write writing.carried.is;
-            writing = record {
-              schema_is = schema_same ∙ writing.schema_is;
-              lawful = writing.lawful;
-              stands = now_stands;
-              carried = subst (λ (p : ℕ × Own × List Bytes). IsCarried schema H (with_one schema H txns w.number w.own (changed_of w) writing.carried write) p.0 p.1 p.2)
-                  (λ j. (ap (λ (z : Writing). z.number) (sym kept) j, sym own j, sym keys j)) still_carried;
-            };
-            kept = kept;
-          }
+          module _ (id : Bytes) (others : (i : Bytes) → bytes_eq id i ≡ false → row_at t i changed.changed.0 ≡ row_at t i held.0) (y : Writing) (own : y.own ≡ record { txn = w.own.txn; writes = w.own.writes + 1 })
+              (keys : changed_of y ≡ changed_then t.tracked place id (changed_of w)) (kept : y ≡ record w { own = y.own; changed = y.changed }) where
+            state_now_is : state_now schema H (with_one schema H txns w.number w.own (changed_of w) writing.carried write) w.number (record { txn = w.own.txn; writes = w.own.writes + 1 }) ≡ slice_set base place changed.changed.0
+            state_now_is = state_one schema H txns w.number w.own (changed_of w) writing.carried write ∙ ap (state_or base) is_step
 
-      -- ---- a put and a removal
+            still_carried : IsCarried schema H (with_one schema H txns w.number w.own (changed_of w) writing.carried write) w.number (record { txn = w.own.txn; writes = w.own.writes + 1 }) (changed_then t.tracked place id (changed_of w))
+            still_carried =
+                let c = writing.carried in
+                let more = more_one w.own.txn txns c.begun write c.is in
+                record {
+                  there = c.there;
+                  last = c.last ∙ sym more.long;
+                  begun = record { number = c.begun.number; writes = c.begun.writes ++ write ∷ [] };
+                  is = more.here c.begun c.is;
+                  on = c.on;
+                  all = omega (arith, c.all, length-append c.begun.writes (write ∷ []));
+                  tracked = tracked_then place id (changed_of w) schema t there c.tracked;
+                  rise = rise_then place id (changed_of w) t.tracked c.rise;
+                  cover = cover_then place id (changed_of w) schema t there (state_at schema H w.number) base
+                      (state_now schema H (with_one schema H txns w.number w.own (changed_of w) writing.carried write) w.number (record { txn = w.own.txn; writes = w.own.writes + 1 }))
+                      (subst (λ (n : State). ChangesOnly place id (changed_of w) schema t there base n) (sym state_now_is) (only_there place id (changed_of w) schema t there base held.0 changed.changed.0 held.1 others)) c.cover;
+                }
 
-      module _ (name : Bytes) (row : Fields) (named : table_place name schema ≡ Some place) where
-        pub put_done : (p : Vec ℕ Global × Bool) → ((rows : List Fields) → AreSeen t rows here (indexes_at s.store place) → AnswersPut t row rows (stamps.Own w.own) (Ok p) (indexes_at s.store place) ys)
-            → (y : Writing) → y.own ≡ record { txn = w.own.txn; writes = w.own.writes + 1 } → changed_of y ≡ changed_then t.tracked place p.0.items (changed_of w) → y ≡ record w { own = y.own; changed = y.changed }
-            → AnswersStep TellsRow schema H txns (put name row) w (Ok p.1) x y
-        put_done p answers y own keys kept =
-            let a = answers held.0 seen in
-            let c = a.0.changed in
-            let done = put_accepted t row held.0 c a.0.done in
-            let others : (i : Bytes) → bytes_eq p.0.items i ≡ false → row_at t i c.0 ≡ row_at t i held.0 =
-            λ i e. ap (λ (d : Changed). row_at t i d.0) (sym done.1) ∙ row_at-with_row_other t i row held.0 (ap (λ (k : Bytes). bytes_eq k i) (sym a.1) ∙ e) in
-            let named_so = table_place-name name schema place t named there in (
-              (slice_set base place c.0, c.1),
-              is_step (put name row) (put_row t row held.0) held.0 held.1 (putting name row named) named_so a.0,
-              a.2,
-              has_one (put name row) (put_row t row held.0) held.0 held.1 (putting name row named) named_so a.0 p.0.items others y own keys kept,
-            )
+            has_one : HasMore schema H txns (write ∷ []) w after y
+            has_one = record {
+              now = with_one schema H txns w.number w.own (changed_of w) writing.carried write;
+              more = more_one w.own.txn txns writing.carried.begun write writing.carried.is;
+              writing = record {
+                schema_is = writing.schema_is;
+                lawful = writing.lawful;
+                stands = now_stands;
+                carried = subst (λ (p : ℕ × Own × List Bytes). IsCarried schema H (with_one schema H txns w.number w.own (changed_of w) writing.carried write) p.0 p.1 p.2)
+                    (λ j. (ap (λ (z : Writing). z.number) (sym kept) j, sym own j, sym keys j)) still_carried;
+              };
+              kept = kept;
+            }
 
-        pub removal_done : (id : Vec ℕ Global) → ((rows : List Fields) → AreSeen t rows here (indexes_at s.store place) → AnswersRemove t row rows (stamps.Own w.own) (Ok id) (indexes_at s.store place) ys)
-            → (y : Writing) → y.own ≡ record { txn = w.own.txn; writes = w.own.writes + 1 } → changed_of y ≡ changed_then t.tracked place id.items (changed_of w) → y ≡ record w { own = y.own; changed = y.changed }
-            → AnswersStep TellsNone schema H txns (remove name row) w (Ok tt) x y
-        removal_done id answers y own keys kept =
-            let a = answers held.0 seen in
-            let c = a.0.changed in
-            let done = remove_accepted t row held.0 c a.0.done in
-            let rising = (rows_lawful schema base place t held.0 (now_lawful schema H txns w.number w.own) there held.1).rising in
-            let others : (i : Bytes) → bytes_eq id.items i ≡ false → row_at t i c.0 ≡ row_at t i held.0 =
-            λ i e.
-            ap (λ (d : Changed). row_at t i d.0) (sym done.2) ∙ row_at-without_row t i (id_key t row) held.0 rising
-            ∙ cond-false (bytes_eq (id_key t row) i) None (row_at t i held.0) (ap (λ (k : Bytes). bytes_eq k i) (sym a.1) ∙ e) in
-            let named_so = table_place-name name schema place t named there in (
-              (slice_set base place c.0, c.1),
-              is_step (remove name row) (remove_row t row held.0) held.0 held.1 (removing name row named) named_so a.0,
-              tt,
-              has_one (remove name row) (remove_row t row held.0) held.0 held.1 (removing name row named) named_so a.0 id.items others y own keys kept,
-            )
+        -- a put and a removal
+        module _ (name : Bytes) (row : Fields) (named : table_place name schema ≡ Some place) (sight : Sight) (sees : sight ≡ here) where
+          pub put_done : (p : Vec ℕ Global × Bool) → ((rows : List Fields) → AreSeen t rows sight xs → AnswersPut t row rows (stamps.Own w.own) (Ok p) xs ys)
+              → (y : Writing) → y.own ≡ record { txn = w.own.txn; writes = w.own.writes + 1 } → changed_of y ≡ changed_then t.tracked place p.0.items (changed_of w) → y ≡ record w { own = y.own; changed = y.changed }
+              → AnswersStep TellsRow schema H txns (put name row) w (Ok p.1) after y
+          put_done p answers y own keys kept =
+              let a : AnswersPut t row held.0 (stamps.Own w.own) (Ok p) (indexes_at s.store place) ys = answered (λ rows zs. AnswersPut t row rows (stamps.Own w.own) (Ok p) zs ys) sight sees answers in
+              let c = a.0.changed in
+              let done = put_accepted t row held.0 c a.0.done in
+              let others : (i : Bytes) → bytes_eq p.0.items i ≡ false → row_at t i c.0 ≡ row_at t i held.0 =
+              λ i e. ap (λ (d : Changed). row_at t i d.0) (sym done.1) ∙ row_at-with_row_other t i row held.0 (ap (λ (k : Bytes). bytes_eq k i) (sym a.1) ∙ e) in
+              let named_so = table_place-name name schema place t named there in (
+                (slice_set base place c.0, c.1),
+                is_step (put name row) (put_row t row held.0) (putting name row named) named_so a.0,
+                a.2,
+                has_one (put name row) (put_row t row held.0) (putting name row named) named_so a.0 p.0.items others y own keys kept,
+              )
 
-    -- ---- as the code holds the indexes of the table
-
-    module _ (v : Vec index.Index Global) (is : v ≡ get_or s.store.tables.items place v) where
-      held_there : slice_get s.store.tables.items place ≡ Some v
-      held_there = slice_get-get_or s.store.tables.items place v (omega (arith, slice_get_within schema place t there, writing.stands.tables)) ∙ ap Some (sym is)
-
-      pub same_indexes : (xs : List KeyVersions) → xs ≡ v.items → indexes_at s.store place ≡ xs
-      same_indexes xs same = indexes_held s.store place v held_there ∙ sym same
-
-      pub list_ready : (xs : List KeyVersions) → xs ≡ v.items → AreReady (stamps.Own w.own) xs
-      list_ready xs same = subst (λ (zs : List KeyVersions). AreReady (stamps.Own w.own) zs) (same_indexes xs same) (are_ready schema H txns w.number w.own (changed_of w) writing.carried s.store writing.stands place t there)
-
-      pub list_long : (xs : List KeyVersions) → xs ≡ v.items → length xs ≡ length t.indexes
-      list_long xs same = ap (λ (zs : List KeyVersions). length zs) (sym (same_indexes xs same)) ∙ writing.stands.indexes place t there
-
-      pub list_written : (xs ys : List KeyVersions) → xs ≡ v.items → length xs ≡ v.len → length ys ≡ length xs → IsWrittenAt place ys s.store (record { tables = with_item s.store.tables place (with_items v ys) })
-      list_written xs ys same len long = written_at s.store place v ys held_there (long ∙ len)
+          pub removal_done : (id : Vec ℕ Global) → ((rows : List Fields) → AreSeen t rows sight xs → AnswersRemove t row rows (stamps.Own w.own) (Ok id) xs ys)
+              → (y : Writing) → y.own ≡ record { txn = w.own.txn; writes = w.own.writes + 1 } → changed_of y ≡ changed_then t.tracked place id.items (changed_of w) → y ≡ record w { own = y.own; changed = y.changed }
+              → AnswersStep TellsNone schema H txns (remove name row) w (Ok tt) after y
+          removal_done id answers y own keys kept =
+              let a : AnswersRemove t row held.0 (stamps.Own w.own) (Ok id) (indexes_at s.store place) ys = answered (λ rows zs. AnswersRemove t row rows (stamps.Own w.own) (Ok id) zs ys) sight sees answers in
+              let c = a.0.changed in
+              let done = remove_accepted t row held.0 c a.0.done in
+              let rising = (rows_lawful schema base place t held.0 (now_lawful schema H txns w.number w.own) there held.1).rising in
+              let others : (i : Bytes) → bytes_eq id.items i ≡ false → row_at t i c.0 ≡ row_at t i held.0 =
+              λ i e.
+              ap (λ (d : Changed). row_at t i d.0) (sym done.2) ∙ row_at-without_row t i (id_key t row) held.0 rising
+              ∙ cond-false (bytes_eq (id_key t row) i) None (row_at t i held.0) (ap (λ (k : Bytes). bytes_eq k i) (sym a.1) ∙ e) in
+              let named_so = table_place-name name schema place t named there in (
+                (slice_set base place c.0, c.1),
+                is_step (remove name row) (remove_row t row held.0) (removing name row named) named_so a.0,
+                tt,
+                has_one (remove name row) (remove_row t row held.0) (removing name row named) named_so a.0 id.items others y own keys kept,
+              )
 
       -- ---- a write that is refused
 
-      module _ (xs ys : List KeyVersions) (same : xs ≡ v.items) (len : length xs ≡ v.len) where
-        abbrev after : Sessions
-        after = record s { store = record { tables = with_item s.store.tables place (with_items v ys) } }
+      not_done : {A : Type 0} (Tells : A → Option Fields → Type 0) (write : Write) (told : Tested Changed) → step schema base write ≡ (told >>= (λ (d : Changed). so base place d))
+          → (e : WriteError) → IsRefusedWrite told e (indexes_at s.store place) ys → AnswersStep Tells schema H txns write w (Err e) after w
+      not_done Tells write told stepped e refused = elim refused [
+        | inl memory ↦ inl memory
+        | inr why ↦
+            let so_far = written (ap (λ (zs : List KeyVersions). length zs) (why.3 ∙ same_indexes)) in
+            inr (
+              why.0,
+              stepped ∙ ap (λ (r : Tested Changed). r >>= (λ (d : Changed). so base place d)) why.1,
+              why.2,
+              has_none after refl (stands_same schema H txns s.store after.store so_far.tables (unchanged place ys s.store after.store so_far why.3) writing.stands),
+            )
+      ]
 
-        not_done : {A : Type 0} (Tells : A → Option Fields → Type 0) (write : Write) (told : Tested Changed) → step schema base write ≡ (told >>= (λ (d : Changed). so base place d))
-            → (e : WriteError) → IsRefusedWrite told e (indexes_at s.store place) ys → AnswersStep Tells schema H txns write w (Err e) after w
-        not_done Tells write told stepped e refused = elim refused [
-          | inl memory ↦ inl memory
-          | inr why ↦
-              let long : length ys ≡ length xs = ap (λ (zs : List KeyVersions). length zs) (why.3 ∙ same_indexes xs same) in
-              let written = list_written xs ys same len long in
-              inr (
-                why.0,
-                stepped ∙ ap (λ (r : Tested Changed). r >>= (λ (d : Changed). so base place d)) why.1,
-                why.2,
-                has_none after refl (stands_same schema H txns s.store after.store written.tables (unchanged place ys s.store after.store written why.3) writing.stands),
-              )
-        ]
+      module _ (name : Bytes) (row : Fields) (named : table_place name schema ≡ Some place) (sight : Sight) (sees : sight ≡ here) (e : WriteError) where
+        pub put_refused : ((rows : List Fields) → AreSeen t rows sight xs → AnswersPut t row rows (stamps.Own w.own) (Err e) xs ys) → AnswersStep TellsRow schema H txns (put name row) w (Err e) after w
+        put_refused answers = not_done TellsRow (put name row) (put_row t row held.0) (putting name row named) e (answered (λ rows zs. AnswersPut t row rows (stamps.Own w.own) (Err e) zs ys) sight sees answers)
 
-        pub put_refused : (name : Bytes) (row : Fields) → table_place name schema ≡ Some place → (e : WriteError)
-            → ((rows : List Fields) → AreSeen t rows here (indexes_at s.store place) → AnswersPut t row rows (stamps.Own w.own) (Err e) (indexes_at s.store place) ys)
-            → AnswersStep TellsRow schema H txns (put name row) w (Err e) after w
-        put_refused name row named e answers = not_done TellsRow (put name row) (put_row t row held.0) (putting name row named) e (answers held.0 seen)
-
-        pub removal_refused : (name : Bytes) (row : Fields) → table_place name schema ≡ Some place → (e : WriteError)
-            → ((rows : List Fields) → AreSeen t rows here (indexes_at s.store place) → AnswersRemove t row rows (stamps.Own w.own) (Err e) (indexes_at s.store place) ys)
-            → AnswersStep TellsNone schema H txns (remove name row) w (Err e) after w
-        removal_refused name row named e answers = not_done TellsNone (remove name row) (remove_row t row held.0) (removing name row named) e (answers held.0 seen)
+        pub removal_refused : ((rows : List Fields) → AreSeen t rows sight xs → AnswersRemove t row rows (stamps.Own w.own) (Err e) xs ys) → AnswersStep TellsNone schema H txns (remove name row) w (Err e) after w
+        removal_refused answers = not_done TellsNone (remove name row) (remove_row t row held.0) (removing name row named) e (answered (λ rows zs. AnswersRemove t row rows (stamps.Own w.own) (Err e) zs ys) sight sees answers)

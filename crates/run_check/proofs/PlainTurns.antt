@@ -1,6 +1,6 @@
 -- Lines that neither begin nor commit a transaction tell no commit, so the text of their turn's reply
--- decides.
-use Rattle.std.proofs.Common.{◌≡◌, refl, ℕ, ◌≤◌, [], length, not, is_some, Ok, Err, codes}
+-- decides, and what the code tells of the turn tells the line.
+use Rattle.std.proofs.Common.{◌≡◌, refl, subst, sym, ℕ, ◌≤◌, [], length, not, is_some, Result, Ok, Err, codes}
 use Rattle.mdb_datum.specs.Bytes.{Bytes}
 use Rattle.mdb_schema.specs.Answer.{ask}
 use Rattle.mdb_schema.specs.History.{History}
@@ -10,14 +10,14 @@ use Rattle.mdb_schema.specs.Tests.{passed}
 use Rattle.mdb_schema.specs.Watchable.{is_watchable}
 use Rattle.mdb_schema.specs.Wipe.{wipe, wipe_by_prefix}
 use Rattle.mdb_schema.specs.Write.{put, remove, step}
-use Rattle.client_script.specs.Alone.{to_ask, to_defer, to_name, to_size, to_transact, to_write}
+use Rattle.client_script.specs.Alone.{Request, as_command, to_ask, to_defer, to_name, to_size, to_transact, to_write, turn}
 use Rattle.client_script.specs.Client.{Client, Judged, Sight, read_open, sight_of, snapshot_named, some_open, state_seen, watch_named, write_open}
 use Rattle.client_script.specs.Legal.{number_printed}
-use Rattle.client_script.specs.Reply.{Reply, reply_text}
-use Rattle.client_script.specs.Spent.{IsSpent}
+use Rattle.client_script.specs.Reply.{Reply}
 use Rattle.client_script.specs.Turn.{Turn, ask_turn, asked, asked_watched, defer_turn, indexes_of, name_turn, outcome, question_turn, set_called, size_turn, snapshot_called, stepped, transaction_turn, watch_turn, write_turn}
 use Rattle.client_script.specs.declared.command.AskCommand.{AskCommand}
 use Rattle.client_script.specs.declared.command.AskCommand.TheVariants as ask_line
+use Rattle.client_script.specs.declared.command.Command.{Command}
 use Rattle.client_script.specs.declared.command.Command.TheVariants as command
 use Rattle.client_script.specs.declared.command.NameCommand.{NameCommand}
 use Rattle.client_script.specs.declared.command.NameCommand.TheVariants as name_line
@@ -25,8 +25,12 @@ use Rattle.client_script.specs.declared.command.TransactionCommand.TheVariants a
 use Rattle.client_script.specs.declared.command.WriteCommand.{WriteCommand}
 use Rattle.client_script.specs.declared.command.WriteCommand.TheVariants as write_line
 use Rattle.client_script.proofs.OneClient.{insert_prints, snapshot_prints}
-use Rattle.run_check.specs.inner.Decided.{IsDecided}
-use Rattle.run_check.proofs.DecidedTurns.{abort_steady, ask_steady, defer_steady, end_steady, name_steady, plain_decided, size_steady, write_steady}
+use Rattle.run_check.specs.declared.client.Client as kept
+use Rattle.run_check.specs.declared.session.Refused.{Refused}
+use Rattle.run_check.specs.declared.session.Sessions.{Sessions}
+use Rattle.run_check.specs.inner.SessionView.{IsDue, TellsLine, TurnTold}
+use Rattle.run_check.proofs.DecidedTurns.{IsSteady, abort_steady, ask_steady, defer_steady, end_steady, name_steady, plain_decided, size_steady, write_steady}
+use Rattle.run_check.proofs.LineTold.{turn_tells}
 use Rattle.run_check.proofs.Outcomes.{IfOk, after_any}
 
 -- no commit is told
@@ -71,26 +75,31 @@ module _ (schema : DbSchema) (H : History) (now : ℕ) (v : Client) where
   size_tells : (set : Bytes) → IfOk TellsNone (size_turn v set)
   size_tells set = after_any TellsNone (set_called set v) _ (λ s. refl)
 
--- ---- so each is decided by its turn
+-- ---- so each tells what its turn does
 
-module _ (schema : DbSchema) (H : History) (v : Client) (none_full : (w : WriteCommand) (r : Reply) (next : Client) → IsSpent schema H v w r next → ⊥) (known : v.last ≤ length H) (client : ℕ) (text : Bytes) where
-  pub end_decided : IsDecided schema H client v (command.Transaction transaction_line.End) text (reply_text (outcome v (transaction_turn schema H v.last v transaction_line.End)).0) (outcome v (transaction_turn schema H v.last v transaction_line.End)).1
-  end_decided = plain_decided schema H v none_full known client text (to_transact transaction_line.End) (end_steady schema H v) (told_none v (transaction_turn schema H v.last v transaction_line.End) (end_tells schema H v.last v))
+module _ (schema : DbSchema) (H : History) (client : ℕ) (v : Client) (text : Bytes) (due : IsDue schema H client v text) (last : v.last ≤ length H) (c : Command) (old : Bytes) (empty : old ≡ []) (s : Sessions) (k : kept.Client) (r : Result (Unit {0}) Refused) where
+  by_turn : (q : Request) → c ≡ as_command q → IsSteady schema H v q → number_printed (outcome v (turn schema H v.last v q)).0 ≡ [] → TurnTold schema H (turn schema H v.last v q) v old s k r → TellsLine schema H client c text v s k r
+  by_turn q is steady none told =
+      subst (λ (x : Command). TellsLine schema H client x text v s k r) (sym is)
+      (turn_tells schema H client v text due last q (turn schema H v.last v q) (λ now. steady now v.last) (plain_decided schema H v due.unspent last client text q steady none) old empty s k r told)
 
-  pub abort_decided : IsDecided schema H client v (command.Transaction transaction_line.Abort) text (reply_text (outcome v (transaction_turn schema H v.last v transaction_line.Abort)).0) (outcome v (transaction_turn schema H v.last v transaction_line.Abort)).1
-  abort_decided = plain_decided schema H v none_full known client text (to_transact transaction_line.Abort) (abort_steady schema H v) (told_none v (transaction_turn schema H v.last v transaction_line.Abort) (abort_tells schema H v.last v))
+  pub end_told : c ≡ command.Transaction transaction_line.End → TurnTold schema H (transaction_turn schema H v.last v transaction_line.End) v old s k r → TellsLine schema H client c text v s k r
+  end_told is = by_turn (to_transact transaction_line.End) is (end_steady schema H v) (told_none v (transaction_turn schema H v.last v transaction_line.End) (end_tells schema H v.last v))
 
-  pub write_decided : (w : WriteCommand) → IsDecided schema H client v (command.Write w) text (reply_text (outcome v (write_turn schema H v w)).0) (outcome v (write_turn schema H v w)).1
-  write_decided w = plain_decided schema H v none_full known client text (to_write w) (write_steady schema H v w) (told_none v (write_turn schema H v w) (write_tells schema H v.last v w))
+  pub abort_told : c ≡ command.Transaction transaction_line.Abort → TurnTold schema H (transaction_turn schema H v.last v transaction_line.Abort) v old s k r → TellsLine schema H client c text v s k r
+  abort_told is = by_turn (to_transact transaction_line.Abort) is (abort_steady schema H v) (told_none v (transaction_turn schema H v.last v transaction_line.Abort) (abort_tells schema H v.last v))
 
-  pub defer_decided : (t : Bytes) → IsDecided schema H client v (command.Defer t) text (reply_text (outcome v (defer_turn v t)).0) (outcome v (defer_turn v t)).1
-  defer_decided t = plain_decided schema H v none_full known client text (to_defer t) (defer_steady schema H v t) (told_none v (defer_turn v t) (defer_tells schema H v.last v t))
+  pub write_told : (w : WriteCommand) → c ≡ command.Write w → TurnTold schema H (write_turn schema H v w) v old s k r → TellsLine schema H client c text v s k r
+  write_told w is = by_turn (to_write w) is (write_steady schema H v w) (told_none v (write_turn schema H v w) (write_tells schema H v.last v w))
 
-  pub ask_decided : (a : AskCommand) → IsDecided schema H client v (command.Ask a) text (reply_text (outcome v (ask_turn schema H v a)).0) (outcome v (ask_turn schema H v a)).1
-  ask_decided a = plain_decided schema H v none_full known client text (to_ask a) (ask_steady schema H v a) (told_none v (ask_turn schema H v a) (ask_tells schema H v.last v a))
+  pub defer_told : (t : Bytes) → c ≡ command.Defer t → TurnTold schema H (defer_turn v t) v old s k r → TellsLine schema H client c text v s k r
+  defer_told t is = by_turn (to_defer t) is (defer_steady schema H v t) (told_none v (defer_turn v t) (defer_tells schema H v.last v t))
 
-  pub name_decided : (c : NameCommand) → IsDecided schema H client v (command.Name c) text (reply_text (outcome v (name_turn schema H v c)).0) (outcome v (name_turn schema H v c)).1
-  name_decided c = plain_decided schema H v none_full known client text (to_name c) (name_steady schema H v c) (told_none v (name_turn schema H v c) (name_tells schema H v.last v c))
+  pub ask_told : (a : AskCommand) → c ≡ command.Ask a → TurnTold schema H (ask_turn schema H v a) v old s k r → TellsLine schema H client c text v s k r
+  ask_told a is = by_turn (to_ask a) is (ask_steady schema H v a) (told_none v (ask_turn schema H v a) (ask_tells schema H v.last v a))
 
-  pub size_decided : (set : Bytes) → IsDecided schema H client v (command.Size set) text (reply_text (outcome v (size_turn v set)).0) (outcome v (size_turn v set)).1
-  size_decided set = plain_decided schema H v none_full known client text (to_size set) (size_steady schema H v set) (told_none v (size_turn v set) (size_tells schema H v.last v set))
+  pub name_told : (n : NameCommand) → c ≡ command.Name n → TurnTold schema H (name_turn schema H v n) v old s k r → TellsLine schema H client c text v s k r
+  name_told n is = by_turn (to_name n) is (name_steady schema H v n) (told_none v (name_turn schema H v n) (name_tells schema H v.last v n))
+
+  pub size_told : (set : Bytes) → c ≡ command.Size set → TurnTold schema H (size_turn v set) v old s k r → TellsLine schema H client c text v s k r
+  size_told set is = by_turn (to_size set) is (size_steady schema H v set) (told_none v (size_turn v set) (size_tells schema H v.last v set))

@@ -1,12 +1,12 @@
 -- The lines of a reply's text: its first line, and further ones.
-use Rattle.std.proofs.Common.{◌≡◌, refl, ap, sym, ◌∙◌, ℕ, List, [], ◌∷◌, ◌++◌, length, map, Bool, true, false, ◌==◌, Some, None, decimal, codes, append_assoc, append-nil}
+use Rattle.std.proofs.Common.{◌≡◌, refl, ap, sym, ◌∙◌, ℕ, List, [], ◌∷◌, ◌++◌, length, map, Bool, true, false, ◌==◌, Some, decimal, codes, append_assoc, append-nil}
 use Rattle.std.specs.Prelude.{if◌then◌else◌}
 use Rattle.std.proofs.lemmas.Bool.{and_parts, eqb-true, false_from_ne_true}
 use Rattle.mdb_datum.specs.Bytes.{Bytes}
 use Rattle.mdb_datum.specs.Row.{Fields}
 use Rattle.mdb_datum.specs.Written.{row_text}
 use Rattle.mdb_schema.specs.declared.answer.Answer.TheVariants.{One, Many}
-use Rattle.client_script.specs.Reply.{Changed, Reply, read_at, write_at, ended, committed, aborted, inserted, replaced, deleted, wiped, deferred, answered, snapshot_at, snapshot_within, quiet_at, fired_at, sized, woken_by, stopped_at, refused, further, change_text, changed_lines, did_lines, row_lines, reply_text}
+use Rattle.client_script.specs.Reply.{Changed, Reply, read_at, write_at, committed, wiped, answered, snapshot_at, snapshot_within, quiet_at, fired_at, sized, woken_by, stopped_at, refused, further, change_text, changed_lines, did_lines, row_lines, reply_text}
 use Rattle.run_check.specs.TextLines.{TextLine, begun_with, text_lines}
 use Rattle.run_check.proofs.IndentedTexts.{AreFlat, AreFlatChanges, IsCleanReply, change_flat}
 use Rattle.run_check.proofs.PlainTexts.{decimal_flat, is_flat, is_other, lacks_both, other_is, row_flat}
@@ -81,25 +81,7 @@ one_line r = sym (append-nil (reply_text r))
 pub reply_parts : (r : Reply) → reply_text r ≡ head_text r ++ joined (rows_of r)
 reply_parts (committed n changed texts) = ap (λ (x : Bytes). codes "commit @" ++ (decimal n ++ x)) (joined_changes changed texts)
 reply_parts (answered (Many rows)) = ap (λ (x : Bytes). codes "rows " ++ (decimal (length rows) ++ x)) (joined_rows rows)
-reply_parts (answered (One None)) = refl
-reply_parts (answered (One (Some row))) = one_line (answered (One (Some row)))
-reply_parts (read_at n) = one_line (read_at n)
-reply_parts (write_at n) = one_line (write_at n)
-reply_parts ended = refl
-reply_parts aborted = refl
-reply_parts inserted = refl
-reply_parts replaced = refl
-reply_parts deleted = refl
-reply_parts (wiped k) = one_line (wiped k)
-reply_parts deferred = refl
-reply_parts (snapshot_at n) = one_line (snapshot_at n)
-reply_parts (snapshot_within n) = one_line (snapshot_within n)
-reply_parts (quiet_at n) = one_line (quiet_at n)
-reply_parts (fired_at n) = one_line (fired_at n)
-reply_parts (sized k) = one_line (sized k)
-reply_parts (woken_by name n) = one_line (woken_by name n)
-reply_parts (stopped_at n) = one_line (stopped_at n)
-reply_parts (refused rule) = one_line (refused rule)
+reply_parts r = one_line r
 
 -- ---- no line has a line feed
 
@@ -109,17 +91,10 @@ numbered_flat w n flat = lacks_both 10 w (decimal n) flat (decimal_flat n)
 pub head_flat : (r : Reply) → IsCleanReply r → is_flat (head_text r) ≡ true
 head_flat (committed n changed texts) clean = numbered_flat (codes "commit @") n refl
 head_flat (answered (Many rows)) clean = numbered_flat (codes "rows ") (length rows) refl
-head_flat (answered (One None)) clean = refl
 head_flat (answered (One (Some row))) clean = lacks_both 10 (codes "row ") (row_text row) refl (row_flat row)
 head_flat (read_at n) clean = numbered_flat (codes "read @") n refl
 head_flat (write_at n) clean = numbered_flat (codes "write @") n refl
-head_flat ended clean = refl
-head_flat aborted clean = refl
-head_flat inserted clean = refl
-head_flat replaced clean = refl
-head_flat deleted clean = refl
 head_flat (wiped k) clean = numbered_flat (codes "deleted ") k refl
-head_flat deferred clean = refl
 head_flat (snapshot_at n) clean = numbered_flat (codes "snapshot @") n refl
 head_flat (snapshot_within n) clean = lacks_both 10 (codes "snapshot @") (decimal n ++ codes "+") refl (lacks_both 10 (decimal n) (codes "+") (decimal_flat n) refl)
 head_flat (quiet_at n) clean = numbered_flat (codes "quiet @") n refl
@@ -128,6 +103,7 @@ head_flat (sized k) clean = numbered_flat (codes "size ") k refl
 head_flat (woken_by name n) clean = lacks_both 10 (codes "fired ") (name ++ (codes " @" ++ decimal n)) refl (lacks_both 10 name (codes " @" ++ decimal n) clean (numbered_flat (codes " @") n refl))
 head_flat (stopped_at n) clean = numbered_flat (codes "stopped @") n refl
 head_flat (refused rule) clean = lacks_both 10 (codes "refused ") rule refl clean
+head_flat r clean = refl
 
 both_flat : (ts us : List Bytes) → AreFlat ts → AreFlat us → AreFlat (ts ++ us)
 both_flat [] us flat others = others
@@ -148,24 +124,7 @@ all_rows_flat (r ∷ rows) = (row_flat r, all_rows_flat rows)
 pub rows_flat : (r : Reply) → IsCleanReply r → AreFlat (rows_of r)
 rows_flat (committed n changed texts) clean = both_flat (map change_text changed) (map did_text texts) (changes_flat changed clean.0) (texts_flat texts clean.1)
 rows_flat (answered (Many rows)) clean = all_rows_flat rows
-rows_flat (answered (One row)) clean = tt
-rows_flat (read_at n) clean = tt
-rows_flat (write_at n) clean = tt
-rows_flat ended clean = tt
-rows_flat aborted clean = tt
-rows_flat inserted clean = tt
-rows_flat replaced clean = tt
-rows_flat deleted clean = tt
-rows_flat (wiped k) clean = tt
-rows_flat deferred clean = tt
-rows_flat (snapshot_at n) clean = tt
-rows_flat (snapshot_within n) clean = tt
-rows_flat (quiet_at n) clean = tt
-rows_flat (fired_at n) clean = tt
-rows_flat (sized k) clean = tt
-rows_flat (woken_by name n) clean = tt
-rows_flat (stopped_at n) clean = tt
-rows_flat (refused rule) clean = tt
+rows_flat r clean = tt
 
 -- so the lines of a reply, and of what follows
 pub reply_lines : (front : Bytes) (r : Reply) (x : Bytes) → is_flat front ≡ true → IsCleanReply r → text_lines (front ++ (reply_text r ++ 10 ∷ x)) ≡ ended_line (front ++ head_text r) ∷ (map further_line (rows_of r) ++ text_lines x)

@@ -1,18 +1,21 @@
 -- A set in the place of the one of its name, as a client's sets are known.
-use Rattle.std.proofs.Common.{arith, ◌≡◌, refl, ap, subst, sym, ◌∙◌, ℕ, suc, List, [], ◌∷◌, ◌++◌, length, set, Bool, true, false, Option, Some, None, option_map}
+use Rattle.std.proofs.Common.{arith, ◌≡◌, refl, ap, subst, sym, ◌∙◌, ℕ, suc, ◌<◌, List, [], ◌∷◌, ◌++◌, length, set, Bool, true, false, Option, Some, None, option_map}
 use Rattle.std.specs.Prelude.{if◌then◌else◌, IsSome, option_and_then, slice_get}
 use Rattle.std.specs.Str.{bytes_eq}
 use Rattle.std.proofs.lemmas.Option.{same_Some}
 use Rattle.mdb_datum.specs.Bytes.{Bytes}
+use Rattle.mdb_datum.proofs.ListPlaces.{there_within}
 use Rattle.mdb_schema.proofs.Membership.{bytes_eq-itself, same_key}
 use Rattle.client_script.specs.Client as plain
 use Rattle.client_script.specs.Client.{set_named}
 use Rattle.client_script.specs.Watching.{put_set, set_or_new}
+use Rattle.run_check.specs.declared.client.Client.{Client}
 use Rattle.run_check.specs.declared.watching.Set.{Set}
+use Rattle.run_check.specs.declared.watching.Watching.{Watching}
 use Rattle.run_check.specs.inner.ClientView.{set_known, watches_at}
 use Rattle.run_check.specs.inner.NamedView.{each_named, place_in, value_named}
 use Rattle.run_check.specs.inner.WatchView.{IsNewSet}
-use Rattle.run_check.proofs.NamedFound.{named_more, set_found}
+use Rattle.run_check.proofs.NamedFound.{named_more, place_within, set_found}
 use Rattle.run_check.proofs.NamesAdded.{place_joined}
 use Rattle.run_check.proofs.NumbersPlaced.{or_else}
 
@@ -77,6 +80,21 @@ pub record IsPlaced (name : Bytes) (ns : List Bytes) (vs : List Set) (more_names
   pub kept : IsSome (place_in name ns) → more ≡ vs
   pub names : IsSome (place_in name ns) → more_names ≡ ns
   pub made : place_in name ns ≡ None → IsNewSet name ns vs more_names more
+
+-- so it is in what the check keeps of a client's sets, with the set there
+pub record HasPlace (v : Client) (name : Bytes) (mid : Watching) (at : ℕ) : Type 0 where
+  pub placed : IsPlaced name v.watching.sets.names v.watching.sets.values.items mid.sets.names mid.sets.values.items at
+  pub low : at < length mid.sets.values.items
+  pub set : Set
+  pub there : slice_get mid.sets.values.items at ≡ Some set
+
+pub has_place : (v : Client) (name : Bytes) (mid : Watching) (at : ℕ) → IsPlaced name v.watching.sets.names v.watching.sets.values.items mid.sets.names mid.sets.values.items at → HasPlace v name mid at
+has_place v name mid at placed =
+    let paired : length mid.sets.names ≡ length mid.sets.values.items = mid.sets.paired ∙ mid.sets.values.ok.0 in
+    let within = place_within name mid.sets.names at placed.there in
+    let low : at < length mid.sets.values.items = omega (arith, within, paired) in
+    let found = there_within mid.sets.values.items at low in
+    record { placed = placed; low = low; set = found.0; there = found.1 }
 
 -- the set that was made is the one at the place
 pub new_is : (ns : List Bytes) (vs : List Set) (more_names : List Bytes) (more : List Set) (name : Bytes) (place : ℕ) → length ns ≡ length vs → place_in name ns ≡ None → place_in name more_names ≡ Some place → (new : IsNewSet name ns vs more_names more) → (s : Set) → slice_get more place ≡ Some s → new.set ≡ s

@@ -16,7 +16,7 @@ use Rattle.run_check.specs.inner.NamedView.{place_in}
 use Rattle.run_check.specs.inner.SessionView.{IsKnown, IsSound, IsSoundSet}
 use Rattle.run_check.specs.inner.StoreView.{Begun}
 use Rattle.run_check.specs.inner.WatchView.{IsAddedTo}
-use Rattle.run_check.proofs.SetsKept.{IsPlaced}
+use Rattle.run_check.proofs.SetsKept.{HasPlace, IsPlaced}
 use Rattle.run_check.proofs.WatchAdded.{values_same}
 use Rattle.run_check.proofs.WatchesKnown.{named_from}
 
@@ -114,8 +114,8 @@ module _ (schema : DbSchema) (H : History) (txns : List Begun) (x : Sessions) (v
       }
 
   -- after a watch that the client knows was added to a set
-  pub known_added : (w : plain.Watch) (place : ℕ) → slice_get (watches_known v.watching) place ≡ Some w → (name : Bytes) (mid : Watching) (at : ℕ) → IsPlaced name v.watching.sets.names v.watching.sets.values.items mid.sets.names mid.sets.values.items at → (s : Set) → slice_get mid.sets.values.items at ≡ Some s → (size : ℕ) → IsAddedTo s place size mid.sets.values.items at after.sets.values.items → IsKnown schema H txns x (record v { watching = after })
-  known_added w place there name mid at placed s here size added =
+  pub known_added : (w : plain.Watch) (place : ℕ) → slice_get (watches_known v.watching) place ≡ Some w → (name : Bytes) (mid : Watching) (at : ℕ) (p : HasPlace v name mid at) (size : ℕ) → IsAddedTo p.set place size mid.sets.values.items at after.sets.values.items → IsKnown schema H txns x (record v { watching = after })
+  known_added w place there name mid at p size added =
       let named = named_from watch_known v.watching.watches.names v.watching.watches.values.items place w there in
       let within = slice_get_within v.watching.watches.values.items place named.value named.there in
-      with_sets (added_sound (length v.watching.watches.values.items) v.watching.sets.names v.watching.sets.values.items mid.sets.names mid.sets.values.items name at knows.sound.sets placed s place size after.sets.values.items here within added)
+      with_sets (added_sound (length v.watching.watches.values.items) v.watching.sets.names v.watching.sets.values.items mid.sets.names mid.sets.values.items name at knows.sound.sets p.placed p.set place size after.sets.values.items p.there within added)

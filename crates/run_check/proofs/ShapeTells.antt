@@ -7,7 +7,7 @@ use Rattle.mdb_schema.proofs.PassedTests.{passed_holds}
 use Rattle.mdb_schema.specs.Tests.{needed, passed}
 use Rattle.mdb_schema.specs.Query.{Query}
 use Rattle.mdb_schema.specs.declared.ask.Ask.{Ask}
-use Rattle.mdb_schema.specs.declared.ask.Ask.TheVariants.{First, Last, Get, GetReverse, Lower, ReverseLower, Longest}
+use Rattle.mdb_schema.specs.declared.ask.Ask.TheVariants.{First}
 use Rattle.client_script.specs.declared.command.AskCommand.TheVariants as ask_line
 use Rattle.client_script.specs.declared.command.Command.{Command}
 use Rattle.client_script.specs.declared.command.Command.TheVariants as command
@@ -28,35 +28,17 @@ use Rattle.run_check.proofs.Outcomes.{IfOk, after_any, ok_known, ok_then}
 
 ask_empty : (q : Query) (a : Ask) → q.ask ≡ a → has_form (command.Ask (ask_line.Question q)) [] ≡ false
 ask_empty q First is = ap (λ (x : Ask). has_form (command.Ask (ask_line.Question (record q { ask = x }))) []) is
-ask_empty q Last is = ap (λ (x : Ask). has_form (command.Ask (ask_line.Question (record q { ask = x }))) []) is
-ask_empty q Longest is = ap (λ (x : Ask). has_form (command.Ask (ask_line.Question (record q { ask = x }))) []) is
-ask_empty q Get is = ap (λ (x : Ask). has_form (command.Ask (ask_line.Question (record q { ask = x }))) []) is
-ask_empty q GetReverse is = ap (λ (x : Ask). has_form (command.Ask (ask_line.Question (record q { ask = x }))) []) is
-ask_empty q Lower is = ap (λ (x : Ask). has_form (command.Ask (ask_line.Question (record q { ask = x }))) []) is
-ask_empty q ReverseLower is = ap (λ (x : Ask). has_form (command.Ask (ask_line.Question (record q { ask = x }))) []) is
+ask_empty q a is = ap (λ (x : Ask). has_form (command.Ask (ask_line.Question (record q { ask = x }))) []) is
 
 form_empty : (c : Command) → has_form c [] ≡ false
 form_empty (command.Transaction transaction_line.Read) = refl
-form_empty (command.Transaction transaction_line.Write) = refl
-form_empty (command.Transaction transaction_line.End) = refl
-form_empty (command.Transaction transaction_line.Commit) = refl
-form_empty (command.Transaction transaction_line.Abort) = refl
 form_empty (command.Write (write_line.Insert table row)) = refl
-form_empty (command.Write (write_line.Delete table row)) = refl
-form_empty (command.Write (write_line.DeleteAll q)) = refl
-form_empty (command.Write (write_line.DeletePrefix q)) = refl
-form_empty (command.Defer text) = refl
 form_empty (command.Ask (ask_line.Question q)) = ask_empty q q.ask refl
 form_empty (command.Ask (ask_line.InSnapshot name q)) = ask_empty q q.ask refl
-form_empty (command.Name (name_line.Snapshot name)) = refl
 form_empty (command.Name (name_line.Watch name q)) = ask_empty q q.ask refl
 form_empty (command.Name (name_line.WatchIn name snapshot q)) = ask_empty q q.ask refl
-form_empty (command.Size set) = refl
 form_empty (command.Watches (watches_line.Check name)) = refl
-form_empty (command.Watches (watches_line.Add set name)) = refl
-form_empty (command.Watches (watches_line.AddLimit set limit name other)) = refl
-form_empty (command.Watches (watches_line.Wait set)) = refl
-form_empty (command.Watches (watches_line.WaitUntil set until)) = refl
+form_empty c = refl
 
 judged : Bool → Option Bytes → Bool
 judged form None = is_refusal [] || form

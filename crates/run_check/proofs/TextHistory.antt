@@ -1,12 +1,13 @@
 -- The text of an output fixes its history, and then its replies.
-use Rattle.std.proofs.Common.{arith, ◌≡◌, refl, ap, ap₂, subst, sym, ◌∙◌, ℕ, zero, suc, ◌+◌, ◌^◌, ◌<◌, ◌≤◌, inl, inr, List, [], ◌∷◌, ◌++◌, length, map, Option, Some, None, slice_get, take, get_or, Contains, IsPermutation}
+use Rattle.std.proofs.Common.{arith, ◌≡◌, refl, ap, ap₂, subst, sym, ◌∙◌, ℕ, zero, suc, ◌+◌, ◌^◌, ◌<◌, ◌≤◌, inl, inr, List, [], ◌∷◌, ◌++◌, length, map, slice_get, take, Contains, IsPermutation}
 use Rattle.std.specs.List.{enumerate_from}
 use Rattle.std.proofs.lemmas.List.{length-map}
 use Rattle.std.proofs.lemmas.List.FromFn.{length-enumerate_from}
 use Rattle.std.proofs.lemmas.List.Sorted.{length_permutation, Contains-permutation}
-use Rattle.std.proofs.lemmas.Option.{slice_get-get_or, slice_get_within}
-use Rattle.std.proofs.Math.Seq.{take-length, take-suc}
+use Rattle.std.proofs.lemmas.Option.{slice_get_within}
+use Rattle.std.proofs.Math.Seq.{take-length}
 use Rattle.mdb_datum.specs.Bytes.{Bytes}
+use Rattle.mdb_datum.proofs.ListPlaces.{there_within}
 use Rattle.mdb_schema.proofs.Membership.{Contains-nil}
 use Rattle.mdb_schema.specs.History.{Commit, History}
 use Rattle.mdb_schema.specs.Schema.{DbSchema}
@@ -17,6 +18,7 @@ use Rattle.client_script.specs.Session.{Answers, IsEntry, Runs, Sessions}
 use Rattle.client_script.specs.Within.{IsWithin}
 use Rattle.client_script.specs.declared.command.Command.{Command}
 use Rattle.client_script.specs.declared.line.Line.{Line}
+use Rattle.client_script.proofs.CommitChanges.{entry_taken}
 use Rattle.client_script.proofs.FewCommits.{few_commits}
 use Rattle.client_script.proofs.LongerHistory.{answered_within, start_within}
 use Rattle.client_script.proofs.OneClient.{Rises, StandsFrom, TellsCommit, above_each, all_rise, answered_rises, numbered, self_le}
@@ -104,19 +106,10 @@ module _ (schema : DbSchema) (H H' : History) (few : length H < 2 ^ 64) (few' : 
 
 -- ---- so the histories are one
 
-grows : (H H' : History) (k : ℕ) → k < length H → k < length H' → slice_get H k ≡ slice_get H' k → take k H ≡ take k H' → take (suc k) H ≡ take (suc k) H'
-grows H H' k lt lt' entry same =
-    take-suc H k none lt
-    ∙ ap (λ (G : History). G ++ get_or H k none ∷ []) same
-    ∙ ap (λ (c : Commit). take k H' ++ c ∷ []) (ap at_or (sym (slice_get-get_or H k none lt) ∙ entry ∙ slice_get-get_or H' k none lt'))
-    ∙ sym (take-suc H' k none lt')
-  where
-    none : Commit
-    none = record { caller = 0; writes = [] }
-
-    at_or : Option Commit → Commit
-    at_or None = none
-    at_or (Some c) = c
+grows : (H H' : History) (k : ℕ) → k < length H → slice_get H k ≡ slice_get H' k → take k H ≡ take k H' → take (suc k) H ≡ take (suc k) H'
+grows H H' k lt entry same =
+    let at = there_within H k lt in
+    sym (entry_taken H k at.0 at.1) ∙ ap (λ (G : History). G ++ at.0 ∷ []) same ∙ entry_taken H' k at.0 (sym entry ∙ at.1)
 
 module _ (schema : DbSchema) (names : IsCleanSchema schema) (scripts : List (List Line)) (clean : AreCleanScripts scripts) (H H' : History) (few : length H < 2 ^ 64) (few' : length H' < 2 ^ 64) (rss sss : List (List Reply)) (texts : AllOfOneText rss sss) (numbers : IsPermutation (enumerate_from 1 (callers H)) (all_printed 1 rss)) (numbers' : IsPermutation (enumerate_from 1 (callers H')) (all_printed 1 sss)) (sessions : Sessions schema H 1 scripts rss) (sessions' : Sessions schema H' 1 scripts sss) where
   size : (G : History) (ps : List (ℕ × ℕ)) → IsPermutation (enumerate_from 1 (callers G)) ps → length G ≡ length ps
@@ -133,7 +126,7 @@ module _ (schema : DbSchema) (names : IsCleanSchema schema) (scripts : List (Lis
 
   first : (k : ℕ) → k ≤ length H → take k H ≡ take k H'
   first zero le = refl
-  first (suc k) le = let e = same_size in grows H H' k le (omega (arith, e, le)) (next_entry k le (first k (omega arith))) (first k (omega arith))
+  first (suc k) le = grows H H' k le (next_entry k le (first k (omega arith))) (first k (omega arith))
 
   pub text_history : H ≡ H'
   text_history = sym (take-length H) ∙ first (length H) (search (arith)) ∙ ap (λ (n : ℕ). take n H') same_size ∙ take-length H'

@@ -97,7 +97,7 @@ behind_back (c ∷ w) (b ∷ bs) r e = of (b == c) refl (behind_back w bs r) e
     of false is rest e' = cc
 
 -- LINE: ANSWER
-answer_back : (n : ℕ) (line answer : Bytes) → answer_in n line ≡ Some answer → line ≡ decimal n ++ (codes ": " ++ answer)
+pub answer_back : (n : ℕ) (line answer : Bytes) → answer_in n line ≡ Some answer → line ≡ decimal n ++ (codes ": " ++ answer)
 answer_back n line answer e = of (behind_number n line) refl e
   where
     of : (o : Option Bytes) → behind_number n line ≡ o → option_and_then (behind (codes ": ")) o ≡ Some answer → line ≡ decimal n ++ (codes ": " ++ answer)

@@ -20,7 +20,7 @@ use Rattle.run_check.specs.inner.NamedView.{place_in}
 use Rattle.run_check.specs.inner.SessionView.{IsDoubleTold, IsMemberTold, IsNoSize, IsSound, IsSoundSet}
 use Rattle.run_check.specs.inner.StoreView.{Begun}
 use Rattle.run_check.specs.inner.WatchView.{AreLike, IsAddedTo, MayLeave, OneOf, ShareIndex, members_then}
-use Rattle.run_check.proofs.SetsKept.{IsPlaced, new_is, placed_put, placed_set, put_at, sets_known}
+use Rattle.run_check.proofs.SetsKept.{HasPlace, new_is, placed_put, placed_set, put_at, sets_known}
 use Rattle.run_check.proofs.SnapshotsTold.{all_there, named_length}
 use Rattle.run_check.proofs.WatchesKnown.{IsNamed, among_known, index_known, known_among, known_index, named_from}
 
@@ -47,82 +47,85 @@ one_more_at ws places place w there =
     filter_map-append (slice_get ws) places (place ∷ [])
     ∙ ap (λ (o : Option plain.Watch). watches_at ws places ++ cons_option o []) there
 
-module _ (schema : DbSchema) (H : History) (txns : List Begun) (v : Client) (name : Bytes) (sound : IsSound schema H txns v)
-    (watches : length v.watching.watches.names ≡ length v.watching.watches.values.items) (sets : length v.watching.sets.names ≡ length v.watching.sets.values.items)
-    (w : plain.Watch) (place : ℕ) (there_w : slice_get (watches_known v.watching) place ≡ Some w)
-    (mid : Watching) (same_mid : mid.watches ≡ v.watching.watches) (at : ℕ) (placed : IsPlaced name v.watching.sets.names v.watching.sets.values.items mid.sets.names mid.sets.values.items at) (mid_paired : length mid.sets.names ≡ length mid.sets.values.items)
-    (s : Set) (there : slice_get mid.sets.values.items at ≡ Some s) where
+module _ (schema : DbSchema) (H : History) (txns : List Begun) (v : Client) (name : Bytes) (sound : IsSound schema H txns v) (w : plain.Watch) (place : ℕ) (there_w : slice_get (watches_known v.watching) place ≡ Some w)
+    (mid : Watching) (same_mid : mid.watches ≡ v.watching.watches) (at : ℕ) (p : HasPlace v name mid at) where
+  watches : length v.watching.watches.names ≡ length v.watching.watches.values.items
+  watches = v.watching.watches.paired ∙ v.watching.watches.values.ok.0
+
+  sets : length v.watching.sets.names ≡ length v.watching.sets.values.items
+  sets = v.watching.sets.paired ∙ v.watching.sets.values.ok.0
+
   abbrev ws : List plain.Watch
   ws = watches_known v.watching
 
   abbrev values : List Watch
   values = v.watching.watches.values.items
 
-  is_set : set_for name (known txns v) ≡ set_known (watches_known v.watching) name s
-  is_set = placed_set (watches_known v.watching) name v.watching.sets.names v.watching.sets.values.items sets mid.sets.names mid.sets.values.items at placed s there
+  is_set : set_for name (known txns v) ≡ set_known (watches_known v.watching) name p.set
+  is_set = placed_set (watches_known v.watching) name v.watching.sets.names v.watching.sets.values.items sets mid.sets.names mid.sets.values.items at p.placed p.set p.there
 
   -- its places are those of watches
-  pub sound_set : IsSoundSet (length v.watching.watches.values.items) s
+  pub sound_set : IsSoundSet (length v.watching.watches.values.items) p.set
   sound_set = of (place_in name v.watching.sets.names) refl
     where
-      of : (o : Option ℕ) → place_in name v.watching.sets.names ≡ o → IsSoundSet (length v.watching.watches.values.items) s
-      of (Some p) found =
+      of : (o : Option ℕ) → place_in name v.watching.sets.names ≡ o → IsSoundSet (length v.watching.watches.values.items) p.set
+      of (Some k) found =
           let some : IsSome (place_in name v.watching.sets.names) = subst (λ (o : Option ℕ). IsSome o) (sym found) refl in
-          sound.sets at s (ap (λ (l : List Set). slice_get l at) (sym (placed.kept some)) ∙ there)
+          sound.sets at p.set (ap (λ (l : List Set). slice_get l at) (sym (p.placed.kept some)) ∙ p.there)
       of None found =
-          let new = placed.made found in
-          let same : new.set ≡ s = new_is v.watching.sets.names v.watching.sets.values.items mid.sets.names mid.sets.values.items name at sets found placed.there new s there in
-          let members : s.members.items ≡ [] = ap (λ (x : Set). x.members.items) (sym same) ∙ new.members in
-          let added : s.added.items ≡ [] = ap (λ (x : Set). x.added.items) (sym same) ∙ new.added in
+          let new = p.placed.made found in
+          let same : new.set ≡ p.set = new_is v.watching.sets.names v.watching.sets.values.items mid.sets.names mid.sets.values.items name at sets found p.placed.there new p.set p.there in
+          let members : p.set.members.items ≡ [] = ap (λ (x : Set). x.members.items) (sym same) ∙ new.members in
+          let added : p.set.added.items ≡ [] = ap (λ (x : Set). x.added.items) (sym same) ∙ new.added in
           record {
-            members = λ k p is. absurd (nothing_at k p (sym (ap (λ (l : List ℕ). slice_get l k) members) ∙ is));
-            added = λ k p is. absurd (nothing_at k p (sym (ap (λ (l : List ℕ). slice_get l k) added) ∙ is));
+            members = λ k q is. absurd (nothing_at k q (sym (ap (λ (l : List ℕ). slice_get l k) members) ∙ is));
+            added = λ k q is. absurd (nothing_at k q (sym (ap (λ (l : List ℕ). slice_get l k) added) ∙ is));
           }
 
-  count_is : length (set_for name (known txns v)).members ≡ length s.members.items
+  count_is : length (set_for name (known txns v)).members ≡ length p.set.members.items
   count_is =
       let long = named_length watch_known v.watching.watches.names v.watching.watches.values.items watches in
       ap (λ (x : plain.WatchSet). length x.members) is_set
-      ∙ all_there (watches_known v.watching) s.members.items (λ k p is. let within = sound_set.members k p is in omega (arith, within, long))
+      ∙ all_there (watches_known v.watching) p.set.members.items (λ k q is. let within = sound_set.members k q is in omega (arith, within, long))
 
-  added_is : (set_for name (known txns v)).added ≡ watches_at (watches_known v.watching) s.added.items
+  added_is : (set_for name (known txns v)).added ≡ watches_at (watches_known v.watching) p.set.added.items
   added_is = ap (λ (x : plain.WatchSet). x.added) is_set
 
-  members_is : (set_for name (known txns v)).members ≡ watches_at (watches_known v.watching) s.members.items
+  members_is : (set_for name (known txns v)).members ≡ watches_at (watches_known v.watching) p.set.members.items
   members_is = ap (λ (x : plain.WatchSet). x.members) is_set
 
   watch : IsNamed watch_known v.watching.watches.values.items place w
   watch = named_from watch_known v.watching.watches.names v.watching.watches.values.items place w there_w
 
-  among_is : IsAmong w (set_for name (known txns v)).added → OneOf AreLike v.watching.watches.values.items s.added.items place
+  among_is : IsAmong w (set_for name (known txns v)).added → OneOf AreLike v.watching.watches.values.items p.set.added.items place
   among_is among =
       let first = subst (λ (l : List plain.Watch). IsAmong w l) added_is among in
-      known_among v.watching.watches.names v.watching.watches.values.items watches s.added.items place watch.name watch.value watch.there (subst (λ (x : plain.Watch). IsAmong x (watches_at (watches_known v.watching) s.added.items)) watch.is first)
+      known_among v.watching.watches.names v.watching.watches.values.items watches p.set.added.items place watch.name watch.value watch.there (subst (λ (x : plain.Watch). IsAmong x (watches_at (watches_known v.watching) p.set.added.items)) watch.is first)
 
-  is_among : OneOf AreLike v.watching.watches.values.items s.added.items place → IsAmong w (set_for name (known txns v)).added
+  is_among : OneOf AreLike v.watching.watches.values.items p.set.added.items place → IsAmong w (set_for name (known txns v)).added
   is_among one =
-      let first = among_known v.watching.watches.names v.watching.watches.values.items watches s.added.items place watch.name watch.value watch.there one in
-      subst (λ (l : List plain.Watch). IsAmong w l) (sym added_is) (subst (λ (x : plain.Watch). IsAmong x (watches_at (watches_known v.watching) s.added.items)) (sym watch.is) first)
+      let first = among_known v.watching.watches.names v.watching.watches.values.items watches p.set.added.items place watch.name watch.value watch.there one in
+      subst (λ (l : List plain.Watch). IsAmong w l) (sym added_is) (subst (λ (x : plain.Watch). IsAmong x (watches_at (watches_known v.watching) p.set.added.items)) (sym watch.is) first)
 
   -- a size that can't be told
-  pub no_size : (text : Bytes) (size : ℕ) → number_behind (codes "size ") text ≡ Some size → (MayLeave v.watching.watches.values.items s place size → ⊥) → IsNoSize name w (known txns v) text []
+  pub no_size : (text : Bytes) (size : ℕ) → number_behind (codes "size ") text ≡ Some size → (MayLeave v.watching.watches.values.items p.set place size → ⊥) → IsNoSize name w (known txns v) text []
   no_size text size found none = record {
     none = refl;
     member = λ told new. none (inl (same_number size _ (sym found ∙ told) ∙ ap (λ (n : ℕ). n + 1) count_is, λ one. new (is_among one)));
     double = λ told m there_m index. none (inr (same_number size _ (sym found ∙ told) ∙ count_is, held m (subst (λ (l : List plain.Watch). Contains l m) members_is there_m) index));
   }
     where
-      held : (m : plain.Watch) → Contains (watches_at (watches_known v.watching) s.members.items) m → AreOfOneIndex m.query w.query → OneOf ShareIndex v.watching.watches.values.items s.members.items place
+      held : (m : plain.Watch) → Contains (watches_at (watches_known v.watching) p.set.members.items) m → AreOfOneIndex m.query w.query → OneOf ShareIndex v.watching.watches.values.items p.set.members.items place
       held m there_m index =
-          known_index schema v.watching.watches.names v.watching.watches.values.items watches (λ k x is. (sound.watches k x is).looked) s.members.items place watch.value watch.there
+          known_index schema v.watching.watches.names v.watching.watches.values.items watches (λ k x is. (sound.watches k x is).looked) p.set.members.items place watch.value watch.there
           (record { member = m; there = there_m; index = subst (λ (x : plain.Watch). AreOfOneIndex m.query x.query) watch.is index })
 
   -- the set with the watch in it
-  module _ (after : Watching) (same_after : after.watches ≡ mid.watches) (names : after.sets.names ≡ mid.sets.names) (size : ℕ) (added : IsAddedTo s place size mid.sets.values.items at after.sets.values.items) where
+  module _ (after : Watching) (same_after : after.watches ≡ mid.watches) (names : after.sets.names ≡ mid.sets.names) (size : ℕ) (added : IsAddedTo p.set place size mid.sets.values.items at after.sets.values.items) where
     added_list : watches_at (watches_known v.watching) added.set.added.items ≡ (set_for name (known txns v)).added ++ w ∷ []
     added_list =
         ap (watches_at (watches_known v.watching)) added.added
-        ∙ one_more_at (watches_known v.watching) s.added.items place w there_w
+        ∙ one_more_at (watches_known v.watching) p.set.added.items place w there_w
         ∙ ap (λ (l : List plain.Watch). l ++ w ∷ []) (sym added_is)
 
     client_is : known txns (record v { watching = after }) ≡ with_set (set_known (watches_known v.watching) name added.set) (known txns v)
@@ -134,8 +137,8 @@ module _ (schema : DbSchema) (H : History) (txns : List Begun) (v : Client) (nam
         ∙ ap (with_sets (watches_known v.watching)) (
         ap (λ (ns : List Bytes). sets_known (watches_known v.watching) ns after.sets.values.items) names
         ∙ ap (sets_known (watches_known v.watching) mid.sets.names) added.kept
-        ∙ put_at (watches_known v.watching) name added.set mid.sets.names mid.sets.values.items at mid_paired placed.there
-        ∙ placed_put (watches_known v.watching) name v.watching.sets.names v.watching.sets.values.items sets mid.sets.names mid.sets.values.items at placed s there (set_known (watches_known v.watching) name added.set) refl
+        ∙ put_at (watches_known v.watching) name added.set mid.sets.names mid.sets.values.items at (mid.sets.paired ∙ mid.sets.values.ok.0) p.placed.there
+        ∙ placed_put (watches_known v.watching) name v.watching.sets.names v.watching.sets.values.items sets mid.sets.names mid.sets.values.items at p.placed p.set p.there (set_known (watches_known v.watching) name added.set) refl
         )
       where
         same_watches : record v.watching { watches = after.watches } ≡ v.watching
@@ -144,13 +147,13 @@ module _ (schema : DbSchema) (H : History) (txns : List Begun) (v : Client) (nam
     abbrev with_members : List plain.Watch → List plain.Watch → plain.Client
     with_members ms ad = with_set (record { name = name; members = ms; added = ad }) (known txns v)
 
-    pub told_size : (text : Bytes) → number_behind (codes "size ") text ≡ Some size → MayLeave v.watching.watches.values.items s place size → IsMemberTold name w (known txns v) (known txns (record v { watching = after })) text (codes "size " ++ decimal size) ⊎ IsDoubleTold name w (known txns v) (known txns (record v { watching = after })) text (codes "size " ++ decimal size)
+    pub told_size : (text : Bytes) → number_behind (codes "size ") text ≡ Some size → MayLeave v.watching.watches.values.items p.set place size → IsMemberTold name w (known txns v) (known txns (record v { watching = after })) text (codes "size " ++ decimal size) ⊎ IsDoubleTold name w (known txns v) (known txns (record v { watching = after })) text (codes "size " ++ decimal size)
     told_size text found (inl (more, new)) =
         let count : size ≡ length (set_for name (known txns v)).members + 1 = more ∙ ap (λ (n : ℕ). n + 1) (sym count_is) in
         let some : ℕ → Option ℕ = λ n. Some n in
         let members : watches_at (watches_known v.watching) added.set.members.items ≡ (set_for name (known txns v)).members ++ w ∷ [] =
-        ap (watches_at (watches_known v.watching)) (added.members ∙ grown s.members.items place size more)
-        ∙ one_more_at (watches_known v.watching) s.members.items place w there_w
+        ap (watches_at (watches_known v.watching)) (added.members ∙ grown p.set.members.items place size more)
+        ∙ one_more_at (watches_known v.watching) p.set.members.items place w there_w
         ∙ ap (λ (l : List plain.Watch). l ++ w ∷ []) (sym members_is) in
         inl (record {
           size = found ∙ ap some count;
@@ -161,9 +164,9 @@ module _ (schema : DbSchema) (H : History) (txns : List Begun) (v : Client) (nam
     told_size text found (inr (same, one)) =
         let count : size ≡ length (set_for name (known txns v)).members = same ∙ sym count_is in
         let some : ℕ → Option ℕ = λ n. Some n in
-        let held = index_known schema v.watching.watches.names v.watching.watches.values.items watches (λ k x is. (sound.watches k x is).looked) s.members.items place watch.value watch.there one in
+        let held = index_known schema v.watching.watches.names v.watching.watches.values.items watches (λ k x is. (sound.watches k x is).looked) p.set.members.items place watch.value watch.there one in
         let members : watches_at (watches_known v.watching) added.set.members.items ≡ (set_for name (known txns v)).members =
-        ap (watches_at (watches_known v.watching)) (added.members ∙ not_grown s.members.items place size same) ∙ sym members_is in
+        ap (watches_at (watches_known v.watching)) (added.members ∙ not_grown p.set.members.items place size same) ∙ sym members_is in
         inr (record {
           size = found ∙ ap some count;
           member = held.member;

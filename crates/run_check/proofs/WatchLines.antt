@@ -9,6 +9,8 @@ use Rattle.mdb_schema.specs.Schema.{DbSchema}
 use Rattle.client_script.specs.Client as plain
 use Rattle.client_script.specs.Watching.{limited, set_for, set_or_new}
 use Rattle.client_script.specs.declared.command.Command.{Command}
+use Rattle.client_script.specs.declared.command.Command.TheVariants as commands
+use Rattle.client_script.specs.declared.command.WatchesCommand.{WatchesCommand}
 use Rattle.client_script.specs.declared.rule.Rule.{Rule}
 use Rattle.client_script.specs.RuleName.{rule_name}
 use Rattle.run_check.specs.declared.client.Client.{Client}
@@ -34,13 +36,14 @@ refused_line schema H client c text before s v rule (Err e) is told =
     subst (λ (x : Refused). TellsLine schema H client c text before s v (Err x)) (sym is) told
 
 -- where it decides, and nothing has changed
-pub breaks_line : (schema : DbSchema) (H : History) (txns : List Begun) (client : ℕ) (c : Command) (text : Bytes) (s : Sessions) (v : Client) (rule : Rule) (r : Result (Unit {0}) Refused) → IsKnown schema H txns s v → IsErrAnd r (λ e. e ≡ refusals.By rule) → IsDecided schema H client (known txns v) c text (codes "refused " ++ rule_name schema rule) (known txns v) → TellsLine schema H client c text (known txns v) s v r
-breaks_line schema H txns client c text s v rule r knows is decided =
-    refused_line schema H client c text (known txns v) s v rule r is (record { txns = txns; decided = decided; keeps = λ e. knows })
+pub breaks_line : (schema : DbSchema) (H : History) (txns : List Begun) (client : ℕ) (l l' : WatchesCommand) → l ≡ l' → (text : Bytes) (s : Sessions) (v : Client) (rule : Rule) (r : Result (Unit {0}) Refused) → IsKnown schema H txns s v → IsErrAnd r (λ e. e ≡ refusals.By rule) → IsDecided schema H client (known txns v) (commands.Watches l') text (codes "refused " ++ rule_name schema rule) (known txns v) → TellsLine schema H client (commands.Watches l) text (known txns v) s v r
+breaks_line schema H txns client l l' same text s v rule r knows is decided =
+    subst (λ (x : WatchesCommand). TellsLine schema H client (commands.Watches x) text (known txns v) s v r) (sym same)
+    (refused_line schema H client (commands.Watches l') text (known txns v) s v rule r is (record { txns = txns; decided = decided; keeps = λ e. knows }))
 
 -- ---- how many members a set has
 
-module _ (schema : DbSchema) (H : History) (txns : List Begun) (v : Client) (sound : IsSound schema H txns v) (watches : length v.watching.watches.names ≡ length v.watching.watches.values.items) (sets : length v.watching.sets.names ≡ length v.watching.sets.values.items) (set : Bytes) where
+module _ (schema : DbSchema) (H : History) (txns : List Begun) (v : Client) (sound : IsSound schema H txns v) (set : Bytes) where
   abbrev Kept : Option Set
   Kept = value_named set v.watching.sets.names v.watching.sets.values.items
 
@@ -50,7 +53,7 @@ module _ (schema : DbSchema) (H : History) (txns : List Begun) (v : Client) (sou
 
   pub size_known : length (set_for set (known txns v)).members ≡ member_count (value_named set v.watching.sets.names v.watching.sets.values.items)
   size_known =
-      ap (λ (x : plain.WatchSet). length x.members) (set_for_known (watches_known v.watching) set v.watching.sets.names v.watching.sets.values.items Kept sets refl)
+      ap (λ (x : plain.WatchSet). length x.members) (set_for_known (watches_known v.watching) set v.watching.sets.names v.watching.sets.values.items Kept (v.watching.sets.paired ∙ v.watching.sets.values.ok.0) refl)
       ∙ of Kept refl
     where
       of : (o : Option Set) → Kept ≡ o → length (set_or_new set (option_map (set_known (watches_known v.watching) set) o)).members ≡ member_count o
@@ -58,7 +61,7 @@ module _ (schema : DbSchema) (H : History) (txns : List Begun) (v : Client) (sou
       of (Some s) is =
           let at = at_place (place_in set v.watching.sets.names) s is in
           let there = sound.sets at.0 s at.1 in
-          let long = named_length watch_known v.watching.watches.names v.watching.watches.values.items watches in
+          let long = named_length watch_known v.watching.watches.names v.watching.watches.values.items (v.watching.watches.paired ∙ v.watching.watches.values.ok.0) in
           all_there (watches_known v.watching) s.members.items (λ k p here. let within = there.members k p here in omega (arith, within, long))
 
   count_small : (o : Option Set) → member_count o < 2 ^ 63
@@ -85,11 +88,12 @@ module _ (schema : DbSchema) (H : History) (txns : List Begun) (v : Client) (sou
 
 -- ---- what a line tells that adds
 
-pub size_line : {P : Type 0} (schema : DbSchema) (H : History) (txns : List Begun) (client : ℕ) (c : Command) (text : Bytes) (before : plain.Client) (s : Sessions) (v : Client) (set : Bytes) (w : plain.Watch) (old : Bytes) (r : Result (Unit {0}) Refused) → TellsSize set w before (known txns v) text old s.text.items r → old ≡ [] → ((made : Bytes) → IsMemberTold set w before (known txns v) text made ⊎ IsDoubleTold set w before (known txns v) text made ⊎ IsNoSize set w before text made → IsDecided schema H client before c text made (known txns v)) → OnOk r P → (P → IsKnown schema H txns s v) → TellsLine schema H client c text before s v r
-size_line schema H txns client c text before s v set w old (Ok u) tells empty decides kept knows = record {
+pub size_line : {P : Type 0} (schema : DbSchema) (H : History) (txns : List Begun) (client : ℕ) (l l' : WatchesCommand) → l ≡ l' → (text : Bytes) (before : plain.Client) (s : Sessions) (v : Client) (set : Bytes) (w : plain.Watch) (old : Bytes) (r : Result (Unit {0}) Refused) → TellsSize set w before (known txns v) text old s.text.items r → old ≡ [] → ((made : Bytes) → IsMemberTold set w before (known txns v) text made ⊎ IsDoubleTold set w before (known txns v) text made ⊎ IsNoSize set w before text made → IsDecided schema H client before (commands.Watches l') text made (known txns v)) → OnOk r P → (P → IsKnown schema H txns s v) → TellsLine schema H client (commands.Watches l) text before s v r
+size_line schema H txns client l l' same text before s v set w old (Ok u) tells empty decides kept knows = record {
   txns = txns;
-  decided = subst (λ (t : Bytes). IsDecided schema H client before c text t (known txns v)) (sym (tells.1 ∙ ap (λ (o : Bytes). o ++ tells.0) empty)) (decides tells.0 tells.2);
+  decided = subst (λ (x : WatchesCommand). IsDecided schema H client before (commands.Watches x) text s.text.items (known txns v)) (sym same)
+      (subst (λ (t : Bytes). IsDecided schema H client before (commands.Watches l') text t (known txns v)) (sym (tells.1 ∙ ap (λ (o : Bytes). o ++ tells.0) empty)) (decides tells.0 tells.2));
   keeps = λ e. knows kept;
 }
-size_line schema H txns client c text before s v set w old (Err e) tells empty decides kept knows =
-    subst (λ (x : Refused). TellsLine schema H client c text before s v (Err x)) (sym tells) tt
+size_line schema H txns client l l' same text before s v set w old (Err e) tells empty decides kept knows =
+    subst (λ (x : Refused). TellsLine schema H client (commands.Watches l) text before s v (Err x)) (sym tells) tt

@@ -1,4 +1,4 @@
-use Rattle.std.proofs.Common.{◌∙◌, rules}
+use Rattle.std.proofs.Common.{rules}
 use Rattle.client_script.specs.RuleName.{rule_name}
 use Rattle.client_script.specs.Watching.{limit_judged, limited}
 use Rattle.run_check.specs.inner.CalledView.{IsPlaceOf}
@@ -30,10 +30,8 @@ returns c = λ schema H txns sound.
     let before = known txns v in
     let set = c.args.set.now in
     let first = c.in_ok-first.ensures schema txns in
-    let second = c.in_ok-second.ensures schema txns in
-    let paired = v.watching.watches.paired ∙ v.watching.watches.values.ok.0 in
-    let sets = v.watching.sets.paired ∙ v.watching.sets.values.ok.0 in (
+    let second = c.in_ok-second.ensures schema txns in (
       limited set c.args.limit first.0 second.0 before,
       limit_found before set c.args.limit c.args.name.now c.args.other.now first.0 second.0 first.1 second.1,
-      limited_there schema H txns v sound paired sets set c.args.limit c.in_ok-first.first c.in_ok-second.second first.0 second.0 first.2 second.2 c.limited_place.result c.limited_place.ensures,
+      limited_there schema H txns v sound set c.args.limit c.in_ok-first.first c.in_ok-second.second first.0 second.0 first.2 second.2 c.limited_place.result c.limited_place.ensures,
     )

@@ -1,4 +1,4 @@
-use Rattle.std.proofs.Common.{rules, arith, ◌≡◌, ◌∙◌, refl, sym, ap, subst, List, length, map, option_copied, Some, None, slice_get}
+use Rattle.std.proofs.Common.{rules, arith, ◌≡◌, ◌∙◌, refl, sym, ap, subst, List, length, map, option_copied, None, slice_get}
 use Rattle.run_check.specs.FirstBad.{found_by}
 use Rattle.run_check.specs.OutputView.{output_of}
 use Rattle.run_check.specs.Views.{printed_of}
@@ -6,8 +6,9 @@ use Rattle.run_check.specs.declared.commits.Committed.{Committed}
 use Rattle.run_check.specs.declared.session.Sessions.{Sessions}
 use Rattle.run_check.specs.CommitView.{committed_of}
 use Rattle.run_check.specs.inner.HistoryView.{HasMade}
-use Rattle.run_check.proofs.ClientsHeard.{all_checked, judged_on, next_heard, no_script_less, none_checked_yet, one_checked_more, one_not_checked, ready_at_start, replies_there}
+use Rattle.run_check.proofs.ClientsHeard.{IsNext, all_checked, judged_on, next_heard, no_script_less, none_checked_yet, one_checked_more, one_not_checked, ready_at_start, replies_there}
 use Rattle.run_check.proofs.check.check_sessions.Goals as goal
+use Rattle.run_check.proofs.check.check_sessions.Goals.{After-deref-in-loop-client}
 
 pub loop-client-init : goal.loop-client-init
 loop-client-init c = λ names out is.
@@ -25,56 +26,41 @@ returns-in_default c = λ names out is.
     let none : slice_get c.args.scripts.now l.client ≡ None = sym c.get.ensures ∙ ap option_copied c.in_default.is in
     no_script_less c.args.schema.now names c.args.scripts.now out c.args.output.now is l.client none (search (rules, arith))
 
+-- the script of the next client, and its replies
+next : (c : After-deref-in-loop-client) → IsNext c.args.scripts.now c.args.output.now c.loop-client.client c.in-Some.script.now (map printed_of c.deref-in-loop-client.result.now)
+next c = record {
+  script_is = sym c.get.ensures ∙ ap option_copied c.in-Some.is;
+  replies_are = replies_there c.args.output.now.clients.items c.deref-replies-items.result.now c.loop-client.client c.replies-item.result c.deref-in-loop-client.result.now c.deref-replies-items.ensures.value (search rules) c.replies-item.is c.deref-in-loop-client.ensures.value;
+}
+
 pub check_client-requires : goal.check_client-requires
 check_client-requires c =
     let l = c.loop-client in
-    let schema = c.args.schema.now in
-    let scripts = c.args.scripts.now in
-    let o = c.args.output.now in
     let was = c.requires.read in
-    let script : slice_get scripts l.client ≡ Some c.in-Some.script.now = sym c.get.ensures ∙ ap option_copied c.in-Some.is in
-    let items = c.deref-in-loop-client.result.now in
-    let replies = replies_there o.clients.items c.deref-replies-items.result.now l.client c.replies-item.result items c.deref-replies-items.ensures.value (search rules) c.replies-item.is c.deref-in-loop-client.ensures.value in
     let so_far = l.invariant was.0 was.1 was.2 in
     record {
       heard = (
-        schema,
-        found_by schema (output_of scripts o),
+        c.args.schema.now,
+        found_by c.args.schema.now (output_of c.args.scripts.now c.args.output.now),
         so_far.txns,
         so_far.ready,
-        next_heard schema was.0 scripts was.1 o was.2 c.requires.lawful l.client c.in-Some.script.now (map printed_of items) script replies,
+        next_heard c.args.schema.now was.0 c.args.scripts.now was.1 c.args.output.now was.2 c.requires.lawful l.client c.in-Some.script.now (map printed_of c.deref-in-loop-client.result.now) (next (goal.at.check_client-requires c).After-deref-in-loop-client),
       );
     }
 
 pub returns-in_err-check_client : goal.returns-in_err-check_client
 returns-in_err-check_client c = λ names out is.
     let l = c.loop-client in
-    let schema = c.args.schema.now in
-    let scripts = c.args.scripts.now in
-    let o = c.args.output.now in
-    let script : slice_get scripts l.client ≡ Some c.in-Some.script.now = sym c.get.ensures ∙ ap option_copied c.in-Some.is in
-    let items = c.deref-in-loop-client.result.now in
-    let replies = replies_there o.clients.items c.deref-replies-items.result.now l.client c.replies-item.result items c.deref-replies-items.ensures.value (search rules) c.replies-item.is c.deref-in-loop-client.ensures.value in
-    let so_far = l.invariant names out is in
-    let heard = next_heard schema names scripts out o is c.requires.lawful l.client c.in-Some.script.now (map printed_of items) script replies in
-    judged_on schema names scripts out c.in_err-check_client.field-0.0 c.from_residual-in_err-check_client.result
-    (one_not_checked schema names scripts out o is c.requires.lawful l.client l.sessions c.check_client.new.self c.in-Some.script.now (map printed_of items) so_far script replies c.in_err-check_client.field-0.0
-    (c.in_err-check_client.ensures.told schema (found_by schema (output_of scripts o)) so_far.txns so_far.ready heard))
+    judged_on c.args.schema.now names c.args.scripts.now out c.in_err-check_client.field-0.0 c.from_residual-in_err-check_client.result
+    (one_not_checked c.args.schema.now names c.args.scripts.now out c.args.output.now is c.requires.lawful l.client l.sessions c.check_client.new.self c.in-Some.script.now (map printed_of c.deref-in-loop-client.result.now) (l.invariant names out is) (next (goal.at.returns-in_err-check_client c).After-deref-in-loop-client) c.in_err-check_client.field-0.0
+    (c.in_err-check_client.ensures.told c.args.schema.now))
     c.from_residual-in_err-check_client.ensures.1
 
 pub loop-client-preserved : goal.loop-client-preserved
 loop-client-preserved c = λ names out is.
     let l = c.loop-client in
-    let schema = c.args.schema.now in
-    let scripts = c.args.scripts.now in
-    let o = c.args.output.now in
-    let script : slice_get scripts l.client ≡ Some c.in-Some.script.now = sym c.get.ensures ∙ ap option_copied c.in-Some.is in
-    let items = c.deref-in-loop-client.result.now in
-    let replies = replies_there o.clients.items c.deref-replies-items.result.now l.client c.replies-item.result items c.deref-replies-items.ensures.value (search rules) c.replies-item.is c.deref-in-loop-client.ensures.value in
-    let so_far = l.invariant names out is in
-    let heard = next_heard schema names scripts out o is c.requires.lawful l.client c.in-Some.script.now (map printed_of items) script replies in
-    one_checked_more schema names scripts out o is l.client l.sessions c.check_client.new.self c.in-Some.script.now (map printed_of items) so_far script replies c.in_ok-check_client.field-0
-    (c.in_ok-check_client.ensures.told schema (found_by schema (output_of scripts o)) so_far.txns so_far.ready heard)
+    one_checked_more c.args.schema.now names c.args.scripts.now out c.args.output.now is c.requires.lawful l.client l.sessions c.check_client.new.self c.in-Some.script.now (map printed_of c.deref-in-loop-client.result.now) (l.invariant names out is) (next (goal.at.loop-client-preserved c).After-deref-in-loop-client) c.in_ok-check_client.field-0
+    (c.in_ok-check_client.ensures.told c.args.schema.now)
 
 pub returns : goal.returns
 returns c = λ names out is.

@@ -1,4 +1,4 @@
-use Rattle.std.proofs.Common.{refl, subst, sym}
+use Rattle.std.proofs.Common.{ap, refl, subst, sym}
 use Rattle.client_script.specs.Alone.{to_transact}
 use Rattle.client_script.specs.Turn.{transaction_turn}
 use Rattle.client_script.specs.declared.command.Command.TheVariants as commands
@@ -6,8 +6,8 @@ use Rattle.client_script.specs.declared.command.TransactionCommand.{TransactionC
 use Rattle.client_script.specs.declared.command.TransactionCommand.TheVariants as transaction_lines
 use Rattle.run_check.specs.inner.ClientView.{begun_then, known}
 use Rattle.run_check.specs.inner.SessionView.{TellsLine}
-use Rattle.run_check.proofs.LineTold.{turn_tells, turn_told_or_refused}
-use Rattle.run_check.proofs.PlainTurns.{abort_decided, end_decided}
+use Rattle.run_check.proofs.LineTold.{turn_told_or_refused}
+use Rattle.run_check.proofs.PlainTurns.{abort_told, end_told}
 use Rattle.run_check.proofs.TransactionsTold.{commit_tells, text_tells}
 use Rattle.run_check.proofs.session.Sessions.transaction.Goals as goal
 
@@ -39,14 +39,9 @@ pub returns-in-End : goal.returns-in-End
 returns-in-End c = record {
   told = λ schema H txns client k due empty.
       let before = known txns c.args.knows.now in
-      let text = c.args.text.now in
-      let old = c.args.self.now.text.items in
-      let s = c.end.new.self in
-      let v = c.end.new.knows in
-      let turn = transaction_turn schema H before.last before transaction_lines.End in
-      subst (λ (x : TransactionCommand). TellsLine schema H client (commands.Transaction x) text before s v c.end.result) (sym c.in-End.is)
-      (turn_tells schema H client before text due k.sound.last (to_transact transaction_lines.End) turn (λ now. refl) (end_decided schema H before due.unspent k.sound.last client text) old empty s v c.end.result
-      (turn_told_or_refused schema H txns turn before old s v c.end.result (c.end.ensures.told schema H before.last txns) (c.end.ensures.keeps schema H txns k) (c.end.ensures.refuses schema H txns k)));
+      end_told schema H client before c.args.text.now due k.sound.last (commands.Transaction c.args.line.now) c.args.self.now.text.items empty c.end.new.self c.end.new.knows c.end.result (ap (λ (x : TransactionCommand). commands.Transaction x) c.in-End.is)
+      (turn_told_or_refused schema H txns (transaction_turn schema H before.last before transaction_lines.End) before c.args.self.now.text.items c.end.new.self c.end.new.knows c.end.result (c.end.ensures.told schema H before.last txns)
+      (c.end.ensures.keeps schema H txns k) (c.end.ensures.refuses schema H txns k));
 }
 
 pub returns-in-Commit : goal.returns-in-Commit
@@ -65,12 +60,7 @@ pub returns-in-Abort : goal.returns-in-Abort
 returns-in-Abort c = record {
   told = λ schema H txns client k due empty.
       let before = known txns c.args.knows.now in
-      let text = c.args.text.now in
-      let old = c.args.self.now.text.items in
-      let s = c.abort.new.self in
-      let v = c.abort.new.knows in
-      let turn = transaction_turn schema H before.last before transaction_lines.Abort in
-      subst (λ (x : TransactionCommand). TellsLine schema H client (commands.Transaction x) text before s v c.abort.result) (sym c.in-Abort.is)
-      (turn_tells schema H client before text due k.sound.last (to_transact transaction_lines.Abort) turn (λ now. refl) (abort_decided schema H before due.unspent k.sound.last client text) old empty s v c.abort.result
-      (turn_told_or_refused schema H txns turn before old s v c.abort.result (c.abort.ensures.told schema H before.last txns) (c.abort.ensures.keeps schema H txns k) (c.abort.ensures.refuses schema H txns k)));
+      abort_told schema H client before c.args.text.now due k.sound.last (commands.Transaction c.args.line.now) c.args.self.now.text.items empty c.abort.new.self c.abort.new.knows c.abort.result (ap (λ (x : TransactionCommand). commands.Transaction x) c.in-Abort.is)
+      (turn_told_or_refused schema H txns (transaction_turn schema H before.last before transaction_lines.Abort) before c.args.self.now.text.items c.abort.new.self c.abort.new.knows c.abort.result (c.abort.ensures.told schema H before.last txns)
+      (c.abort.ensures.keeps schema H txns k) (c.abort.ensures.refuses schema H txns k));
 }
