@@ -18,6 +18,22 @@ const TWO_ROWS_OUT: &str = r#"client 1 c1
 5: read @1
 "#;
 
+/// The question that most of these sessions watch.
+const WATCH_FOOL: &str = r#"watch w first users id ["fool"]
+"#;
+
+/// A row that is there is watched beside it, and a write begins.
+const WATCH_FOO_AND_WRITE: &str = r#"watch k first users id ["foo"]
+end
+write
+"#;
+
+/// The write is committed, and both watches are looked at.
+const COMMIT_AND_CHECK: &str = r#"commit
+check w
+check k
+"#;
+
 /// One key is missing and the other is there, and then the first watch has fired alone.
 const ONE_FIRES: &str = r#"6: none
 7: row {"age":1,"name":"foo"}
@@ -36,18 +52,14 @@ pub(crate) static MISSING_KEY: Session = Session {
         "c1",
         &[
             (TWO_ROWS, 1),
+            (WATCH_FOOL, 1),
+            (WATCH_FOO_AND_WRITE, 1),
             (
-                r#"watch w first users id ["fool"]
-watch k first users id ["foo"]
-end
-write
-insert users {"name":"fool","age":3}
-commit
-check w
-check k
+                r#"insert users {"name":"fool","age":3}
 "#,
                 1,
             ),
+            (COMMIT_AND_CHECK, 1),
         ],
     )],
     output: &[(TWO_ROWS_OUT, 1), (ONE_FIRES, 1)],
@@ -62,16 +74,16 @@ pub(crate) static SPLIT: Session = Session {
             (TWO_ROWS, 1),
             (
                 r#"watch w first users id ["foot"]
-watch k first users id ["foo"]
-end
-write
-insert users {"name":"foot","age":3}
-commit
-check w
-check k
 "#,
                 1,
             ),
+            (WATCH_FOO_AND_WRITE, 1),
+            (
+                r#"insert users {"name":"foot","age":3}
+"#,
+                1,
+            ),
+            (COMMIT_AND_CHECK, 1),
         ],
     )],
     output: &[(TWO_ROWS_OUT, 1), (ONE_FIRES, 1)],
@@ -86,16 +98,16 @@ pub(crate) static MERGE: Session = Session {
             (TWO_ROWS, 1),
             (
                 r#"watch w get users id_prefix ["fo"]
-watch k first users id ["foo"]
-end
-write
-delete users {"name":"football"}
-commit
-check w
-check k
 "#,
                 1,
             ),
+            (WATCH_FOO_AND_WRITE, 1),
+            (
+                r#"delete users {"name":"football"}
+"#,
+                1,
+            ),
+            (COMMIT_AND_CHECK, 1),
         ],
     )],
     output: &[
@@ -124,12 +136,10 @@ pub(crate) static OTHER_TABLE: Session = Session {
         "c1",
         &[
             (TWO_ROWS, 1),
+            (WATCH_FOOL, 1),
+            (WATCH_FOO_AND_WRITE, 1),
             (
-                r#"watch w first users id ["fool"]
-watch k first users id ["foo"]
-end
-write
-insert notes {"name":"n"}
+                r#"insert notes {"name":"n"}
 commit
 check w
 "#,
@@ -160,9 +170,9 @@ pub(crate) static NEIGHBOURS: Session = Session {
         "c1",
         &[
             (TWO_ROWS, 1),
+            (WATCH_FOOL, 1),
             (
-                r#"watch w first users id ["fool"]
-watch f first users id ["foot"]
+                r#"watch f first users id ["foot"]
 end
 write
 insert users {"name":"foop","age":3}
@@ -198,12 +208,10 @@ pub(crate) static ABORT: Session = Session {
         "c1",
         &[
             (TWO_ROWS, 1),
+            (WATCH_FOOL, 1),
+            (WATCH_FOO_AND_WRITE, 1),
             (
-                r#"watch w first users id ["fool"]
-watch k first users id ["foo"]
-end
-write
-insert users {"name":"fool","age":3}
+                r#"insert users {"name":"fool","age":3}
 abort
 check w
 write
