@@ -1,10 +1,8 @@
 //! Rows, arguments and keys are worked from the table of the key forms, and UUIDs are those of
 //! RFC 9562.
 
-mod answers;
 mod args;
-mod limits;
 mod made;
 mod rows;
-mod samples;
+pub mod told;
 mod worked;

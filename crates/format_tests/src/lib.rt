@@ -1,4 +1,5 @@
 //! Tests of the documents, the keys, the schemas and the clients' scripts, by their public calls alone.
+//! Most are tables of texts, each with what it is told as.
 #![tactic(auto)]
 
 #[cfg(test)]
@@ -9,3 +10,5 @@ mod keys;
 mod schemas;
 #[cfg(test)]
 mod scripts;
+#[cfg(test)]
+mod tables;

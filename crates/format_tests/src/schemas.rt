@@ -1,4 +1,5 @@
-//! What is read and what is refused, worked from the format of schema files.
+//! What is read and what is refused, worked from the format of schema files. In a text, `$` stands for
+//! the indexer of the text `a`.
 ghost use Rattle.mdb_schema.specs.worked.DeclaredNames.{DeclaredNames};
 ghost use Rattle.mdb_schema.specs.worked.EachKind.{EachKind};
 ghost use Rattle.mdb_schema.specs.worked.OneRule.{OneRule};
@@ -6,39 +7,15 @@ ghost use Rattle.mdb_schema.specs.worked.TrackedTables.{TrackedTables};
 ghost use Rattle.mdb_schema.specs.worked.TwoRules.{TwoRules};
 ghost use Rattle.mdb_schema.specs.worked.WholeSchemas.{WholeSchemas};
 
-use mdb_datum::Text;
-use mdb_schema::{Schema, SchemaError, SchemaRule, TableDef, read_schema};
+use crate::tables::Text;
+use mdb_datum::Text as Name;
+use mdb_schema::{Schema, SchemaError, SchemaRule, read_schema};
 use std::alloc::{AllocError, Global};
-use std::process::Abort;
 
+mod files;
 mod lookup;
-mod one_rule;
-mod read;
+mod tables;
 mod tracked;
-mod two_rules;
-
-/// A text, and what its file is told as: a schema, or the rule that it breaks with the names of the
-/// table and the index. In the text, `$` stands for the indexer of the text `a`.
-type Case = (&'static str, &'static str);
-
-/// A file, at the place of `@`.
-const WHOLE: &str = "@";
-
-/// What stands in `tables`, at the place of `@`, in each version of the format.
-static TABLES: [&str; 2] = [r#"{"memdb":1,"tables":{@}}"#, r#"{"memdb":2,"tables":{@}}"#];
-
-/// What stands in `indexes` of the table `t`, at the place of `@`. In version 2 the table is tracked.
-static INDEXES: [&str; 2] = [
-    r#"{"memdb":1,"tables":{"t":{"indexes":{@}}}}"#,
-    r#"{"memdb":2,"tables":{"t":{"tracked":true,"indexes":{@}}}}"#,
-];
-
-/// The indexer of the index `id` of the table `t`, at the place of `@`. In version 2 the table is
-/// tracked.
-static INDEXER: [&str; 2] = [
-    r#"{"memdb":1,"tables":{"t":{"indexes":{"id":{"unique":true,"indexer":@}}}}}"#,
-    r#"{"memdb":2,"tables":{"t":{"tracked":true,"indexes":{"id":{"unique":true,"indexer":@}}}}}"#,
-];
 
 /// Nothing runs here: the clauses are computed.
 fn worked_documents()
@@ -51,7 +28,7 @@ fn worked_documents()
 {}
 
 /// The file with a text at the place of `@`.
-fn file_of(alloc: Global, frame: &str, text: &str) -> Result<String, AllocError> {
+fn file_of(alloc: Global, frame: &str, text: &str) -> Text {
     let file = frame.replace(alloc, "@", text)?;
     file.replace(alloc, "$", r#"{"kind":"text","field":"a"}"#)
 }
@@ -60,9 +37,9 @@ fn file_of(alloc: Global, frame: &str, text: &str) -> Result<String, AllocError>
 fn refusal_text(
     alloc: Global,
     rule: SchemaRule,
-    table: &Option<Text>,
-    index: &Option<Text>,
-) -> Result<String, AllocError> {
+    table: &Option<Name>,
+    index: &Option<Name>,
+) -> Text {
     let rule = rule.word();
     match (table, index) {
         (Some(table), Some(index)) => {
@@ -79,46 +56,67 @@ fn refusal_text(
     }
 }
 
+/// Why a file is no schema.
+fn error_text(alloc: Global, error: &SchemaError) -> Text {
+    match error {
+        SchemaError::Memory => Err(AllocError),
+        SchemaError::Broken { rule, table, index } => refusal_text(alloc, *rule, table, index),
+    }
+}
+
 /// What a file is told as.
-fn told(alloc: Global, file: &[u8]) -> Result<String, AllocError> {
+fn schema_told(alloc: Global, file: &[u8]) -> Text {
     match read_schema(alloc, file) {
         Ok(_) => String::from_str(alloc, "a schema"),
-        Err(SchemaError::Memory) => Err(AllocError),
-        Err(SchemaError::Broken { rule, table, index }) => {
-            refusal_text(alloc, rule, &table, &index)
-        }
+        Err(error) => error_text(alloc, &error),
     }
 }
 
-/// Whether a text in a frame is told as wanted.
-fn is_told(alloc: Global, frame: &str, text: &str, wanted: &str) -> Result<bool, AllocError> {
+/// What the file with a text in a frame is told as.
+pub fn frame_told(alloc: Global, frame: &str, text: &str) -> Text {
     let file = file_of(alloc, frame, text)?;
-    let found = told(alloc, file.as_str().as_bytes())?;
-    Ok(found.as_str() == wanted)
+    schema_told(alloc, file.as_bytes())
 }
 
-/// Reads texts in a frame, each of which is told as it is.
-fn check_all<R: Abort>(
-    rt: &R,
-    alloc: Global,
-    frame: &str,
-    cases: &[Case],
-) -> Result<(), AllocError> {
-    for (text, wanted) in cases {
-        assert!(rt; is_told(alloc, frame, text, wanted)?, "{text}");
+/// The same in two frames, where it is told as the same in both.
+pub fn both_told(alloc: Global, frames: &[&str; 2], text: &str) -> Text {
+    let first = frame_told(alloc, frames[0], text)?;
+    let second = frame_told(alloc, frames[1], text)?;
+    if first == second {
+        Ok(first)
+    } else {
+        String::from_str(alloc, "told otherwise in version 2")
     }
-    Ok(())
 }
 
-/// Reads texts in each of the frames, in all of which they are told as the same.
-fn check_in_each<R: Abort>(
-    rt: &R,
-    alloc: Global,
-    frames: &[&str],
-    cases: &[Case],
-) -> Result<(), AllocError> {
-    for frame in frames {
-        check_all(rt, alloc, frame, cases)?;
+/// Adds whether a table is tracked.
+fn push_tracked(out: &mut String, schema: &Schema, at: usize) -> Result<(), AllocError> {
+    match schema.table(at) {
+        Some(table) if table.tracked() => out.push_str("tracked;"),
+        Some(_) => out.push_str("plain;"),
+        None => Ok(()),
     }
-    Ok(())
+}
+
+/// Whether each table is tracked.
+fn tables_text(alloc: Global, schema: &Schema) -> Text {
+    let mut out = String::new(alloc);
+    for at in 0..schema.len() {
+        push_tracked(&mut out, schema, at)?;
+    }
+    Ok(out)
+}
+
+/// Whether each table of a file is tracked.
+fn tables_told(alloc: Global, file: &[u8]) -> Text {
+    match read_schema(alloc, file) {
+        Ok(schema) => tables_text(alloc, &schema),
+        Err(error) => error_text(alloc, &error),
+    }
+}
+
+/// The same of the file with a text in a frame.
+pub fn tracked_told(alloc: Global, frame: &str, text: &str) -> Text {
+    let file = file_of(alloc, frame, text)?;
+    tables_told(alloc, file.as_bytes())
 }

@@ -1,108 +1,91 @@
 //! Arguments and their keys, exact and in the prefix form.
 
-use super::answers::{args_give, items_in};
-use super::samples::Sample;
+use super::told::key_told;
+use crate::tables::{Form, Told, are_lines_told, holds, is_so};
 use mdb_datum::{Datum, Items};
-use mdb_encode::Width;
 use std::alloc::{AllocError, Global};
 use std::test::Fail;
 
-/// Arguments, and their exact key in hexadecimal or the refusal.
-static EXACT: [(Sample, &str, &str); 28] = [
-    (Sample::Str(true), "[\"Ann\"]", "616e6e00"),
-    (Sample::Str(false), "[\"\"]", "00"),
-    (Sample::Str(false), "[]", "ArgCount"),
-    (Sample::Str(false), "[\"a\",\"b\"]", "ArgCount"),
-    (Sample::Str(false), "[null]", "ArgKind"),
-    (Sample::StrList(false), "[\"b\"]", "6200"),
-    (Sample::StrMap(true), "[\"A\"]", "6100"),
-    (Sample::StrMap(true), "[\"A\",\"X\"]", "61007800"),
-    (Sample::StrMap(false), "[\"a\",1]", "ArgKind"),
-    (Sample::StrMap(false), "[]", "ArgCount"),
-    (Sample::StrMap(false), "[\"a\",\"b\",\"c\"]", "ArgCount"),
-    (Sample::Uint(Width::Two), "[258]", "0102"),
-    (Sample::Uint(Width::One), "[256]", "OutOfRange"),
-    (Sample::Sint(Width::One), "[-1]", "7f"),
-    (Sample::Sint(Width::One), "[-129]", "OutOfRange"),
-    (Sample::Sint(Width::One), "[\"1\"]", "ArgKind"),
-    (Sample::Flag, "[false]", "00"),
-    (Sample::IsSet, "[true]", "01"),
-    (Sample::IsSet, "[0]", "ArgKind"),
-    (Sample::EqualsOne, "[true]", "01"),
-    (
-        Sample::Uuid,
-        "[\"12345678-9abc-def0-1234-56789abcdef0\"]",
-        "123456789abcdef0123456789abcdef0",
-    ),
-    (Sample::Uuid, "[\"\"]", "BadUuid"),
-    (
-        Sample::Uuid,
-        "[\"12345678-9abc-def0-1234-56789abcdef\"]",
-        "BadUuid",
-    ),
-    (Sample::Pair(true), "[\"a\",\"b\"]", "61006200"),
-    (Sample::Pair(true), "[\"a\"]", "ArgCount"),
-    (Sample::Mixed, "[\"a\",7]", "610007"),
-    (Sample::Mixed, "[1,256]", "ArgKind"),
-    (Sample::Mixed, "[\"a\",256]", "OutOfRange"),
-];
+/// The name of an index and arguments, and their exact key in hexadecimal or the refusal.
+static EXACT: &str = r#"folded ["Ann"] => 616e6e00
+text [""] => 00
+text [] => ArgCount
+text ["a","b"] => ArgCount
+text [null] => ArgKind
+list ["b"] => 6200
+folded-map ["A"] => 6100
+folded-map ["A","X"] => 61007800
+map ["a",1] => ArgKind
+map [] => ArgCount
+map ["a","b","c"] => ArgCount
+uint2 [258] => 0102
+uint1 [256] => OutOfRange
+int1 [-1] => 7f
+int1 [-129] => OutOfRange
+int1 ["1"] => ArgKind
+bool [false] => 00
+set [true] => 01
+set [0] => ArgKind
+is-one [true] => 01
+uuid ["12345678-9abc-def0-1234-56789abcdef0"] => 123456789abcdef0123456789abcdef0
+uuid [""] => BadUuid
+uuid ["12345678-9abc-def0-1234-56789abcdef"] => BadUuid
+open-pair ["a","b"] => 61006200
+open-pair ["a"] => ArgCount
+mixed ["a",7] => 610007
+mixed [1,256] => ArgKind
+mixed ["a",256] => OutOfRange
+text ["~1023 x~"] => ~1023 78~00
+text ["~1024 x~"] => TooLong
+"#;
 
-/// Arguments, and their key in the prefix form, in hexadecimal, or the refusal.
-static PREFIXES: [(Sample, &str, &str); 23] = [
-    (Sample::Str(false), "[\"ann\"]", "616e6e"),
-    (Sample::Str(false), "[\"\"]", ""),
-    (Sample::Str(false), "[1]", "ArgKind"),
-    (Sample::Str(false), "[]", "ArgCount"),
-    (Sample::StrList(true), "[\"AN\"]", "616e"),
-    (Sample::StrMap(false), "[]", "NoPrefixForm"),
-    (Sample::Uint(Width::One), "[\"x\"]", "NoPrefixForm"),
-    (Sample::IsSet, "[true]", "NoPrefixForm"),
-    (Sample::Uuid, "[\"12-34\"]", "1234"),
-    (Sample::Uuid, "[\"-1-2-aB-\"]", "12ab"),
-    (Sample::Uuid, "[\"\"]", ""),
-    (Sample::Uuid, "[\"12-3\"]", "BadUuid"),
-    (Sample::Uuid, "[\"123\"]", "BadUuid"),
-    (Sample::Uuid, "[\"-----\"]", "BadUuid"),
-    (Sample::Uuid, "[\"1g\"]", "BadUuid"),
-    (
-        Sample::Uuid,
-        "[\"123456789012345678901234567890123456\"]",
-        "123456789012345678901234567890123456",
-    ),
-    (
-        Sample::Uuid,
-        "[\"1234567890123456789012345678901234567\"]",
-        "BadUuid",
-    ),
-    (Sample::Pair(false), "[\"a\"]", "61"),
-    (Sample::Pair(false), "[\"a\",\"b\"]", "610062"),
-    (Sample::Pair(false), "[]", "ArgCount"),
-    (Sample::Pair(false), "[\"a\",\"b\",\"c\"]", "ArgCount"),
-    (Sample::Mixed, "[\"a\",256]", "NoPrefixForm"),
-    (Sample::Mixed, "[1,256]", "ArgKind"),
-];
+#[test]
+fn arguments_give_their_keys(rt: HostRuntime) -> Result<(), Fail> {
+    are_lines_told(rt.alloc(), Form::Args, EXACT)
+}
+
+/// The same of their key in the prefix form, which has no end byte.
+static PREFIXES: &str = r#"text ["ann"] => 616e6e
+text [""] => none
+text [1] => ArgKind
+text [] => ArgCount
+folded-list ["AN"] => 616e
+map [] => NoPrefixForm
+uint1 ["x"] => NoPrefixForm
+set [true] => NoPrefixForm
+uuid ["12-34"] => 1234
+uuid ["-1-2-aB-"] => 12ab
+uuid [""] => none
+uuid ["12-3"] => BadUuid
+uuid ["123"] => BadUuid
+uuid ["-----"] => BadUuid
+uuid ["1g"] => BadUuid
+uuid ["123456789012345678901234567890123456"] => 123456789012345678901234567890123456
+uuid ["1234567890123456789012345678901234567"] => BadUuid
+pair ["a"] => 61
+pair ["a","b"] => 610062
+pair [] => ArgCount
+pair ["a","b","c"] => ArgCount
+mixed ["a",256] => NoPrefixForm
+mixed [1,256] => ArgKind
+text ["~1024 x~"] => ~1024 78~
+text ["~1025 x~"] => TooLong
+"#;
+
+#[test]
+fn prefixes_give_their_keys(rt: HostRuntime) -> Result<(), Fail> {
+    are_lines_told(rt.alloc(), Form::Prefix, PREFIXES)
+}
 
 /// Numbers that no text can give: one past the numbers of 8 bytes, and the ends of `i128`.
-static PAST: [(Sample, i128); 6] = [
-    (Sample::Uint(Width::Eight), 18_446_744_073_709_551_616),
-    (Sample::Uint(Width::Eight), i128::MAX),
-    (Sample::Uint(Width::Eight), i128::MIN),
-    (Sample::Sint(Width::Eight), -9_223_372_036_854_775_809),
-    (Sample::Sint(Width::Eight), i128::MAX),
-    (Sample::Sint(Width::Eight), i128::MIN),
+static PAST: [(&str, i128); 6] = [
+    ("uint8", 18_446_744_073_709_551_616),
+    ("uint8", i128::MAX),
+    ("uint8", i128::MIN),
+    ("int8", -9_223_372_036_854_775_809),
+    ("int8", i128::MAX),
+    ("int8", i128::MIN),
 ];
-
-/// Whether the arguments make this key, or are refused so.
-fn gives(
-    alloc: Global,
-    sample: Sample,
-    args: &str,
-    is_prefix: bool,
-    want: &str,
-) -> Result<bool, Fail> {
-    let args = items_in(alloc, args)?;
-    args_give(alloc, sample, &args, is_prefix, want)
-}
 
 /// A list of one number.
 fn list_of(alloc: Global, number: i128) -> Result<Items, AllocError> {
@@ -112,31 +95,22 @@ fn list_of(alloc: Global, number: i128) -> Result<Items, AllocError> {
 }
 
 /// Whether a number is refused as outside the width.
-fn is_past(alloc: Global, sample: Sample, number: i128) -> Result<bool, Fail> {
+fn is_past(alloc: Global, index: &str, number: i128) -> Told {
     let args = list_of(alloc, number)?;
-    args_give(alloc, sample, &args, false, "OutOfRange")
+    is_so(key_told(alloc, index, false, &args), "OutOfRange")
 }
 
-#[test]
-fn arguments_give_their_keys(rt: HostRuntime) -> Result<(), Fail> {
-    for (sample, args, want) in &EXACT {
-        assert!(rt; gives(rt.alloc(), *sample, *args, false, *want)?, "{args}");
+/// Whether each of those is.
+fn are_past(alloc: Global) -> Told {
+    for (index, number) in &PAST {
+        if !is_past(alloc, index, *number)? {
+            return Ok(false);
+        }
     }
-    Ok(())
-}
-
-#[test]
-fn prefixes_give_their_keys(rt: HostRuntime) -> Result<(), Fail> {
-    for (sample, args, want) in &PREFIXES {
-        assert!(rt; gives(rt.alloc(), *sample, *args, true, *want)?, "{args}");
-    }
-    Ok(())
+    Ok(true)
 }
 
 #[test]
 fn numbers_past_eight_bytes_are_refused(rt: HostRuntime) -> Result<(), Fail> {
-    for (sample, number) in &PAST {
-        assert!(rt; is_past(rt.alloc(), *sample, *number)?, "{number}");
-    }
-    Ok(())
+    holds(are_past(rt.alloc()))
 }

@@ -1,18 +1,37 @@
 //! What a kind is made of: an empty name, a number that is no width, a list or an object as a
 //! scalar and no parts at all make none.
 
-use mdb_datum::{DocError, Text, read_doc};
-use mdb_encode::{Field, Parts, Scalar, Width};
+use crate::tables::{Case, Form, Told, are_told, holds};
+use mdb_datum::Text;
+use mdb_encode::{Field, Part, Parts, Width};
 use std::alloc::{AllocError, Global};
 use std::test::Fail;
 
-/// The name of the field of this name, where there is one.
-fn has_field(alloc: Global, name: &str) -> Result<bool, AllocError> {
-    match Field::of(Text::of(alloc, name)?) {
-        Some(field) => Ok(field.name() == name),
-        None => Ok(false),
-    }
+static NAMES: [Case; 2] = [("a", "a"), ("", "none")];
+
+#[test]
+fn a_name_is_not_empty(rt: HostRuntime) -> Result<(), Fail> {
+    are_told(rt.alloc(), Form::Field, &NAMES)
 }
+
+/// Numbers, and how many bytes the width of so many has, or 0 where there is none.
+static WIDTHS: [(i128, u8); 15] = [
+    (1, 1),
+    (2, 2),
+    (4, 4),
+    (8, 8),
+    (-1, 0),
+    (0, 0),
+    (3, 0),
+    (5, 0),
+    (6, 0),
+    (7, 0),
+    (9, 0),
+    (16, 0),
+    (256, 0),
+    (257, 0),
+    (i128::MAX, 0),
+];
 
 /// How many bytes the width of a number of bytes has, or 0.
 fn width_bytes(number: i128) -> u8 {
@@ -22,48 +41,58 @@ fn width_bytes(number: i128) -> u8 {
     }
 }
 
-/// Whether a text is a scalar's.
-fn is_scalar(alloc: Global, text: &str) -> Result<bool, DocError> {
-    Ok(Scalar::of(read_doc(alloc, text.as_bytes())?).is_some())
+/// Whether each width has so many bytes.
+fn have_bytes() -> bool {
+    for (number, bytes) in &WIDTHS {
+        if width_bytes(*number) != *bytes {
+            return false;
+        }
+    }
+    true
+}
+
+#[test]
+fn widths_are_four() -> Result<(), Fail> {
+    holds(Ok(have_bytes()))
 }
 
 /// Texts of scalars, and of what is none.
-static SCALARS: [(&str, bool); 6] = [
-    ("null", true),
-    ("false", true),
-    ("-1", true),
-    ("\"on\"", true),
-    ("[1]", false),
-    ("{}", false),
+static SCALARS: [Case; 6] = [
+    ("null", "scalar"),
+    ("false", "scalar"),
+    ("-1", "scalar"),
+    ("\"on\"", "scalar"),
+    ("[1]", "none"),
+    ("{}", "none"),
 ];
 
 #[test]
-fn a_name_is_not_empty(rt: HostRuntime) -> Result<(), Fail> {
-    assert!(rt; has_field(rt.alloc(), "a")?);
-    assert!(rt; !has_field(rt.alloc(), "")?);
-    Ok(())
-}
-
-#[test]
-fn widths_are_four(rt: HostRuntime) {
-    for number in [1i128, 2, 4, 8] {
-        assert_eq!(rt; i128::from(width_bytes(number)), number);
-    }
-    for number in [-1i128, 0, 3, 5, 6, 7, 9, 16, 256, 257, i128::MAX] {
-        assert_eq!(rt; width_bytes(number), 0, "{number}");
-    }
-}
-
-#[test]
 fn scalars_are_no_lists(rt: HostRuntime) -> Result<(), Fail> {
-    for (text, want) in &SCALARS {
-        assert!(rt; is_scalar(rt.alloc(), text)? == *want, "{text}");
+    are_told(rt.alloc(), Form::Scalar, &SCALARS)
+}
+
+/// A truth value as a part, or none where the name makes no field.
+fn part_of(alloc: Global, name: &str) -> Result<Option<Part>, AllocError> {
+    match Field::of(Text::of(alloc, name)?) {
+        Some(field) => Ok(Some(Part::Flag { field })),
+        None => Ok(None),
     }
-    Ok(())
+}
+
+/// Whether one part makes parts.
+fn is_one_enough(alloc: Global) -> Told {
+    match part_of(alloc, "a")? {
+        Some(part) => Ok(Parts::of(vec![in alloc; part]?).is_some()),
+        None => Ok(false),
+    }
+}
+
+/// Whether that is so, and none makes none.
+fn is_a_part_wanted(alloc: Global) -> Told {
+    Ok(Parts::of(Vec::new(alloc)).is_none() && is_one_enough(alloc)?)
 }
 
 #[test]
-fn there_is_a_part(rt: HostRuntime) {
-    let none = Parts::of(Vec::new(rt.alloc()));
-    assert!(rt; none.is_none());
+fn there_is_a_part(rt: HostRuntime) -> Result<(), Fail> {
+    holds(is_a_part_wanted(rt.alloc()))
 }

@@ -1,5 +1,8 @@
 //! The places of tables and indexes by their names.
-use super::*;
+use super::file_of;
+use crate::tables::{Told, holds};
+use mdb_schema::{Schema, SchemaError, TableDef, read_schema};
+use std::alloc::{AllocError, Global};
 use std::test::Fail;
 
 const FILE: &str = r#"{"memdb":1,"tables":{
@@ -66,18 +69,22 @@ fn have_places(schema: &Schema) -> bool {
     }
 }
 
-/// Whether the file's tables and indexes are found. Want of memory is an error.
-fn is_found(alloc: Global) -> Result<bool, Fail> {
-    let file = file_of(alloc, FILE, "")?;
-    match read_schema(alloc, file.as_bytes()) {
+/// Whether the file's tables and indexes are found.
+fn are_found(alloc: Global, file: &[u8]) -> Told {
+    match read_schema(alloc, file) {
         Ok(schema) => Ok(have_places(&schema)),
-        Err(SchemaError::Memory) => Err(Fail::from("no memory")),
+        Err(SchemaError::Memory) => Err(AllocError),
         Err(_) => Ok(false),
     }
 }
 
+/// The same of the file's text.
+fn is_found(alloc: Global) -> Told {
+    let file = file_of(alloc, FILE, "")?;
+    are_found(alloc, file.as_bytes())
+}
+
 #[test]
 fn a_name_is_found_at_its_place(rt: HostRuntime) -> Result<(), Fail> {
-    assert!(rt; is_found(rt.alloc())?);
-    Ok(())
+    holds(is_found(rt.alloc()))
 }

@@ -1,5 +1,6 @@
 //! Tables that are tracked, in version 2 of the format.
-use super::*;
+use crate::tables::{Form, are_lines_told};
+use std::test::Fail;
 
 /// The table `t` of version 2, with what stands beside its indexes at the place of `@`.
 const VERSION_TWO: &str =
@@ -17,103 +18,57 @@ const TWO_TABLES: &str = r#"{"memdb":@,"tables":{
 "t":{"tracked":true,"indexes":{"id":{"unique":true,"indexer":{"kind":"text","field":"name"}}}},
 "u":{"indexes":{"id":{"unique":true,"indexer":{"kind":"text","field":"name"}}}}}}"#;
 
-/// Members that version 2 refuses beside the indexes of `t`.
-static REFUSED_IN_TWO: [Case; 6] = [
-    (r#","tracked":1"#, "bad-shape t"),
-    (r#","tracked":null"#, "bad-shape t"),
-    (r#","tracked":"true""#, "bad-shape t"),
-    (r#","tracked":true,"x":1"#, "bad-shape t"),
-    (r#","Tracked":true"#, "bad-shape t"),
-    (r#","tracked":true,"tracked":0"#, "bad-shape t"),
-];
+/// Members beside the indexes of `t` in version 2.
+static IN_TWO: &str = r#"// These are refused.
+,"tracked":1 => bad-shape t
+,"tracked":null => bad-shape t
+,"tracked":"true" => bad-shape t
+,"tracked":true,"x":1 => bad-shape t
+,"Tracked":true => bad-shape t
+,"tracked":true,"tracked":0 => bad-shape t
+// These are read. Of several members of one name the last counts.
+ => plain;
+,"tracked":false => plain;
+,"tracked":true => tracked;
+,"tracked":1,"tracked":true => tracked;
+"#;
 
-/// Members that version 1 refuses there.
-static REFUSED_IN_ONE: [Case; 2] = [
-    (r#","tracked":true"#, "bad-shape t"),
-    (r#","tracked":false"#, "bad-shape t"),
-];
+#[test]
+fn a_table_is_tracked_where_it_says_so(rt: HostRuntime) -> Result<(), Fail> {
+    are_lines_told(rt.alloc(), Form::Tracked(VERSION_TWO), IN_TWO)
+}
 
-/// Tables of version 2 that break two rules: the first in order is answered.
-static TWO_RULES: [Case; 3] = [
-    // The table's name, then its shape.
-    (
-        r#""t_prefix":{"indexes":{},"tracked":1}"#,
-        "bad-name t_prefix",
-    ),
-    // The table's shape, then its indexes.
-    (r#""t":{"indexes":{},"tracked":1}"#, "bad-shape t"),
-    (r#""t":{"indexes":{},"tracked":true}"#, "no-indexes t"),
-];
+/// Members in version 1, and none.
+static IN_ONE: &str = r#","tracked":true => bad-shape t
+,"tracked":false => bad-shape t
+ => plain;
+"#;
+
+#[test]
+fn no_table_of_version_one_is_tracked(rt: HostRuntime) -> Result<(), Fail> {
+    are_lines_told(rt.alloc(), Form::Tracked(VERSION_ONE), IN_ONE)
+}
+
+/// Tables of version 2 that break two rules: the first in order is told.
+static TWO_RULES: &str = r#"// The table's name, then its shape.
+"t_prefix":{"indexes":{},"tracked":1} => bad-name t_prefix
+// The table's shape, then its indexes.
+"t":{"indexes":{},"tracked":1} => bad-shape t
+"t":{"indexes":{},"tracked":true} => no-indexes t
+"#;
+
+#[test]
+fn the_first_broken_rule_of_tracked_tables_is_told(rt: HostRuntime) -> Result<(), Fail> {
+    are_lines_told(rt.alloc(), Form::Tracked(TABLES_OF_TWO), TWO_RULES)
+}
 
 /// The two tables in each version.
-static VERSIONS: [Case; 3] = [
-    ("1", "bad-shape t"),
-    ("2", "a schema"),
-    ("3", "bad-version"),
-];
-
-/// What stands beside the indexes of `t` in version 2, and whether the table is tracked.
-static READ: [(&str, bool); 4] = [
-    ("", false),
-    (r#","tracked":false"#, false),
-    (r#","tracked":true"#, true),
-    // Of several members of one name the last counts.
-    (r#","tracked":1,"tracked":true"#, true),
-];
-
-/// Whether the table at a place is tracked, if there is one.
-fn tracked_at(schema: &Schema, at: usize) -> Option<bool> {
-    match schema.table(at) {
-        Some(table) => Some(table.tracked()),
-        None => None,
-    }
-}
-
-/// Whether the file with a text in a frame is a schema whose table at a place is tracked or not, as
-/// wanted.
-fn is_tracked_as(
-    alloc: Global,
-    frame: &str,
-    text: &str,
-    at: usize,
-    wanted: bool,
-) -> Result<bool, AllocError> {
-    let file = file_of(alloc, frame, text)?;
-    match read_schema(alloc, file.as_bytes()) {
-        Ok(schema) => Ok(tracked_at(&schema, at) == Some(wanted)),
-        Err(SchemaError::Memory) => Err(AllocError),
-        Err(_) => Ok(false),
-    }
-}
+static VERSIONS: &str = r#"1 => bad-shape t
+2 => tracked;plain;
+3 => bad-version
+"#;
 
 #[test]
-fn tracked_is_refused_where_it_may_not_stand(rt: HostRuntime) -> Result<(), AllocError> {
-    check_all(&rt, rt.alloc(), VERSION_TWO, &REFUSED_IN_TWO)?;
-    check_all(&rt, rt.alloc(), VERSION_ONE, &REFUSED_IN_ONE)?;
-    check_all(&rt, rt.alloc(), TABLES_OF_TWO, &TWO_RULES)?;
-    check_all(&rt, rt.alloc(), TWO_TABLES, &VERSIONS)
-}
-
-#[test]
-fn a_table_is_tracked_where_it_says_so(rt: HostRuntime) -> Result<(), AllocError> {
-    for (text, wanted) in &READ {
-        assert!(rt;
-            is_tracked_as(rt.alloc(), VERSION_TWO, text, 0, *wanted)?,
-            "{text}"
-        );
-    }
-    Ok(())
-}
-
-#[test]
-fn each_table_is_tracked_by_itself(rt: HostRuntime) -> Result<(), AllocError> {
-    assert!(rt; is_tracked_as(rt.alloc(), TWO_TABLES, "2", 0, true)?);
-    assert!(rt; is_tracked_as(rt.alloc(), TWO_TABLES, "2", 1, false)?);
-    Ok(())
-}
-
-#[test]
-fn no_table_of_version_one_is_tracked(rt: HostRuntime) -> Result<(), AllocError> {
-    assert!(rt; is_tracked_as(rt.alloc(), VERSION_ONE, "", 0, false)?);
-    Ok(())
+fn each_table_is_tracked_by_itself(rt: HostRuntime) -> Result<(), Fail> {
+    are_lines_told(rt.alloc(), Form::Tracked(TWO_TABLES), VERSIONS)
 }

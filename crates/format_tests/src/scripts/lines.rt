@@ -1,7 +1,9 @@
 //! Lines, blanks, comments, and their numbers.
-use super::*;
+use super::told::script_told;
+use crate::tables::{Case, Form, are_told, holds, is_so};
+use std::test::Fail;
 
-static LINES: [Case; 19] = [
+static LINES: [Case; 21] = [
     ("", ""),
     ("\n", ""),
     ("read", "1 read;"),
@@ -21,15 +23,20 @@ static LINES: [Case; 19] = [
     ("defer a \r", "1 defer a;"),
     ("defer a\rb", "1 defer a\rb;"),
     ("defer #", "1 defer #;"),
+    ("defer a  b\tc", "1 defer a  b\tc;"),
+    (
+        "insert t { \"b\" : 1 , \"a\" : [ 2 ] } \t ",
+        r#"1 insert t {"a":[2],"b":1};"#,
+    ),
 ];
 
 #[test]
-fn lines_are_numbered_from_one(rt: HostRuntime) -> Result<(), AllocError> {
-    check_all(&rt, rt.alloc(), &LINES)
+fn lines_are_numbered_from_one(rt: HostRuntime) -> Result<(), Fail> {
+    are_told(rt.alloc(), Form::Script, &LINES)
 }
 
 /// What is no blank and no end of a line.
-static OTHER_BYTES: [Case; 9] = [
+static OTHER_BYTES: [Case; 10] = [
     ("read\r\r\n", "unknown-word 1"),
     ("read\r ", "unknown-word 1"),
     ("read\rwrite", "unknown-word 1"),
@@ -39,11 +46,12 @@ static OTHER_BYTES: [Case; 9] = [
     ("read\u{b}", "unknown-word 1"),
     ("read\u{a0}", "unknown-word 1"),
     ("write\n\u{feff}# x", "unknown-word 2"),
+    ("check \u{7f}", "bad-name 1"),
 ];
 
 #[test]
-fn other_bytes_belong_to_words(rt: HostRuntime) -> Result<(), AllocError> {
-    check_all(&rt, rt.alloc(), &OTHER_BYTES)
+fn other_bytes_belong_to_words(rt: HostRuntime) -> Result<(), Fail> {
+    are_told(rt.alloc(), Form::Script, &OTHER_BYTES)
 }
 
 /// The first line that breaks a rule is told.
@@ -55,42 +63,25 @@ static TWO_LINES: [Case; 4] = [
 ];
 
 #[test]
-fn the_first_broken_line_is_told(rt: HostRuntime) -> Result<(), AllocError> {
-    check_all(&rt, rt.alloc(), &TWO_LINES)
+fn the_first_broken_line_is_told(rt: HostRuntime) -> Result<(), Fail> {
+    are_told(rt.alloc(), Form::Script, &TWO_LINES)
 }
 
 #[test]
-fn bytes_that_are_no_text_are_told_first(rt: HostRuntime) -> Result<(), AllocError> {
-    assert!(rt; is_told(rt.alloc(), b"reads\n# \xff", "not-text")?);
-    Ok(())
+fn bytes_that_are_no_text_are_told_first(rt: HostRuntime) -> Result<(), Fail> {
+    holds(is_so(script_told(rt.alloc(), b"reads\n# \xff"), "not-text"))
 }
 
 /// Line feeds, and what follows them.
-fn many_lines(alloc: Global, feeds: usize, last: &str) -> Result<Vec<u8>, AllocError> {
-    let mut file = vec![in alloc; b'\n'; feeds]?;
-    file.extend_from_slice(last.as_bytes())?;
-    Ok(file)
-}
-
-/// Whether a file of so many line feeds is told as wanted.
-fn are_told(alloc: Global, feeds: usize, last: &str, wanted: &str) -> Result<bool, AllocError> {
-    let file = many_lines(alloc, feeds, last)?;
-    is_told(alloc, &file, wanted)
-}
-
-/// So many line feeds, what follows them, and what the file is told as.
-static LONG_FILES: [(usize, &str, &str); 5] = [
-    (100_000, "", ""),
-    (100_001, "", "too-many-lines"),
-    (99_999, "read", "100000 read;"),
-    (99_999, "read\n", "100000 read;"),
-    (100_000, "#", "too-many-lines"),
+static LONG_FILES: [Case; 5] = [
+    ("~100000 \n~", ""),
+    ("~100001 \n~", "too-many-lines"),
+    ("~99999 \n~read", "100000 read;"),
+    ("~99999 \n~read\n", "100000 read;"),
+    ("~100000 \n~#", "too-many-lines"),
 ];
 
 #[test]
-fn a_file_has_at_most_so_many_lines(rt: HostRuntime) -> Result<(), AllocError> {
-    for (feeds, last, wanted) in &LONG_FILES {
-        assert!(rt; are_told(rt.alloc(), *feeds, last, wanted)?, "{feeds}");
-    }
-    Ok(())
+fn a_file_has_at_most_so_many_lines(rt: HostRuntime) -> Result<(), Fail> {
+    are_told(rt.alloc(), Form::Script, &LONG_FILES)
 }
