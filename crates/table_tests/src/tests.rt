@@ -9,6 +9,7 @@ mod owned;
 mod plain;
 mod played;
 mod refused;
+mod told;
 mod watched;
 mod wipe;
 mod without_memory;
@@ -20,11 +21,47 @@ use mdb_datum::{Datum, Items, Row, Text, read_doc};
 use mdb_schema::{Ask, Query, Schema, TableDef, read_schema};
 use std::alloc::{AllocError, Global};
 use std::test::Fail;
-use work::{Base, Work};
+use work::Base;
 
-static SCHEMA: &str = "{\"memdb\":1,\"tables\":{\"t\":{\"indexes\":{\
-    \"id\":{\"unique\":true,\"indexer\":{\"kind\":\"text\",\"field\":\"name\"}},\
-    \"tags\":{\"allow_missing\":true,\"indexer\":{\"kind\":\"text_list\",\"field\":\"tags\"}}}}}}";
+/// A table of a text key and of a list of texts.
+const TAGS: &str = r#"{"memdb":1,"tables":{
+    "t":{"indexes":{"id":{"unique":true,"indexer":{"kind":"text","field":"name"}},
+    "tags":{"allow_missing":true,"indexer":{"kind":"text_list","field":"tags"}}}}}}"#;
+
+/// A table of a UUID key.
+const KEYS: &str = r#"{"memdb":1,"tables":{
+    "keys":{"indexes":{"id":{"unique":true,"indexer":{"kind":"uuid","field":"key"}}}}}}"#;
+
+/// A table of a compound index.
+const RULES: &str = r#"{"memdb":1,"tables":{
+    "rules":{"indexes":{"id":{"unique":true,"indexer":{"kind":"text","field":"name"}},
+    "path":{"unique":true,"indexer":{"kind":"compound","allow_missing":true,"parts":[
+        {"kind":"text","field":"dc"},{"kind":"text","field":"svc"}]}}}}}}"#;
+
+/// A table of four indexes.
+const USERS: &str = r#"{"memdb":1,"tables":{
+    "users":{"indexes":{"age":{"indexer":{"kind":"uint","field":"age","width":2}},
+    "id":{"unique":true,"indexer":{"kind":"text","field":"name"}},
+    "mail":{"unique":true,"allow_missing":true,"indexer":{"kind":"text","field":"mail"}},
+    "tags":{"allow_missing":true,"indexer":{"kind":"text_list","field":"tags"}}}}}}"#;
+
+/// What was done, or that there was no memory for it.
+type Done = Result<(), AllocError>;
+
+/// Whether what was done is right.
+type Told = Result<bool, AllocError>;
+
+/// The case that is wrong, if any.
+type Wrong = Result<Option<&'static str>, AllocError>;
+
+/// Fails with a case that is wrong. Only here want of memory becomes a failure: bodies with that
+/// error take twice as long to prove.
+fn none_wrong(wrong: Wrong) -> Result<(), Fail> {
+    match wrong? {
+        None => Ok(()),
+        Some(case) => Err(Fail::new(case)),
+    }
+}
 
 /// The row that a text is. Another text counts as want of memory, which ends a test.
 fn row_of(alloc: Global, text: &str) -> Result<Row, AllocError> {
@@ -33,9 +70,6 @@ fn row_of(alloc: Global, text: &str) -> Result<Row, AllocError> {
         _ => Err(AllocError),
     }
 }
-
-/// Whether what was done is right.
-type Told = Result<bool, AllocError>;
 
 /// The arguments that a text lists. Another text counts as want of memory, which ends a test.
 fn args_of(alloc: Global, text: &str) -> Result<Items, AllocError> {
@@ -78,22 +112,4 @@ fn first_def(schema: &Schema) -> Result<TableDef, AllocError> {
 fn table_of(alloc: Global, schema: &str) -> Result<Base, AllocError> {
     let def = def_of(alloc, schema)?;
     Base::empty(alloc, &def)
-}
-
-/// A change of that table.
-fn begun(alloc: Global, schema: &str) -> Result<Work, AllocError> {
-    let table = table_of(alloc, schema)?;
-    table.txn()
-}
-
-/// The name of the first case that is wrong, if any.
-type Wrong = Result<Option<&'static str>, AllocError>;
-
-/// Fails with the name of a case that is wrong. Only here want of memory becomes a failure: bodies
-/// with that error take twice as long to prove.
-fn none_wrong(wrong: Wrong) -> Result<(), Fail> {
-    match wrong? {
-        None => Ok(()),
-        Some(name) => Err(Fail::new(name)),
-    }
 }

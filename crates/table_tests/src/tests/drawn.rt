@@ -1,11 +1,9 @@
-//! Rows, writes and questions drawn from a fixed sequence, for a table of ten indexes, one of each
+//! Lines of writes and questions drawn from a fixed sequence, for a table of ten indexes, one of each
 //! kind. Names and values are few, so that rows often replace each other and share keys, and are
 //! often refused.
 ghost use Rattle.std.specs.Prelude.{◌<◌};
 
-use super::{asked, row_of};
-use mdb_datum::Row;
-use mdb_schema::{Ask, Query};
+use super::Done;
 use std::alloc::{AllocError, Global};
 
 pub static SCHEMA: &str = r#"{"memdb":1,"tables":{"t":{"indexes":{
@@ -104,32 +102,16 @@ static INDEXES: [(&str, &str, Texts); 11] = [
     ),
 ];
 
-static ASKS: [Ask; 7] = [
-    Ask::First,
-    Ask::Last,
-    Ask::Get,
-    Ask::GetReverse,
-    Ask::Lower,
-    Ask::ReverseLower,
-    Ask::Longest,
+/// The words of questions.
+static ASKS: [&str; 7] = [
+    "first",
+    "last",
+    "get",
+    "get-reverse",
+    "lower",
+    "reverse-lower",
+    "longest",
 ];
-
-/// A question, and what its name of the index is made of.
-#[derive(Drop)]
-pub struct Question {
-    pub index: &'static str,
-    pub by_prefix: bool,
-    pub query: Query,
-}
-
-/// A write of the table.
-#[derive(Drop)]
-pub enum Write {
-    Put(Row),
-    Remove(Row),
-    Wipe(Question),
-    WipePrefix(Question),
-}
 
 /// Numbers by Marsaglia's shifts, the same in each run.
 #[derive(Drop)]
@@ -159,90 +141,51 @@ impl Random {
         texts.split_whitespace().nth(at).unwrap_or("-")
     }
 
-    /// A kind of question.
-    fn ask(&mut self) -> Ask {
-        ASKS[self.below(7) as usize]
-    }
-
     /// Adds the members of a row, and the end of its text.
-    fn add_members(&mut self, text: &mut String) -> Result<(), AllocError> {
+    fn add_members(&mut self, text: &mut String) -> Done {
         for (name, values) in &MEMBERS {
             add_member(text, name, self.text(values))?;
         }
         text.push('}')
     }
 
-    /// The text of a row.
-    fn row_text(&mut self, alloc: Global) -> Result<String, AllocError> {
-        let mut text = String::from_str(alloc, r#"{"kept":1"#)?;
+    /// The write of a row, by a word with a blank behind it. Not each row is one that the table takes.
+    fn row_line(&mut self, alloc: Global, word: &str) -> Result<String, AllocError> {
+        let mut text = format!(in alloc; "{word}{{\"kept\":1")?;
         self.add_members(&mut text)?;
         Ok(text)
     }
 
-    /// A row. Not each of them is one that the table takes.
-    fn row(&mut self, alloc: Global) -> Result<Row, AllocError> {
-        row_of(alloc, &self.row_text(alloc)?)
-    }
-
-    /// A question of this kind. Not each of them keeps the rules.
-    fn question_of(&mut self, alloc: Global, ask: Ask) -> Result<Question, AllocError> {
+    /// A wipe or a question of this word. Not each of them keeps the rules.
+    fn listed(&mut self, alloc: Global, word: &str) -> Result<String, AllocError> {
         let (index, prefix, args) = &INDEXES[self.below(11) as usize];
         let args = self.text(args);
-        let by_prefix = self.below(3) == 0;
-        let name = if by_prefix { prefix } else { index };
-        Ok(Question {
-            index,
-            by_prefix,
-            query: asked(alloc, ask, name, args)?,
-        })
+        let name = if self.below(3) == 0 { prefix } else { index };
+        format!(in alloc; "{word} {name} {args}")
     }
 
-    /// A question of any kind.
-    pub fn question(&mut self, alloc: Global) -> Result<Question, AllocError> {
-        let ask = self.ask();
-        self.question_of(alloc, ask)
+    /// A question.
+    pub fn question(&mut self, alloc: Global) -> Result<String, AllocError> {
+        let word = ASKS[self.below(7) as usize];
+        self.listed(alloc, word)
     }
 
-    /// A wipe, by prefix or not.
-    fn wipe(&mut self, alloc: Global, by_prefix: bool) -> Result<Write, AllocError> {
-        let question = self.question_of(alloc, Ask::Get)?;
-        if by_prefix {
-            Ok(Write::WipePrefix(question))
-        } else {
-            Ok(Write::Wipe(question))
-        }
-    }
-
-    /// A write, most often a put.
-    pub fn write(&mut self, alloc: Global) -> Result<Write, AllocError> {
+    /// A write, most often a put; a wipe has one of two words.
+    pub fn write(&mut self, alloc: Global, wipes: &[&str; 2]) -> Result<String, AllocError> {
         match self.below(24) {
-            0 => self.wipe(alloc, false),
-            1 => self.wipe(alloc, true),
-            2..=4 => Ok(Write::Remove(self.row(alloc)?)),
-            _ => Ok(Write::Put(self.row(alloc)?)),
+            0 => self.listed(alloc, wipes[0]),
+            1 => self.listed(alloc, wipes[1]),
+            2..=4 => self.row_line(alloc, "delete "),
+            _ => self.row_line(alloc, "insert "),
         }
     }
 }
 
 /// Adds a member to the text of a row, but for `-`.
-fn add_member(text: &mut String, name: &str, value: &str) -> Result<(), AllocError> {
+fn add_member(text: &mut String, name: &str, value: &str) -> Done {
     if value == "-" {
         Ok(())
     } else {
         Ok(write!(text, ",\"{name}\":{value}")?)
     }
 }
-
-/// A question for a whole index.
-pub fn whole(alloc: Global, index: &'static str) -> Result<Question, AllocError> {
-    Ok(Question {
-        index,
-        by_prefix: false,
-        query: asked(alloc, Ask::Get, index, "[]")?,
-    })
-}
-
-/// The names of the indexes.
-pub static NAMES: [&str; 10] = [
-    "age", "debt", "id", "local", "meta", "place", "tagged", "tags", "up", "uuid",
-];

@@ -1,9 +1,10 @@
 //! What writes make of a table is told once for each row that differs.
 ghost use Rattle.std.specs.Prelude.{◌≡◌};
 
-use super::played::{USERS, filled, tell_one};
+use super::played::filled;
+use super::told::tell_one;
 use super::work::{Base, Work};
-use super::{Wrong, asked, none_wrong, row_of};
+use super::{USERS, Wrong, asked, none_wrong, row_of};
 use mdb_datum::Row;
 use mdb_schema::Ask;
 use std::alloc::{AllocError, Global};

@@ -2,8 +2,7 @@
 use mdb_schema::{Ask, AskError, WriteError};
 use table_index::WipeError;
 
-/// The question of a word. Another word is a wipe, which lists the rows that its question does,
-/// whatever is asked.
+/// The question of a word. A wipe takes the rows that its question lists, whatever is asked.
 pub fn ask_of(word: &str) -> Ask {
     match word {
         "first" => Ask::First,
@@ -12,18 +11,16 @@ pub fn ask_of(word: &str) -> Ask {
         "get-reverse" => Ask::GetReverse,
         "lower" => Ask::Lower,
         "reverse-lower" => Ask::ReverseLower,
-        "longest" => Ask::Longest,
+        "longest" | "check-all" | "check-prefix" => Ask::Longest,
+        "delete-all" | "delete-prefix" => Ask::Get,
         _ => Ask::First,
     }
 }
 
-/// Want of memory, which is no answer.
-pub const MEMORY: &str = "memory";
-
 /// The word of a refused question.
 pub fn ask_word(error: AskError) -> &'static str {
     match error {
-        AskError::Memory => MEMORY,
+        AskError::Memory => "memory",
         AskError::UnknownTable => "unknown-table",
         AskError::Unwatchable => "unwatchable",
         AskError::NoPrefixName => "no-prefix-name",
@@ -41,15 +38,16 @@ pub fn ask_word(error: AskError) -> &'static str {
 /// The word of a refused wipe.
 pub fn wipe_word(error: WipeError) -> &'static str {
     match error {
+        WipeError::Memory => "memory",
+        WipeError::IdsSpent => "ids-spent",
         WipeError::Refused(error) => ask_word(error),
-        _ => MEMORY,
     }
 }
 
 /// The word of a refused write.
 pub fn write_word(error: WriteError) -> &'static str {
     match error {
-        WriteError::Memory => MEMORY,
+        WriteError::Memory => "memory",
         WriteError::NoId => "no-id",
         WriteError::WrongKind { .. } => "wrong-kind",
         WriteError::OutOfRange { .. } => "out-of-range",

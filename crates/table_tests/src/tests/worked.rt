@@ -1,11 +1,11 @@
 //! Worked examples of what a table answers.
-use super::played::{KEYS, RULES, USERS, first_wrong_of};
-use super::{Wrong, none_wrong};
+use super::played::first_wrong_of;
+use super::{KEYS, RULES, USERS, Wrong, none_wrong};
 use std::alloc::Global;
 use std::test::Fail;
 
 /// Scripts, each on a table without rows.
-static SCRIPTS: [(&str, &str); 13] = [
+static SCRIPTS: [(&str, &str); 14] = [
     // Rows come in the order of their keys.
     (
         USERS,
@@ -48,7 +48,7 @@ reverse-lower age [] => refused arg-count
 insert {"name":"bob","age":2,"mail":"m"} => refused key-taken mail
 insert {"name":"bob","age":2} => inserted
 get mail [] => rows 1 {"age":1,"mail":"m","name":"ann"}
-delete {"name":"bob"} => deleted
+delete {"name":"bob"} => row {"age":2,"name":"bob"}
 delete {"name":"bob"} => refused not-found
 "#,
     ),
@@ -132,7 +132,7 @@ get id ["ann"] => rows 1 {"age":2,"name":"ann"}
 insert {"name":"c","age":2,"tags":["d","a\u0000b"]} => refused key-taken tags
 get tags [] => rows 1 {"age":1,"name":"b\u0000c","tags":["a"]}
 get age [2] => rows 0
-delete {"name":"b\u0000c"} => deleted
+delete {"name":"b\u0000c"} => row {"age":1,"name":"b\u0000c","tags":["a"]}
 insert {"name":"c","age":2,"tags":["d","a\u0000b"]} => inserted
 first tags ["a\u0000b"] => row {"age":2,"name":"c","tags":["d","a\u0000b"]}
 "#,
@@ -152,6 +152,21 @@ get tags [] => rows 1 {"age":1,"name":"cy","tags":["c"]}
 get id [] => rows 1 {"age":1,"name":"cy","tags":["c"]}
 get age [1] => rows 1 {"age":1,"name":"cy","tags":["c"]}
 delete-all tags [] => deleted 1
+get id [] => rows 0
+"#,
+    ),
+    // Of a table with the index `id` alone.
+    (
+        KEYS,
+        r#"insert {"key":"11111111-1111-1111-1111-111111111111"} => inserted
+insert {"key":"12121212-1212-1212-1212-121212121212"} => inserted
+insert {"key":"11110000-0000-0000-0000-000000000000"} => inserted
+take-prefix id_prefix ["11"] => rows 2 {"key":"11110000-0000-0000-0000-000000000000"} {"key":"11111111-1111-1111-1111-111111111111"}
+take-prefix id_prefix ["11"] => rows 0
+get id [] => rows 1 {"key":"12121212-1212-1212-1212-121212121212"}
+insert {"key":"11111111-1111-1111-1111-111111111111"} => inserted
+take-all id ["12121212-1212-1212-1212-121212121212"] => rows 1 {"key":"12121212-1212-1212-1212-121212121212"}
+take-all id [] => rows 1 {"key":"11111111-1111-1111-1111-111111111111"}
 get id [] => rows 0
 "#,
     ),
