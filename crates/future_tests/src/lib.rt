@@ -8,4 +8,6 @@ mod many;
 #[cfg(test)]
 mod tasks;
 #[cfg(test)]
+mod trials;
+#[cfg(test)]
 mod worked;

@@ -5,16 +5,12 @@ ghost use Rattle.watch_future.specs.Cells.{AreOfBook};
 ghost use Rattle.watch_future.specs.Polls.{CanPoll};
 ghost use Rattle.watch_set.specs.Checks.{KeepsHeld};
 
-use crate::worked::{
-    Awaited, INSERT_ANN, INSERT_NOTE, Line, OLDER_ANN, Told, awaited_now, closed, insert, set_of,
-    trio, watch_now,
-};
+use crate::worked::{Awaited, Line, Told, insert, set_of, watch_now};
 use futures::task::Poll;
 use mdb_schema::Ask;
 use mem_txn::{Db, Pass};
 use std::alloc::{AllocError, Global};
 use std::sync::Wait;
-use std::test::Fail;
 use watch_future::poll_laws::awaited_cells_are_of_the_book;
 use watch_future::{NoteList, note_all, poll_watch};
 use watch_set::{WatchSet, Woken};
@@ -56,16 +52,19 @@ fn has_moved(db: &Db, list: &NoteList) -> bool
 
 /// Whether a poll told what it should, where all before it was right.
 fn is_right(right: Told, told: Poll<Result<Woken, AllocError>>, woken: Option<Woken>) -> Told {
-    let right = right?;
-    match told {
-        Poll::Ready(told) => Ok(Some(told?) == woken && right),
-        Poll::Pending => Ok(woken.is_none() && right),
+    match (right, told) {
+        (Ok(right), Poll::Ready(Ok(told))) => Ok(right && Some(told) == woken),
+        (Ok(right), Poll::Pending) => Ok(right && woken.is_none()),
+        _ => Err(AllocError),
     }
 }
 
 /// Whether all of these are so.
 fn are_all(first: Told, second: Told, third: bool) -> Told {
-    Ok(first? && second? && third)
+    match (first, second) {
+        (Ok(first), Ok(second)) => Ok(first && second && third),
+        _ => Err(AllocError),
+    }
 }
 
 /// Whether a first poll is pending and quiet. Behind the commit of a line, and so many other sets
@@ -73,7 +72,7 @@ fn are_all(first: Told, second: Told, third: bool) -> Told {
 /// something, and tells that.
 #[cycle(beside)]
 #[tactic(auto, using(watch_future::proofs::SameCaller::same_caller))]
-fn is_told<R: Wait>(
+pub(crate) fn is_told<R: Wait>(
     rt: &R,
     alloc: Global,
     left: u32,
@@ -106,12 +105,12 @@ fn is_told<R: Wait>(
 /// Which of a thousand sets is ready behind the commit, and the row of that commit.
 const CHOSEN: u32 = 500;
 
-const OLDER_CHOSEN: Line<'static> = ("users", r#"{"name":"u500","age":2}"#);
+pub(crate) const OLDER_CHOSEN: Line<'static> = ("users", r#"{"name":"u500","age":2}"#);
 
 /// What the poll of a set tells then.
 fn woken_of(number: u32) -> Option<Woken> {
     if number == CHOSEN {
-        Some(Woken::Fired { place: 0, at: 1001 })
+        Some(Woken::Fired { place: 0, at: 1002 })
     } else {
         None
     }
@@ -157,7 +156,7 @@ fn numbered_now<R: Wait>(
 
 /// Commits a line behind the polls of so many sets, each of a row of its own, and polls them again.
 #[cycle(beside)]
-fn beside<R: Wait>(
+pub(crate) fn beside<R: Wait>(
     rt: &R,
     alloc: Global,
     left: u32,
@@ -186,73 +185,8 @@ fn beside<R: Wait>(
     }
 }
 
-/// A row, whether a watch of the notes cancels, and what a poll tells after the commit of the row.
-type Expected = (Line<'static>, bool, Woken);
-
-const FIRED: Expected = (OLDER_ANN, false, Woken::Fired { place: 0, at: 2 });
-
-const STOPPED: Expected = (INSERT_NOTE, true, Woken::Stopped { at: 2 });
-
-/// Whether a poll tells what it should, behind the first commit.
-fn is_told_then<R: Wait>(
-    rt: &R,
-    alloc: Global,
-    db: &Db,
-    one: &mut Pass,
-    two: Pass,
-    expected: &Expected,
-) -> (Pass, Told)
-    requires one { IsCaller db.now 1 one.old }
-    requires two { IsCaller db.now 2 two }
-    ensures one { IsCaller db.now 1 one.new }
-    ensures two { IsCaller db.now 2 result.0 }
-{
-    let (two, ann) = insert(rt, alloc, db, two, &INSERT_ANN);
-    match (ann, awaited_now(rt, alloc, db, one, expected.1)) {
-        (Ok(()), Ok(awaited)) => {
-            let woken = Some(expected.2);
-            is_told(rt, alloc, 0, db, one, two, &awaited, &expected.0, woken)
-        }
-        _ => (two, Err(AllocError)),
-    }
-}
-
-/// The same in a new database.
-fn tells<R: Wait>(rt: &R, alloc: Global, expected: &Expected) -> Told {
-    let (db, passes, mut one, two, three) = trio(alloc)?;
-    let (two, told) = is_told_then(rt, alloc, &db, &mut one, two, expected);
-    drop(closed(rt, db, passes, one, two, three));
-    told
-}
-
-#[test]
-fn a_poll_tells_the_member_that_fired_behind_its_notes(rt: HostRuntime) -> Result<(), Fail> {
-    assert!(rt; tells(&rt, rt.alloc(), &FIRED)?);
-    Ok(())
-}
-
-#[test]
-fn a_poll_tells_what_cancels_and_fired_behind_its_notes(rt: HostRuntime) -> Result<(), Fail> {
-    assert!(rt; tells(&rt, rt.alloc(), &STOPPED)?);
-    Ok(())
-}
-
-/// Whether each of a thousand sets is told as it should in a new database.
-fn tell_all<R: Wait>(rt: &R, alloc: Global) -> Told {
-    let (db, passes, mut one, two, three) = trio(alloc)?;
-    let (two, told) = beside(rt, alloc, 1000, &db, &mut one, two, &OLDER_CHOSEN);
-    drop(closed(rt, db, passes, one, two, three));
-    told
-}
-
-#[test]
-fn of_a_thousand_sets_one_is_ready_behind_a_commit(rt: HostRuntime) -> Result<(), Fail> {
-    assert!(rt; tell_all(&rt, rt.alloc())?);
-    Ok(())
-}
-
 /// Whether a set without members leaves a list empty, and a look at it finds nothing.
-fn stays_quiet<R: Wait>(rt: &R, alloc: Global, db: &Db, one: &mut Pass) -> Told
+pub(crate) fn stays_quiet<R: Wait>(rt: &R, alloc: Global, db: &Db, one: &mut Pass) -> Told
     requires own { IsCaller db.now 1 one.old }
     ensures { IsCaller db.now 1 one.new }
 {
@@ -261,19 +195,4 @@ fn stays_quiet<R: Wait>(rt: &R, alloc: Global, db: &Db, one: &mut Pass) -> Told
     note_all(&set, None, &mut list)?;
     let found = set.look_once(rt, db, one, None)?;
     Ok(found.is_none() && !has_moved(db, &list))
-}
-
-/// The same behind a commit of a new database.
-fn is_quiet_in_new<R: Wait>(rt: &R, alloc: Global) -> Told {
-    let (db, passes, mut one, two, three) = trio(alloc)?;
-    let (two, ann) = insert(rt, alloc, &db, two, &INSERT_ANN);
-    let quiet = stays_quiet(rt, alloc, &db, &mut one);
-    drop(closed(rt, db, passes, one, two, three));
-    ann.and(quiet)
-}
-
-#[test]
-fn a_set_without_members_notes_nothing(rt: HostRuntime) -> Result<(), Fail> {
-    assert!(rt; is_quiet_in_new(&rt, rt.alloc())?);
-    Ok(())
 }

@@ -4,10 +4,7 @@ ghost use Rattle.mem_txn.specs.CallerOf.{IsCaller};
 ghost use Rattle.watch_future.specs.Futures.{CanBePolled, MayGive, Waits};
 ghost use Rattle.watch_future.specs.Polls.{CanPoll};
 
-use crate::worked::{
-    Awaited, INSERT_ANN, INSERT_NOTE, Line, OLDER_ANN, Told, awaited_now, both_now, closed, insert,
-    trio,
-};
+use crate::worked::{Awaited, Line, OLDER_ANN, Told, awaited_now, both_now, insert};
 use futures::Future;
 use futures::executor::block_on;
 use futures::task::{Context, Doorbell, Poll, Queue, Solo, Vacancy};
@@ -17,7 +14,6 @@ use std::io;
 use std::process::Abort;
 use std::random::RandomSource;
 use std::sync::Wait;
-use std::test::Fail;
 use watch_future::WatchFuture;
 use watch_set::Woken;
 
@@ -48,19 +44,20 @@ pub(crate) fn poll_once<'a, R: Wait>(
     }
 }
 
-/// Polls a future and ends it. That it is still pending counts as want of memory.
+/// Polls a future and ends it, and tells whether it is still pending. That also counts as want of
+/// memory.
 #[tactic(auto, using(watch_future::proofs::Ended::ended_gives))]
-fn poll_last<'a, R: Wait>(cx: Context<'_>, future: WatchFuture<'a, R>) -> Given<'a>
+pub(crate) fn poll_to_end<'a, R: Wait>(task: &Solo, future: WatchFuture<'a, R>) -> (Given<'a>, bool)
     requires { CanBePolled future }
-    ensures { MayGive future.entry result }
+    ensures { MayGive future.entry result.0 }
 {
-    match poll_once(cx, future) {
-        Err(given) => given,
+    match poll_once(task.begin(), future) {
+        Err(given) => (given, false),
         Ok(future) => {
             let Some(back) = future.end() else {
                 unreachable!();
             };
-            (back, Err(AllocError))
+            ((back, Err(AllocError)), true)
         }
     }
 }
@@ -84,59 +81,34 @@ fn is_ready<R: Abort + Wait + RandomSource + AllocGlobal>(
     match block_on(rt, future) {
         Ok((back, told)) => {
             let _ = &*back;
-            Ok(told? == expected)
+            is_told(Ok(true), told, expected)
         }
         Err(_) => panic!(rt; "there was not enough memory for a task"),
     }
 }
 
-/// A row, whether a watch of the notes cancels, and what a future tells after the commit of the row.
-type Expected = (Line<'static>, bool, Woken);
-
-const FIRED: Expected = (OLDER_ANN, false, Woken::Fired { place: 0, at: 2 });
-
-const STOPPED: Expected = (INSERT_NOTE, true, Woken::Stopped { at: 2 });
-
 /// Whether a future is ready behind the commit that fires its watch.
-fn is_ready_behind<R: Abort + Wait + RandomSource + AllocGlobal>(
+pub(crate) fn is_ready_behind<R: Abort + Wait + RandomSource + AllocGlobal>(
     rt: &R,
     alloc: Global,
     db: &Db,
     one: &mut Pass,
     two: Pass,
-    expected: &Expected,
+    awaited: Awaited,
+    line: &Line,
+    expected: Woken,
 ) -> (Pass, Told)
     requires one { IsCaller db.now 1 one.old }
     requires two { IsCaller db.now 2 two }
+    requires can { CanPoll db.now one.old awaited.set awaited.notes }
     ensures one { IsCaller db.now 1 one.new }
     ensures two { IsCaller db.now 2 result.0 }
 {
-    let made = awaited_now(rt, alloc, db, one, expected.1);
-    let (two, row) = insert(rt, alloc, db, two, &expected.0);
-    match (row, made) {
-        (Ok(()), Ok(awaited)) => (two, is_ready(rt, alloc, db, one, awaited, expected.2)),
-        _ => (two, Err(AllocError)),
+    let (two, row) = insert(rt, alloc, db, two, line);
+    match row {
+        Ok(()) => (two, is_ready(rt, alloc, db, one, awaited, expected)),
+        Err(AllocError) => (two, Err(AllocError)),
     }
-}
-
-/// The same in a new database, behind its first commit.
-fn is_ready_in_new<R: Abort + Wait + RandomSource + AllocGlobal>(
-    rt: &R,
-    alloc: Global,
-    expected: &Expected,
-) -> Told {
-    let (db, passes, mut one, two, three) = trio(alloc)?;
-    let (two, ann) = insert(rt, alloc, &db, two, &INSERT_ANN);
-    let (two, told) = is_ready_behind(rt, alloc, &db, &mut one, two, expected);
-    drop(closed(rt, db, passes, one, two, three));
-    ann.and(told)
-}
-
-#[test]
-fn a_future_of_a_watch_that_has_fired_is_ready(rt: HostRuntime) -> Result<(), Fail> {
-    assert!(rt; is_ready_in_new(&rt, rt.alloc(), &FIRED)?);
-    assert!(rt; is_ready_in_new(&rt, rt.alloc(), &STOPPED)?);
-    Ok(())
 }
 
 /// Whether this is the next task that runs.
@@ -195,60 +167,28 @@ fn tasks(queue: &Queue) -> Result<Vacancy<'_>, AllocError> {
 }
 
 /// Whether a future registers, in a queue of two tasks.
-fn registers<R: Wait + RandomSource + AllocGlobal>(
+pub(crate) fn registers<R: Wait + RandomSource + AllocGlobal>(
     rt: &R,
     alloc: Global,
     db: &Db,
     one: &mut Pass,
     awaited: Awaited,
-) -> io::Result<Told>
+) -> Told
     requires own { IsCaller db.now 1 one.old }
     requires can { CanPoll db.now one.old awaited.set awaited.notes }
     ensures { IsCaller db.now 1 one.new }
 {
-    let queue = Queue::new(rt, Doorbell::spinning())?;
+    let Ok(queue) = Queue::new(rt, Doorbell::spinning()) else {
+        return Err(AllocError);
+    };
     let other = tasks(&queue)?;
     match queue.next(rt) {
-        Some(cx) => Ok(is_registered(rt, alloc, db, one, awaited, &queue, cx, other)),
+        Some(cx) => is_registered(rt, alloc, db, one, awaited, &queue, cx, other),
         None => {
             other.cancel();
-            Ok(Ok(false))
+            Ok(false)
         }
     }
-}
-
-/// The same of a set and what cancels.
-fn registers_now<R: Wait + RandomSource + AllocGlobal>(
-    rt: &R,
-    alloc: Global,
-    db: &Db,
-    one: &mut Pass,
-) -> io::Result<Told>
-    requires own { IsCaller db.now 1 one.old }
-    ensures { IsCaller db.now 1 one.new }
-{
-    match awaited_now(rt, alloc, db, one, true) {
-        Ok(awaited) => registers(rt, alloc, db, one, awaited),
-        Err(AllocError) => Ok(Err(AllocError)),
-    }
-}
-
-/// The same in a new database, behind its first commit.
-fn is_woken_at_end<R: Wait + RandomSource + AllocGlobal>(
-    rt: &R,
-    alloc: Global,
-) -> Result<io::Result<Told>, AllocError> {
-    let (db, passes, mut one, two, three) = trio(alloc)?;
-    let (two, ann) = insert(rt, alloc, &db, two, &INSERT_ANN);
-    let told = registers_now(rt, alloc, &db, &mut one);
-    drop(closed(rt, db, passes, one, two, three));
-    ann.and(Ok(told))
-}
-
-#[test]
-fn a_pending_future_has_registered_and_its_end_withdraws(rt: HostRuntime) -> Result<(), Fail> {
-    assert!(rt; is_woken_at_end(&rt, rt.alloc())???);
-    Ok(())
 }
 
 /// Polls a future twice, and moves it out in between.
@@ -267,9 +207,18 @@ fn poll_twice<'a, R: Wait>(
     }
 }
 
+/// Two tasks of one thread.
+fn two_tasks<R: Wait + RandomSource + AllocGlobal>(rt: &R) -> io::Result<(Solo, Solo)> {
+    let first = Solo::new(rt, Doorbell::spinning())?;
+    Ok((first, Solo::new(rt, Doorbell::spinning())?))
+}
+
 /// Whether a future told this, where all else was right.
 fn is_told(right: Told, told: Result<Woken, AllocError>, woken: Woken) -> Told {
-    Ok(right? && told? == woken)
+    match (right, told) {
+        (Ok(right), Ok(told)) => Ok(right && told == woken),
+        _ => Err(AllocError),
+    }
 }
 
 /// Whether a future of the third caller is pending twice, and ready behind the commit that fires
@@ -298,7 +247,8 @@ fn is_ready_then<R: Wait>(
         }
         Ok(future) => {
             let (two, row) = insert(rt, alloc, db, two, &OLDER_ANN);
-            let (back, told) = poll_last(task.begin(), future);
+            let (given, _) = poll_to_end(task, future);
+            let (back, told) = given;
             let _ = &*back;
             (
                 two,
@@ -338,65 +288,40 @@ fn are_ready_then<R: Wait>(
         }
         Ok(future) => {
             let (two, other) = is_ready_then(rt, alloc, db, three, two, awaited, &tasks.1);
-            let (back, told) = poll_last(tasks.0.begin(), future);
+            let (given, _) = poll_to_end(&tasks.0, future);
+            let (back, told) = given;
             let _ = &*back;
             (two, is_told(other, told, Woken::Fired { place: 1, at: 2 }))
         }
     }
 }
 
-/// The same behind the first commit.
-fn are_ready_in<R: Wait>(
+/// The same of what the two callers wait for, in two tasks of one thread.
+pub(crate) fn are_ready<R: Wait + RandomSource + AllocGlobal>(
     rt: &R,
     alloc: Global,
     db: &Db,
     one: &mut Pass,
-    three: &mut Pass,
     two: Pass,
-    tasks: &(Solo, Solo),
+    three: &mut Pass,
 ) -> (Pass, Told)
     requires one { IsCaller db.now 1 one.old }
-    requires three { IsCaller db.now 3 three.old }
     requires two { IsCaller db.now 2 two }
+    requires three { IsCaller db.now 3 three.old }
     ensures one { IsCaller db.now 1 one.new }
-    ensures three { IsCaller db.now 3 three.new }
     ensures two { IsCaller db.now 2 result.0 }
+    ensures three { IsCaller db.now 3 three.new }
 {
-    let (two, ann) = insert(rt, alloc, db, two, &INSERT_ANN);
-    if ann.is_err() {
+    let Ok(tasks) = two_tasks(rt) else {
         return (two, Err(AllocError));
-    }
+    };
     match (
         both_now(rt, alloc, db, one),
         awaited_now(rt, alloc, db, three, false),
     ) {
         (Ok(both), Ok(awaited)) => {
-            are_ready_then(rt, alloc, db, one, three, two, both, awaited, tasks)
+            are_ready_then(rt, alloc, db, one, three, two, both, awaited, &tasks)
         }
         _ => (two, Err(AllocError)),
     }
-}
-
-/// The same in a new database.
-fn are_ready_in_new<R: Wait>(rt: &R, alloc: Global, tasks: &(Solo, Solo)) -> Told {
-    let (db, passes, mut one, two, mut three) = trio(alloc)?;
-    let (two, told) = are_ready_in(rt, alloc, &db, &mut one, &mut three, two, tasks);
-    drop(closed(rt, db, passes, one, two, three));
-    told
-}
-
-/// The same in two tasks of one thread.
-fn are_ready_in_tasks<R: Wait + RandomSource + AllocGlobal>(
-    rt: &R,
-    alloc: Global,
-) -> io::Result<bool> {
-    let first = Solo::new(rt, Doorbell::spinning())?;
-    let third = Solo::new(rt, Doorbell::spinning())?;
-    Ok(are_ready_in_new(rt, alloc, &(first, third))?)
-}
-
-#[test]
-fn a_commit_readies_two_futures_that_share_a_watch(rt: HostRuntime) -> Result<(), Fail> {
-    assert!(rt; are_ready_in_tasks(&rt, rt.alloc())?);
-    Ok(())
 }

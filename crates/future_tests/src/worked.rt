@@ -14,6 +14,7 @@ use mem_txn::pass_laws::{asked_watches_are_held, held_watches_stay};
 use mem_txn::{BeginRefused, CommitRefused, Committed, Db, Held, Pass, Passes, ReadTxn, WriteTxn};
 use std::alloc::{AllocError, Global};
 use std::sync::Wait;
+use std::test::Fail;
 use watch_set::WatchSet;
 
 const SCHEMA: &str = r#"{"memdb":1,"tables":{
@@ -40,6 +41,14 @@ pub(crate) const INSERT_ANN: Line<'static> = ("users", r#"{"name":"ann","age":1}
 pub(crate) const OLDER_ANN: Line<'static> = ("users", r#"{"name":"ann","age":2}"#);
 
 pub(crate) const INSERT_NOTE: Line<'static> = ("notes", r#"{"name":"n"}"#);
+
+/// Fails where it isn't so, or where there was no memory to find out.
+pub(crate) fn holds(told: Told) -> Result<(), Fail> {
+    match told? {
+        true => Ok(()),
+        false => Err(Fail::new("it isn't so")),
+    }
+}
 
 /// The schema that a text is.
 fn schema_of(alloc: Global) -> Result<Schema, AllocError> {

@@ -7,10 +7,12 @@ ghost use Rattle.mem_txn.specs.Transactions.{txn_of};
 
 mod callers;
 mod drawn;
+mod duo;
 mod four_callers;
-mod late;
 mod long_run;
 mod sets;
+mod steps;
+mod stories;
 mod tracked;
 mod watches;
 mod without_memory;
@@ -23,6 +25,8 @@ use mem_txn::{
 };
 use std::alloc::{AllocError, Global};
 use std::sync::Wait;
+use std::test::Fail;
+use watch_word::Front;
 
 static SCHEMA: &str = r#"{"memdb":1,"tables":{
     "notes":{"indexes":{"id":{"unique":true,"indexer":{"kind":"text","field":"name"}}}},
@@ -51,6 +55,33 @@ trait Work {
         ensures { (txn_of txn.new).caller ≡ (txn_of txn.old).caller };
 }
 
+/// Transactions of the first caller, one after the other, each followed by a read.
+trait Rounds: Work {
+    /// Whether the end of a transaction gives what it should: the receipt of a commit, or nothing
+    /// after an abort.
+    fn is_ended(&mut self, alloc: Global, receipt: Option<Receipt<String>>) -> Told;
+
+    /// Whether what is read then is right. A log of the same book is given.
+    fn is_left(&mut self, alloc: Global, read: &ReadTxn, log: &Front) -> Told
+        requires { log.now.book ≡ read.now.book };
+}
+
+/// Fails where it isn't so, or where there was no memory to find out.
+fn holds(told: Told) -> Result<(), Fail> {
+    match told? {
+        true => Ok(()),
+        false => Err(Fail::new("it isn't so")),
+    }
+}
+
+/// Whether both of two are so.
+fn are_both(first: Told, second: Told) -> Told {
+    match first {
+        Ok(true) => second,
+        first => first,
+    }
+}
+
 /// The schema that a text is.
 fn schema_of(alloc: Global, text: &str) -> Result<Schema, AllocError> {
     match read_schema(alloc, text.as_bytes()) {
@@ -59,18 +90,8 @@ fn schema_of(alloc: Global, text: &str) -> Result<Schema, AllocError> {
     }
 }
 
-/// A database of two tables and two callers, the list of its passes without them, and they.
-pub fn pair(alloc: Global) -> Result<(Db, Passes, Pass, Pass), AllocError>
-    ensures one { IfOk result (λ made. IsCaller made.0 1 made.2) }
-    ensures two { IfOk result (λ made. IsCaller made.0 2 made.3) }
-    ensures both { IfOk result (λ made. made.0.callers ≡ 2) }
-    ensures rest { IfOk result (λ made. made.1 ≡ record { passes = []; made = 2 }) }
-{
-    pair_of(alloc, SCHEMA)
-}
-
-/// The same of the schema that a text is.
-fn pair_of(alloc: Global, schema: &str) -> Result<(Db, Passes, Pass, Pass), AllocError>
+/// A database of this schema and two callers, the list of its passes without them, and they.
+pub fn pair(alloc: Global, schema: &str) -> Result<(Db, Passes, Pass, Pass), AllocError>
     ensures one { IfOk result (λ made. IsCaller made.0 1 made.2) }
     ensures two { IfOk result (λ made. IsCaller made.0 2 made.3) }
     ensures both { IfOk result (λ made. made.0.callers ≡ 2) }
@@ -145,9 +166,99 @@ fn transact<W: Work, R: Wait>(
     }
 }
 
+/// Whether what a caller reads is right, where the end of its transaction was.
+fn is_left_so<W: Rounds, R: Wait>(
+    rt: &R,
+    alloc: Global,
+    db: &Db,
+    pass: &mut Pass,
+    work: &mut W,
+    log: &Front,
+    right: Told,
+) -> Told
+    requires own { IsCaller db.now 1 pass.old }
+    requires log { log.now.book ≡ pass.old.book }
+    ensures { IsCaller db.now 1 pass.new }
+{
+    if right != Ok(true) {
+        return right;
+    }
+    let read = db.read(rt, pass)?;
+    work.is_left(alloc, &read, log)
+}
+
+/// Whether a transaction's end is right, and what a caller reads then, with the log of its commit or
+/// else of the database.
+fn is_round<W: Rounds, R: Wait>(
+    rt: &R,
+    alloc: Global,
+    db: &Db,
+    pass: &mut Pass,
+    work: &mut W,
+    done: Done,
+) -> Told
+    requires own { IsCaller db.now 1 pass.old }
+    requires log { IfOk done (λ d. IfSome d (λ r. let log = r.log in log.book ≡ pass.old.book)) }
+    ensures { IsCaller db.now 1 pass.new }
+{
+    match done {
+        Ok(Some(receipt)) => {
+            let log = receipt.log.share();
+            let right = work.is_ended(alloc, Some(receipt));
+            is_left_so(rt, alloc, db, pass, work, &log, right)
+        }
+        Ok(None) => {
+            let right = work.is_ended(alloc, None);
+            is_left_so(rt, alloc, db, pass, work, &db.front(), right)
+        }
+        Err(AllocError) => Err(AllocError),
+    }
+}
+
+/// Whether so many transactions of a caller are right, and what is read behind each.
+fn are_rounds<W: Rounds, R: Wait>(
+    rt: &R,
+    alloc: Global,
+    db: &Db,
+    pass: Pass,
+    work: &mut W,
+    count: usize,
+) -> (Pass, Told)
+    requires own { IsCaller db.now 1 pass }
+    ensures { IsCaller db.now 1 result.0 }
+{
+    let mut pass = pass;
+    for _ in 0..count {
+        let (next, done) = transact(rt, alloc, db, pass, work);
+        pass = next;
+        match is_round(rt, alloc, db, &mut pass, work, done) {
+            Ok(true) => {}
+            told => return (pass, told),
+        }
+    }
+    (pass, Ok(true))
+}
+
+/// The same in a new database of this schema.
+fn plays<W: Rounds, R: Wait>(
+    rt: &R,
+    alloc: Global,
+    schema: &str,
+    work: &mut W,
+    count: usize,
+) -> Told {
+    let (db, passes, one, two) = pair(alloc, schema)?;
+    let (one, told) = are_rounds(rt, alloc, &db, one, work, count);
+    drop(closed(rt, db, passes, one, two));
+    told
+}
+
 /// Whether a transaction was committed.
 fn is_made(done: Done) -> Told {
-    Ok(done?.is_some())
+    match done {
+        Ok(receipt) => Ok(receipt.is_some()),
+        Err(AllocError) => Err(AllocError),
+    }
 }
 
 /// The row that a text is. Another text counts as want of memory, which ends a test.

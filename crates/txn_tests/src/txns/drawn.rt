@@ -1,7 +1,7 @@
 //! Rows drawn from a fixed sequence, and tables as plain lists of them.
 ghost use Rattle.std.specs.Prelude.{◌<◌};
 
-use super::worked::{Asked, Line};
+use super::steps::{Asked, Line};
 use mdb_schema::Ask;
 use std::alloc::{AllocError, Global};
 
@@ -47,7 +47,7 @@ impl Drawn {
     }
 
     /// The write of a drawn row at a drawn place, which is there afterwards or not, and its answer.
-    pub fn line(&mut self, is_there: bool) -> Line {
+    pub fn line(&mut self, is_there: bool) -> Line<'static> {
         let place = self.random.below(12) as usize;
         let row = self.random.row(place);
         let held = self.plain[place];

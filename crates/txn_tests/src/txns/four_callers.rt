@@ -1,15 +1,20 @@
-//! Four callers on threads of their own, each of whom commits, checks a watch after each commit, and
-//! then sleeps until all others are done.
+//! Four callers on threads of their own, each of whom aborts and commits in turn, checks a watch
+//! after each commit, and then sleeps until all others are done. A state of before stays as it is.
 ghost use Rattle.std.specs.Prelude.{◌≡◌, [], IfOk, Some};
 ghost use Rattle.mem_txn.specs.CallerOf.{IsCaller};
 ghost use Rattle.mem_txn.specs.Checked.{HasHeard, IsHeldBy};
 ghost use Rattle.mem_txn.specs.Database.{Caller, IsOf, reading_of};
 
-use super::callers::{Own, are_both};
-use super::watches::watched_of;
-use super::{Question, SCHEMA, Told, is_made, query_of, schema_of, transact};
-use mdb_schema::{Answer, Ask, Query};
-use mem_txn::pass_laws::{asked_watches_are_held, held_watches_outlast_commits};
+use super::duo::watch_now;
+use super::long_run::second;
+use super::steps::{is_read, is_row};
+use super::{
+    Question, SCHEMA, Told, Txn, Work, are_both, holds, is_made, query_of, row_of, schema_of,
+    transact,
+};
+use mdb_datum::Row;
+use mdb_schema::{Answer, Ask, Rows};
+use mem_txn::pass_laws::held_watches_outlast_commits;
 use mem_txn::{Db, Held, Look, Pass, Passes, ReadTxn};
 use std::alloc::{AllocError, Global};
 use std::sync::Wait;
@@ -22,34 +27,60 @@ const COMMITS: u64 = 200;
 /// The question of all users.
 const ALL: Question = (Ask::Get, "users", "id", "[]");
 
-/// The state after all commits, and the watch of a question there.
-pub fn watch_now<R: Wait>(
+/// The text of the row of a caller's commit: its age is the number of commits before it, and its
+/// name the caller with the number of the caller's own before it.
+fn text_of(alloc: Global, caller: u32, own: u64, age: u64) -> Result<String, AllocError> {
+    format!(in alloc; "{{\"age\":{age},\"name\":\"{caller}-{own}\"}}")
+}
+
+/// The insert of a caller's next row, and whether that is committed.
+#[derive(Drop)]
+struct Own {
+    caller: u32,
+    own: u64,
+    commits: bool,
+}
+
+impl Work for Own {
+    /// Puts the row in.
+    fn run(&mut self, alloc: Global, txn: &mut Txn) -> Told {
+        let text = text_of(alloc, self.caller, self.own, txn.number())?;
+        match txn.insert("users", &row_of(alloc, &text)?) {
+            Ok(_) => Ok(self.commits),
+            Err(_) => Err(AllocError),
+        }
+    }
+}
+
+/// The state after all commits, the users there, and their watch.
+fn watch_all<R: Wait>(
     rt: &R,
+    alloc: Global,
     db: &Db,
     pass: &mut Pass,
-    query: &Query,
-) -> Result<(ReadTxn, Held), AllocError>
+) -> Result<(ReadTxn, Answer, Held), AllocError>
     requires own { IsOf db.now pass.old }
     ensures own { IsCaller db.now pass.old.number pass.new }
     ensures read { IfOk result (λ made. made.0 ≡ reading_of pass.new) }
     ensures heard { IfOk result (λ made. HasHeard pass.new) }
-    ensures held { IfOk result (λ made. IsHeldBy pass.new made.1) }
+    ensures held { IfOk result (λ made. IsHeldBy pass.new made.2) }
 {
-    let read = db.read(rt, pass)?;
-    asked_watches_are_held(pass);
-    let (_, held) = watched_of(&read, query)?;
-    Ok((read, held))
+    match query_of(alloc, &ALL) {
+        Ok(query) => watch_now(rt, db, pass, &query),
+        Err(AllocError) => Err(AllocError),
+    }
 }
 
 /// Whether a check tells that a watch has fired.
 fn has_fired(look: Result<Look, AllocError>) -> Told {
-    match look? {
-        Look::Fired { .. } => Ok(true),
-        Look::Quiet { .. } => Ok(false),
+    match look {
+        Ok(Look::Fired { .. }) => Ok(true),
+        Ok(Look::Quiet { .. }) => Ok(false),
+        Err(AllocError) => Err(AllocError),
     }
 }
 
-/// A commit, and whether a check then tells that it has fired a watch.
+/// A transaction, and whether a check behind a commit tells that it has fired a watch.
 fn fires_own<R: Wait>(
     rt: &R,
     alloc: Global,
@@ -69,52 +100,43 @@ fn fires_own<R: Wait>(
             let look = db.check(rt, &mut pass, held);
             (pass, has_fired(look))
         }
-        told => (pass, told),
+        Ok(false) => (pass, Ok(!work.commits)),
+        Err(_) => (pass, Err(AllocError)),
     }
 }
 
 /// The same of a watch of all users that is asked before.
-fn commit_one<R: Wait>(
+fn commit_one<R: Wait>(rt: &R, alloc: Global, db: &Db, pass: Pass, work: &mut Own) -> (Pass, Told)
+    requires own { IsOf db.now pass }
+    ensures { IsCaller db.now pass.number result.0 }
+{
+    let mut pass = pass;
+    match watch_all(rt, alloc, db, &mut pass) {
+        Ok((_, _, held)) => fires_own(rt, alloc, db, pass, &held, work),
+        Err(_) => (pass, Err(AllocError)),
+    }
+}
+
+/// Whether all commits of a caller fire so, each behind a transaction that aborts, while a state of
+/// before stays without users.
+fn commit_all<R: Wait>(
     rt: &R,
     alloc: Global,
     db: &Db,
+    kept: &ReadTxn,
     pass: Pass,
-    query: &Query,
     work: &mut Own,
 ) -> (Pass, Told)
     requires own { IsOf db.now pass }
     ensures { IsCaller db.now pass.number result.0 }
 {
     let mut pass = pass;
-    match watch_now(rt, db, &mut pass, query) {
-        Ok((_, held)) => fires_own(rt, alloc, db, pass, &held, work),
-        Err(_) => (pass, Err(AllocError)),
-    }
-}
-
-/// Whether all commits of a caller fire so.
-fn commit_all<R: Wait>(
-    rt: &R,
-    alloc: Global,
-    db: &Db,
-    pass: Pass,
-    query: &Query,
-    caller: u32,
-) -> (Pass, Told)
-    requires own { IsOf db.now pass }
-    ensures { IsCaller db.now pass.number result.0 }
-{
-    let mut pass = pass;
-    let mut work = Own {
-        caller,
-        own: 0,
-        commits: true,
-    };
-    for own in 0..COMMITS {
-        work.own = own;
-        let (next, told) = commit_one(rt, alloc, db, pass, query, &mut work);
+    for turn in 0..2 * COMMITS {
+        work.own = turn / 2;
+        work.commits = turn % 2 == 1;
+        let (next, told) = commit_one(rt, alloc, db, pass, work);
         pass = next;
-        match told {
+        match are_both(told, is_read(alloc, kept, &ALL, "")) {
             Ok(true) => {}
             told => return (pass, told),
         }
@@ -135,15 +157,15 @@ enum Next {
 /// Looks whether there are so many commits, and else says that it is about to sleep.
 fn look_for<R: Wait>(
     rt: &R,
+    alloc: Global,
     db: &Db,
     pass: &mut Pass,
-    query: &Query,
     count: u64,
 ) -> Result<Next, AllocError>
     requires own { IsOf db.now pass.old }
     ensures { IsCaller db.now pass.old.number pass.new }
 {
-    let (read, held) = watch_now(rt, db, pass, query)?;
+    let (read, _, held) = watch_all(rt, alloc, db, pass)?;
     if read.number() == count {
         return Ok(Next::Done);
     }
@@ -156,7 +178,7 @@ fn look_for<R: Wait>(
 
 /// Sleeps until there are so many commits. Where another caller has ended the waits, that one found
 /// no memory, and so this one is told the same.
-fn wait_for<R: Wait>(rt: &R, db: &Db, pass: &mut Pass, query: &Query, count: u64) -> Told
+fn wait_for<R: Wait>(rt: &R, alloc: Global, db: &Db, pass: &mut Pass, count: u64) -> Told
     requires own { IsOf db.now pass.old }
     ensures { IsCaller db.now pass.old.number pass.new }
 {
@@ -164,7 +186,7 @@ fn wait_for<R: Wait>(rt: &R, db: &Db, pass: &mut Pass, query: &Query, count: u64
         let Some(next) = db.next_commit() else {
             return Err(AllocError);
         };
-        match look_for(rt, db, pass, query, count)? {
+        match look_for(rt, alloc, db, pass, count)? {
             Next::Done => return Ok(true),
             Next::Look => drop(next),
             Next::Sleep => next.wait(rt),
@@ -179,37 +201,24 @@ fn commit_and_wait<R: Wait>(
     rt: &R,
     alloc: Global,
     db: &Db,
+    kept: &ReadTxn,
     pass: Pass,
-    query: &Query,
     caller: u32,
 ) -> (Pass, Told)
     requires own { IsOf db.now pass }
     ensures { IsCaller db.now pass.number result.0 }
 {
-    let (mut pass, made) = commit_all(rt, alloc, db, pass, query, caller);
+    let mut work = Own {
+        caller,
+        own: 0,
+        commits: false,
+    };
+    let (mut pass, made) = commit_all(rt, alloc, db, kept, pass, &mut work);
     if made != Ok(true) {
         return (pass, made);
     }
-    let told = wait_for(rt, db, &mut pass, query, 4 * COMMITS);
+    let told = wait_for(rt, alloc, db, &mut pass, 4 * COMMITS);
     (pass, told)
-}
-
-/// The same of a question that may find no memory.
-fn commit_asked<R: Wait>(
-    rt: &R,
-    alloc: Global,
-    db: &Db,
-    pass: Pass,
-    query: Result<Query, AllocError>,
-    caller: u32,
-) -> (Pass, Told)
-    requires own { IsOf db.now pass }
-    ensures { IsCaller db.now pass.number result.0 }
-{
-    match query {
-        Ok(query) => commit_and_wait(rt, alloc, db, pass, &query, caller),
-        Err(_) => (pass, Err(AllocError)),
-    }
 }
 
 /// The same of a pass that a thread borrows.
@@ -217,6 +226,7 @@ fn run_borrowed<R: Wait>(
     rt: &R,
     alloc: Global,
     db: &Db,
+    kept: &ReadTxn,
     held: &mut Option<Pass>,
     caller: u32,
 ) -> Told
@@ -226,8 +236,7 @@ fn run_borrowed<R: Wait>(
     let Some(pass) = held.take() else {
         unreachable!()
     };
-    let query = query_of(alloc, &ALL);
-    let (pass, told) = commit_asked(rt, alloc, db, pass, query, caller);
+    let (pass, told) = commit_and_wait(rt, alloc, db, kept, pass, caller);
     let gone = held.replace(pass);
     let None = gone else { unreachable!() };
     if told != Ok(true) {
@@ -241,6 +250,7 @@ fn two_run<R: Threads + Wait + Sync>(
     rt: &R,
     alloc: Global,
     db: &Db,
+    kept: &ReadTxn,
     first: &mut Option<Pass>,
     second: &mut Option<Pass>,
     one: u32,
@@ -256,20 +266,21 @@ fn two_run<R: Threads + Wait + Sync>(
         &mut || -> Told
             requires { (p : Caller) × (first.now ≡ Some p) × IsCaller db.now one p }
             ensures { (p : Caller) × (first.exit.now ≡ Some p) × IsCaller db.entry.now one p }
-        { run_borrowed(rt, alloc, db, first, one) },
+        { run_borrowed(rt, alloc, db, kept, first, one) },
         &mut || -> Told
             requires { (p : Caller) × (second.now ≡ Some p) × IsCaller db.now two p }
             ensures { (p : Caller) × (second.exit.now ≡ Some p) × IsCaller db.entry.now two p }
-        { run_borrowed(rt, alloc, db, second, two) },
+        { run_borrowed(rt, alloc, db, kept, second, two) },
     );
     are_both(told, too)
 }
 
-/// The work of all four.
+/// The work of all four beside a state of before, if there is one.
 fn four_run<R: Threads + Wait + Sync>(
     rt: &R,
     alloc: Global,
     db: &Db,
+    kept: Result<ReadTxn, AllocError>,
     one: &mut Option<Pass>,
     two: &mut Option<Pass>,
     three: &mut Option<Pass>,
@@ -284,6 +295,9 @@ fn four_run<R: Threads + Wait + Sync>(
     ensures three { (p : Caller) × (three.new ≡ Some p) × IsCaller db.now 3 p }
     ensures four { (p : Caller) × (four.new ≡ Some p) × IsCaller db.now 4 p }
 {
+    let Ok(kept) = kept else {
+        return Err(AllocError);
+    };
     let (first, second) = join_mut(
         rt,
         &mut || -> Told
@@ -291,13 +305,13 @@ fn four_run<R: Threads + Wait + Sync>(
             requires two { (p : Caller) × (two.now ≡ Some p) × IsCaller db.now 2 p }
             ensures one { (p : Caller) × (one.exit.now ≡ Some p) × IsCaller db.entry.now 1 p }
             ensures two { (p : Caller) × (two.exit.now ≡ Some p) × IsCaller db.entry.now 2 p }
-        { two_run(rt, alloc, db, one, two, 1, 2) },
+        { two_run(rt, alloc, db, &kept, one, two, 1, 2) },
         &mut || -> Told
             requires three { (p : Caller) × (three.now ≡ Some p) × IsCaller db.now 3 p }
             requires four { (p : Caller) × (four.now ≡ Some p) × IsCaller db.now 4 p }
             ensures three { (p : Caller) × (three.exit.now ≡ Some p) × IsCaller db.entry.now 3 p }
             ensures four { (p : Caller) × (four.exit.now ≡ Some p) × IsCaller db.entry.now 4 p }
-        { two_run(rt, alloc, db, three, four, 3, 4) },
+        { two_run(rt, alloc, db, &kept, three, four, 3, 4) },
     );
     are_both(first, second)
 }
@@ -351,12 +365,58 @@ fn closed_lent<R: Wait>(
     }
 }
 
-/// Whether a state has a user for each commit.
-fn has_all(alloc: Global, told: Told, last: &ReadTxn, query: &Query) -> Told {
-    match last.ask(query) {
-        Ok(Answer::Many(rows)) => Ok(told? && rows.len() as u64 == 4 * COMMITS),
-        _ => Err(AllocError),
+/// Whether a row is that of a caller's commit.
+fn is_own(alloc: Global, row: &Row, caller: u32, own: u64, age: u64) -> Told {
+    match text_of(alloc, caller, own, age) {
+        Ok(text) => is_row(row, &text),
+        Err(AllocError) => Err(AllocError),
     }
+}
+
+/// Counts a row of this age for the caller whose next it is, if any.
+fn is_next(alloc: Global, row: &Row, counts: &mut [u64; 4], age: u64) -> Told {
+    for caller in 0..4 {
+        let own = counts[caller];
+        match is_own(alloc, row, caller as u32 + 1, own, age) {
+            Ok(false) => {}
+            told => {
+                counts[caller] = own.saturating_add(1);
+                return told;
+            }
+        }
+    }
+    Ok(false)
+}
+
+/// Whether there is a user for each commit of each caller, one of each age, where each caller's are
+/// in the order of its own.
+fn are_in_order(alloc: Global, rows: &Rows) -> Told {
+    let mut counts = [0; 4];
+    for (age, row) in rows.iter().enumerate() {
+        if !is_next(alloc, row, &mut counts, age as u64)? {
+            return Ok(false);
+        }
+    }
+    Ok(counts == [COMMITS; 4])
+}
+
+/// Whether the last state has them.
+fn has_all(alloc: Global, last: &ReadTxn) -> Told {
+    let query = query_of(alloc, &(Ask::Get, "users", "age", "[]"))?;
+    match last.ask(&query) {
+        Ok(Answer::Many(rows)) if last.number() == 4 * COMMITS => are_in_order(alloc, &rows),
+        Ok(_) => Ok(false),
+        Err(_) => Err(AllocError),
+    }
+}
+
+/// A snapshot of a snapshot.
+fn kept_of<R: Wait>(rt: &R, db: &Db, pass: &mut Pass) -> Result<ReadTxn, AllocError>
+    requires own { IsCaller db.now 1 pass.old }
+    ensures own { IsCaller db.now 1 pass.new }
+{
+    let read = db.read(rt, pass)?;
+    second(&read)
 }
 
 /// A database of four callers, the list of its passes without them, and they.
@@ -377,19 +437,23 @@ fn opened(alloc: Global) -> Result<(Db, Passes, Pass, Pass, Pass, Pass), AllocEr
 
 /// Whether four callers in a new database do all that, and have one list then.
 fn are_joined<R: Threads + Wait + Sync>(rt: &R, alloc: Global) -> Told {
-    let query = query_of(alloc, &ALL)?;
-    let (db, passes, one, two, three, four) = opened(alloc)?;
+    let (db, passes, mut one, two, three, four) = opened(alloc)?;
+    let kept = kept_of(rt, &db, &mut one);
     let mut one = Some(one);
     let mut two = Some(two);
     let mut three = Some(three);
     let mut four = Some(four);
-    let told = four_run(rt, alloc, &db, &mut one, &mut two, &mut three, &mut four);
+    let told = four_run(
+        rt, alloc, &db, kept, &mut one, &mut two, &mut three, &mut four,
+    );
     let last = closed_lent(rt, db, passes, one, two, three, four);
-    has_all(alloc, told, &last, &query)
+    match told {
+        Ok(true) => has_all(alloc, &last),
+        told => told,
+    }
 }
 
 #[test]
-fn four_callers_commit_check_and_wait(rt: HostRuntime) -> Result<(), Fail> {
-    assert!(rt; are_joined(&rt, rt.alloc())?);
-    Ok(())
+fn four_callers_abort_commit_check_and_wait(rt: HostRuntime) -> Result<(), Fail> {
+    holds(are_joined(&rt, rt.alloc()))
 }

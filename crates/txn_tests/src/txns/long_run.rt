@@ -1,16 +1,16 @@
 //! Thousands of transactions on a database and on plain lists, which answer the same, with forty
 //! held watches. After each transaction a watch has fired exactly where its question has
-//! another cell, and else the answer is as it was.
+//! another cell, and else the answer is as it was. A commit tells the difference of a tracked table.
 ghost use Rattle.std.specs.Prelude.{◌≡◌};
-ghost use Rattle.mem_txn.specs.CallerOf.{IsCaller};
 ghost use Rattle.mem_txn.specs.Transactions.{txn_of};
 
 use super::drawn::{Drawn, Plain, QUESTIONS, listed, wipe_plain};
+use super::steps::{Asked, is_deleted, is_kept, is_own, is_put, is_read, is_wiped};
+use super::tracked::{TRACKED_USERS, are_different};
 use super::watches::watched_of;
-use super::worked::{Asked, Steps, is_deleted, is_kept, is_own, is_put, is_read, is_wiped};
-use super::{Question, Told, Txn, Work, closed, is_made, pair, query_of, told_of, transact};
+use super::{Question, Rounds, SCHEMA, Told, Txn, Work, are_both, holds, plays, query_of, told_of};
 use mdb_schema::{Ask, Query};
-use mem_txn::{Db, Held, Pass, ReadTxn};
+use mem_txn::{Held, ReadTxn, Receipt};
 use std::alloc::{AllocError, Global};
 use std::marker::Model;
 use std::sync::Wait;
@@ -70,19 +70,6 @@ fn operate_often(alloc: Global, drawn: &mut Drawn, txn: &mut Txn) -> Told
     Ok(true)
 }
 
-impl Work for Drawn {
-    /// Makes drawn operations. The plain lists are as before where they aren't committed.
-    fn run(&mut self, alloc: Global, txn: &mut Txn) -> Told {
-        let before = self.plain;
-        let commits = self.random.below(4) != 0;
-        let told = operate_often(alloc, self, txn)?;
-        if !commits {
-            self.plain = before;
-        }
-        if told { Ok(commits) } else { Err(AllocError) }
-    }
-}
-
 /// The questions that are watched, each twice.
 static ASKED: [Question; 20] = [
     (Ask::First, "users", "id", r#"["a"]"#),
@@ -130,23 +117,6 @@ impl Model for HeldAnswer {
         let log = k.log in cell.book ≡ log.book };
 }
 
-/// A held watch with a log of its book, and the answer that it was given.
-fn kept_with(
-    held: Held,
-    log: &Front,
-    told: Result<Vec<u8>, AllocError>,
-) -> Result<HeldAnswer, AllocError>
-    requires { let h = held in let spot = h.spot in let cell = spot.watch in
-        cell.book ≡ log.now.book }
-{
-    let told = told?;
-    Ok(HeldAnswer {
-        held,
-        log: log.share(),
-        told,
-    })
-}
-
 /// The watch of a question in a state, whose log is of the same book.
 fn watch_of(
     alloc: Global,
@@ -157,20 +127,26 @@ fn watch_of(
     requires { log.now.book ≡ read.now.book }
 {
     let (answer, held) = watched_of(read, query)?;
-    kept_with(held, log, told_of(alloc, &answer))
+    let log = log.share();
+    match told_of(alloc, &answer) {
+        Ok(told) => Ok(HeldAnswer { held, log, told }),
+        Err(AllocError) => Err(AllocError),
+    }
 }
 
-/// The same of a question of the list.
-fn watch_asked(
+/// Holds the watch of a question of the list.
+fn hold_asked(
     alloc: Global,
+    watches: &mut Vec<HeldAnswer>,
     read: &ReadTxn,
     log: &Front,
     question: &Question,
-) -> Result<HeldAnswer, AllocError>
+) -> Result<(), AllocError>
     requires { log.now.book ≡ read.now.book }
 {
     let query = query_of(alloc, question)?;
-    watch_of(alloc, read, log, &query)
+    let held = watch_of(alloc, read, log, &query)?;
+    Ok(watches.push(held)?)
 }
 
 /// Whether a watch has fired exactly where its question has another cell now, and else its answer
@@ -226,205 +202,142 @@ fn are_right(
 fn all_kept(alloc: Global, read: &ReadTxn, log: &Front) -> Result<Vec<HeldAnswer>, AllocError>
     requires { log.now.book ≡ read.now.book }
 {
-    let mut watches = Vec::with_capacity(alloc, 40)?;
+    let mut watches = Vec::new(alloc);
     for at in 0..40 {
-        watches.push(watch_asked(alloc, read, log, &ASKED[at % 20])?)?;
+        hold_asked(alloc, &mut watches, read, log, &ASKED[at % 20])?;
     }
     Ok(watches)
 }
 
-/// Whether a read transaction answers as the plain lists, and all watches are right then.
-fn is_right_read(
-    alloc: Global,
-    read: &ReadTxn,
-    plain: &Plain,
-    watches: &mut Vec<HeldAnswer>,
-    log: &Front,
-    turn: usize,
-) -> Told
-    requires { log.now.book ≡ read.now.book }
-{
-    Ok(are_read(alloc, read, plain)? && are_right(alloc, watches, read, log, turn)?)
-}
-
-/// Runs a transaction, and tells whether it and the state after it are right.
-fn run_read<R: Wait>(
-    rt: &R,
-    alloc: Global,
-    db: &Db,
-    pass: Pass,
-    drawn: &mut Drawn,
-    watches: &mut Vec<HeldAnswer>,
-    log: &Front,
-    turn: usize,
-) -> (Pass, Told)
-    requires own { IsCaller db.now 1 pass }
-    requires log { log.now.book ≡ pass.book }
-    ensures own { IsCaller db.now 1 result.0 }
-    ensures same { let after = result.0 in after.book ≡ pass.book }
-{
-    let (mut pass, done) = transact(rt, alloc, db, pass, drawn);
-    if is_made(done).is_err() {
-        return (pass, Err(AllocError));
-    }
-    let told = match db.read(rt, &mut pass) {
-        Ok(read) => is_right_read(alloc, &read, &drawn.plain, watches, log, turn),
-        Err(_) => Err(AllocError),
-    };
-    (pass, told)
-}
-
-/// Runs transactions, and tells whether all are right.
-fn run_often<R: Wait>(
-    rt: &R,
-    alloc: Global,
-    db: &Db,
-    pass: Pass,
-    drawn: &mut Drawn,
-    watches: &mut Vec<HeldAnswer>,
-    log: &Front,
-    count: usize,
-) -> (Pass, Told)
-    requires own { IsCaller db.now 1 pass }
-    requires log { log.now.book ≡ pass.book }
-    ensures own { IsCaller db.now 1 result.0 }
-    ensures same { let after = result.0 in after.book ≡ pass.book }
-{
-    let mut pass = pass;
-    for at in 0..count {
-        let (next, told) = run_read(rt, alloc, db, pass, drawn, watches, log, at % 40);
-        pass = next;
-        match told {
-            Ok(true) => {}
-            told => return (pass, told),
-        }
-    }
-    (pass, Ok(true))
-}
-
-/// A second owner of a state.
-fn second(read: &ReadTxn) -> Result<ReadTxn, AllocError> {
-    read.snapshot()
-}
-
 /// A snapshot of a snapshot.
-pub fn kept_of<R: Wait>(rt: &R, db: &Db, pass: &mut Pass) -> Result<ReadTxn, AllocError>
-    requires own { IsCaller db.now 1 pass.old }
-    ensures own { IsCaller db.now 1 pass.new }
-    ensures same { pass.new.book ≡ pass.old.book }
-{
-    let read = db.read(rt, pass)?;
-    second(&read.snapshot()?)
+pub fn second(read: &ReadTxn) -> Result<ReadTxn, AllocError> {
+    let kept = read.snapshot()?;
+    kept.snapshot()
 }
 
-/// Runs transactions, and tells whether a state that is kept stays as it is.
-fn outlives<R: Wait>(
-    rt: &R,
-    alloc: Global,
-    db: &Db,
-    pass: Pass,
-    drawn: &mut Drawn,
-    watches: &mut Vec<HeldAnswer>,
-    log: &Front,
-    kept: &ReadTxn,
-) -> (Pass, Told)
-    requires own { IsCaller db.now 1 pass }
-    requires log { log.now.book ≡ pass.book }
-    ensures { IsCaller db.now 1 result.0 }
-{
-    let before = drawn.plain;
-    let (pass, told) = run_often(rt, alloc, db, pass, drawn, watches, log, 2_000);
-    match told {
-        Ok(true) => (pass, are_read(alloc, kept, &before)),
-        told => (pass, told),
-    }
+/// A long run: the rows, and those before the last transaction, whether a commit tells what became
+/// of the users, how many transactions and commits there were, the watches that are held, and a
+/// state that is kept with its rows.
+#[derive(Drop)]
+struct Long {
+    drawn: Drawn,
+    before: Plain,
+    tracked: bool,
+    turns: usize,
+    commits: u64,
+    watches: Vec<HeldAnswer>,
+    kept: Option<ReadTxn>,
+    kept_plain: Plain,
 }
 
-/// Runs transactions, and tells whether a snapshot stays as it is over the later ones.
-fn is_kept_long<R: Wait>(
-    rt: &R,
-    alloc: Global,
-    db: &Db,
-    pass: Pass,
-    watches: &mut Vec<HeldAnswer>,
-    log: &Front,
-) -> (Pass, Told)
-    requires own { IsCaller db.now 1 pass }
-    requires log { log.now.book ≡ pass.book }
-    ensures { IsCaller db.now 1 result.0 }
-{
-    let mut drawn = Drawn::from(0x9e37_79b9_7f4a_7c15);
-    let (mut pass, first) = run_often(rt, alloc, db, pass, &mut drawn, watches, log, 100);
-    if first != Ok(true) {
-        return (pass, first);
-    }
-    match kept_of(rt, db, &mut pass) {
-        Ok(kept) => outlives(rt, alloc, db, pass, &mut drawn, watches, log, &kept),
-        Err(_) => (pass, Err(AllocError)),
-    }
-}
-
-/// Holds watches of the state after the first commit, and runs on.
-fn run_watched<R: Wait>(rt: &R, alloc: Global, db: &Db, pass: Pass, log: &Front) -> (Pass, Told)
-    requires own { IsCaller db.now 1 pass }
-    requires log { log.now.book ≡ pass.book }
-    ensures { IsCaller db.now 1 result.0 }
-{
-    let (pass, watches) = first_watches(rt, alloc, db, pass, log);
-    match watches {
-        Ok(watches) => {
-            let mut watches = watches;
-            is_kept_long(rt, alloc, db, pass, &mut watches, log)
+impl Long {
+    /// Keeps the watches of the state after the first transaction, and a snapshot after a hundred.
+    fn keep(&mut self, alloc: Global, read: &ReadTxn, log: &Front) -> Result<(), AllocError>
+        requires { log.now.book ≡ read.now.book }
+    {
+        match self.turns {
+            0 => self.watches = all_kept(alloc, read, log)?,
+            100 => {
+                let plain = self.drawn.plain;
+                self.kept = Some(second(read)?);
+                self.kept_plain = plain;
+            }
+            _ => {}
         }
-        Err(_) => (pass, Err(AllocError)),
+        Ok(())
+    }
+
+    /// Whether the state that is kept stays as it is, looked at after each hundred transactions.
+    fn is_still(&self, alloc: Global) -> Told {
+        match &self.kept {
+            Some(read) if self.turns % 100 == 0 => are_read(alloc, read, &self.kept_plain),
+            _ => Ok(true),
+        }
+    }
+
+    /// Whether what is read is as the plain lists, and the state that is kept as before.
+    fn is_alike(&self, alloc: Global, read: &ReadTxn) -> Told {
+        let alike = are_both(
+            are_read(alloc, read, &self.drawn.plain),
+            self.is_still(alloc),
+        );
+        are_both(alike, Ok(read.number() == self.commits))
     }
 }
 
-/// The watches of all questions, of what is read first.
-fn first_watches<R: Wait>(
-    rt: &R,
-    alloc: Global,
-    db: &Db,
-    pass: Pass,
-    log: &Front,
-) -> (Pass, Result<Vec<HeldAnswer>, AllocError>)
-    requires own { IsCaller db.now 1 pass }
-    requires log { log.now.book ≡ pass.book }
-    ensures own { IsCaller db.now 1 result.0 }
-    ensures same { let after = result.0 in after.book ≡ pass.book }
-{
-    let mut pass = pass;
-    let watches = match db.read(rt, &mut pass) {
-        Ok(read) => all_kept(alloc, &read, log),
-        Err(_) => Err(AllocError),
+impl Work for Long {
+    /// Makes drawn operations. The plain lists are as before where they aren't committed.
+    fn run(&mut self, alloc: Global, txn: &mut Txn) -> Told {
+        let before = self.drawn.plain;
+        self.before = before;
+        let commits = self.drawn.random.below(4) != 0;
+        if operate_often(alloc, &mut self.drawn, txn) != Ok(true) {
+            return Err(AllocError);
+        }
+        if !commits {
+            self.drawn.plain = before;
+        }
+        Ok(commits)
+    }
+}
+
+impl Rounds for Long {
+    /// Whether a commit tells the difference of a tracked table, and nothing of another.
+    fn is_ended(&mut self, _alloc: Global, receipt: Option<Receipt<String>>) -> Told {
+        let Some(receipt) = receipt else {
+            return Ok(true);
+        };
+        self.commits = self.commits.saturating_add(1);
+        if self.tracked {
+            are_different(&receipt.changes, &self.before, &self.drawn.plain)
+        } else {
+            Ok(receipt.changes.len() == 0)
+        }
+    }
+
+    /// Whether what is read is as the plain lists, and the watches are right. Of a tracked table only
+    /// the commits are looked at.
+    fn is_left(&mut self, alloc: Global, read: &ReadTxn, log: &Front) -> Told {
+        if self.tracked {
+            return Ok(read.number() == self.commits);
+        }
+        self.keep(alloc, read, log)?;
+        self.turns = self.turns.saturating_add(1);
+        let right = are_right(alloc, &mut self.watches, read, log, self.turns % 40);
+        are_both(right, self.is_alike(alloc, read))
+    }
+}
+
+/// Whether so many transactions are right in a database of this schema, and three in four of them
+/// or so are commits.
+fn is_long<R: Wait>(rt: &R, alloc: Global, schema: &str, tracked: bool, count: usize) -> Told {
+    let seed = if tracked {
+        0x853c_49e6_748f_ea9b
+    } else {
+        0x9e37_79b9_7f4a_7c15
     };
-    (pass, watches)
-}
-
-/// Makes the first commit, and runs on with its log.
-fn run_all<R: Wait>(rt: &R, alloc: Global, db: &Db, pass: Pass) -> (Pass, Told)
-    requires own { IsCaller db.now 1 pass }
-    ensures { IsCaller db.now 1 result.0 }
-{
-    let (pass, first) = transact(rt, alloc, db, pass, &mut Steps(&[]));
-    match first {
-        Ok(Some(receipt)) => run_watched(rt, alloc, db, pass, &receipt.log),
-        _ => (pass, Err(AllocError)),
-    }
-}
-
-/// Whether a long run in a new database is right.
-fn is_always_right<R: Wait>(rt: &R, alloc: Global) -> Told {
-    let (db, passes, one, two) = pair(alloc)?;
-    let (one, told) = run_all(rt, alloc, &db, one);
-    drop(closed(rt, db, passes, one, two));
-    told
+    let mut long = Long {
+        drawn: Drawn::from(seed),
+        before: [None; 12],
+        tracked,
+        turns: 0,
+        commits: 0,
+        watches: Vec::new(alloc),
+        kept: None,
+        kept_plain: [None; 12],
+    };
+    let told = plays(rt, alloc, schema, &mut long, count);
+    Ok(told? && long.commits as usize >= count / 7 * 5)
 }
 
 #[test]
 fn a_long_run_is_as_on_plain_lists_and_fires_the_cells_that_are_gone(
     rt: HostRuntime,
 ) -> Result<(), Fail> {
-    assert!(rt; is_always_right(&rt, rt.alloc())?);
-    Ok(())
+    holds(is_long(&rt, rt.alloc(), SCHEMA, false, 2_100))
+}
+
+#[test]
+fn drawn_commits_tell_the_difference_of_plain_lists(rt: HostRuntime) -> Result<(), Fail> {
+    holds(is_long(&rt, rt.alloc(), TRACKED_USERS, true, 2_800))
 }

@@ -1,20 +1,19 @@
 //! What a commit tells of tracked tables.
 ghost use Rattle.std.specs.Prelude.{◌≡◌};
-ghost use Rattle.mem_txn.specs.CallerOf.{IsCaller};
 ghost use Rattle.mem_txn.specs.Transactions.{txn_of};
 
-use super::drawn::{Drawn, Plain, text_of};
-use super::worked::{Step, Steps, is_row};
-use super::{Done, Told, Txn, Work, closed, pair_of, row_of, transact};
+use super::drawn::{Plain, text_of};
+use super::steps::{is_put, is_row, is_wiped};
+use super::{Question, Rounds, Told, Txn, Work, are_both, holds, plays};
 use mdb_datum::Row;
 use mdb_schema::Ask;
-use mem_txn::{Change, ChangeList, Db, Pass};
+use mem_txn::{ChangeList, ReadTxn, Receipt};
 use std::alloc::{AllocError, Global};
-use std::sync::Wait;
 use std::test::Fail;
+use watch_word::Front;
 
 /// The tables `t`, which is tracked, and `u`, which isn't.
-static TRACKED: &str = r#"{"memdb":2,"tables":{
+pub static TRACKED: &str = r#"{"memdb":2,"tables":{
     "t":{"indexes":{"id":{"unique":true,"indexer":{"kind":"text","field":"name"}}},"tracked":true},
     "u":{"indexes":{"id":{"unique":true,"indexer":{"kind":"text","field":"name"}}}}}}"#;
 
@@ -26,359 +25,34 @@ pub static TRACKED_USERS: &str = r#"{"memdb":2,"tables":{
     "mail":{"unique":true,"allow_missing":true,"indexer":{"kind":"text","field":"mail"}},
     "tags":{"allow_missing":true,"indexer":{"kind":"text_list","field":"tags"}}},"tracked":true}}}"#;
 
-/// Adds the text of a row, or `none`.
-fn push_row(text: &mut Vec<u8>, row: Option<&Row>) -> Result<(), AllocError> {
+/// Whether a row has this text, or none is there where that is `none`.
+fn is_text(row: Option<&Row>, expected: &str) -> Told {
     match row {
-        Some(row) => Ok(row.append_doc(text)?),
-        None => Ok(text.extend_from_slice(b"none")?),
+        Some(row) => is_row(row, expected),
+        None => Ok(expected == "none"),
     }
 }
 
-/// Adds the line of a change: the rows before and after, in the table at this place.
-fn push_change(text: &mut Vec<u8>, change: &Change, place: u32) -> Told {
-    push_row(text, change.before())?;
-    text.push(b' ')?;
-    push_row(text, change.after())?;
-    text.push(b'\n')?;
-    Ok(change.table() == place)
+/// Whether the change at a place is of this table, with these rows before and after.
+fn is_change(changes: &ChangeList, at: usize, table: u32, rows: (&str, &str)) -> Told {
+    match changes.get(at) {
+        Some(change) if change.table() == table => are_both(
+            is_text(change.before(), rows.0),
+            is_text(change.after(), rows.1),
+        ),
+        _ => Ok(false),
+    }
 }
 
-/// Whether the lines of the changes, all of the table at a place, are these.
-fn are_lines(alloc: Global, changes: &ChangeList, place: u32, expected: &str) -> Told {
-    let mut text = Vec::new(alloc);
-    for at in 0..changes.len() {
-        let Some(change) = changes.get(at) else {
-            return Ok(false);
-        };
-        if !push_change(&mut text, change, place)? {
+/// Whether the changes, all of the first table, have these rows before and after.
+pub fn are_changes(changes: &ChangeList, expected: &[(&str, &str)]) -> Told {
+    for (at, rows) in expected.iter().enumerate() {
+        if !is_change(changes, at, 0, *rows)? {
             return Ok(false);
         }
     }
-    Ok(changes.get(changes.len()).is_none() && text.as_slice() == expected.as_bytes())
+    Ok(changes.get(changes.len()).is_none() && changes.len() == expected.len())
 }
-
-/// Whether a transaction was committed with these changes of the table at a place.
-fn is_changed(alloc: Global, done: Done, place: u32, expected: &str) -> Told {
-    match done? {
-        Some(receipt) => are_lines(alloc, &receipt.changes, place, expected),
-        None => Ok(false),
-    }
-}
-
-/// A transaction's steps, and the lines of the changes that its commit tells.
-struct Turn {
-    steps: &'static [Step],
-    changes: &'static str,
-}
-
-/// Rows come, are replaced by others and by equal ones, come and go at once, and go.
-static WORKED: [Turn; 3] = [
-    Turn {
-        steps: &[
-            Step::Insert(("t", r#"{"name":"b","n":1}"#, "inserted")),
-            Step::Insert(("t", r#"{"name":"a"}"#, "inserted")),
-            Step::Insert(("u", r#"{"name":"z"}"#, "inserted")),
-        ],
-        changes: "none {\"name\":\"a\"}\nnone {\"n\":1,\"name\":\"b\"}\n",
-    },
-    Turn {
-        steps: &[
-            Step::Insert(("t", r#"{"name":"b","n":2}"#, "replaced")),
-            Step::Insert(("t", r#"{"name":"c"}"#, "inserted")),
-            Step::Delete(("t", r#"{"name":"c"}"#, r#"{"name":"c"}"#)),
-            Step::Insert(("t", r#"{"name":"a"}"#, "replaced")),
-        ],
-        changes: "{\"n\":1,\"name\":\"b\"} {\"n\":2,\"name\":\"b\"}\n",
-    },
-    Turn {
-        steps: &[Step::Delete(("t", r#"{"name":"a"}"#, r#"{"name":"a"}"#))],
-        changes: "{\"name\":\"a\"} none\n",
-    },
-];
-
-/// Each way in which a row can come and go within one commit, one after the other.
-static WAYS: [Turn; 16] = [
-    // nothing is done
-    Turn {
-        steps: &[],
-        changes: "",
-    },
-    // insert, then delete
-    Turn {
-        steps: &[
-            Step::Insert(("t", r#"{"name":"a"}"#, "inserted")),
-            Step::Delete(("t", r#"{"name":"a"}"#, r#"{"name":"a"}"#)),
-        ],
-        changes: "",
-    },
-    // insert, delete, insert
-    Turn {
-        steps: &[
-            Step::Insert(("t", r#"{"name":"a"}"#, "inserted")),
-            Step::Delete(("t", r#"{"name":"a"}"#, r#"{"name":"a"}"#)),
-            Step::Insert(("t", r#"{"name":"a","n":1}"#, "inserted")),
-        ],
-        changes: "none {\"n\":1,\"name\":\"a\"}\n",
-    },
-    // delete, then insert the same
-    Turn {
-        steps: &[
-            Step::Delete(("t", r#"{"name":"a"}"#, r#"{"n":1,"name":"a"}"#)),
-            Step::Insert(("t", r#"{"n":1,"name":"a"}"#, "inserted")),
-        ],
-        changes: "",
-    },
-    // delete, then insert another of the same key
-    Turn {
-        steps: &[
-            Step::Delete(("t", r#"{"name":"a"}"#, r#"{"n":1,"name":"a"}"#)),
-            Step::Insert(("t", r#"{"n":2,"name":"a"}"#, "inserted")),
-        ],
-        changes: "{\"n\":1,\"name\":\"a\"} {\"n\":2,\"name\":\"a\"}\n",
-    },
-    // put twice
-    Turn {
-        steps: &[
-            Step::Insert(("t", r#"{"n":3,"name":"a"}"#, "replaced")),
-            Step::Insert(("t", r#"{"n":4,"name":"a"}"#, "replaced")),
-        ],
-        changes: "{\"n\":2,\"name\":\"a\"} {\"n\":4,\"name\":\"a\"}\n",
-    },
-    // put another, then the old one
-    Turn {
-        steps: &[
-            Step::Insert(("t", r#"{"n":5,"name":"a"}"#, "replaced")),
-            Step::Insert(("t", r#"{"n":4,"name":"a"}"#, "replaced")),
-        ],
-        changes: "",
-    },
-    // put the same members in another order
-    Turn {
-        steps: &[Step::Insert(("t", r#"{"name":"a","n":4}"#, "replaced"))],
-        changes: "",
-    },
-    // put, then delete a row that was there
-    Turn {
-        steps: &[
-            Step::Insert(("t", r#"{"n":6,"name":"a"}"#, "replaced")),
-            Step::Delete(("t", r#"{"name":"a"}"#, r#"{"n":6,"name":"a"}"#)),
-        ],
-        changes: "{\"n\":4,\"name\":\"a\"} none\n",
-    },
-    // put two anew, twice
-    Turn {
-        steps: &[
-            Step::Insert(("t", r#"{"name":"b"}"#, "inserted")),
-            Step::Insert(("t", r#"{"name":"a"}"#, "inserted")),
-            Step::Insert(("t", r#"{"n":1,"name":"b"}"#, "replaced")),
-            Step::Insert(("t", r#"{"n":1,"name":"a"}"#, "replaced")),
-        ],
-        changes: "none {\"n\":1,\"name\":\"a\"}\nnone {\"n\":1,\"name\":\"b\"}\n",
-    },
-    // wipe, then insert one of them again
-    Turn {
-        steps: &[
-            Step::Wipe((Ask::Get, "t", "id", "[]"), 2),
-            Step::Insert(("t", r#"{"n":1,"name":"b"}"#, "inserted")),
-        ],
-        changes: "{\"n\":1,\"name\":\"a\"} none\n",
-    },
-    // wipe, then insert others of the same keys
-    Turn {
-        steps: &[
-            Step::Wipe((Ask::Get, "t", "id", "[]"), 1),
-            Step::Insert(("t", r#"{"n":2,"name":"b"}"#, "inserted")),
-            Step::Insert(("t", r#"{"name":"ab"}"#, "inserted")),
-        ],
-        changes: "none {\"name\":\"ab\"}\n{\"n\":1,\"name\":\"b\"} {\"n\":2,\"name\":\"b\"}\n",
-    },
-    // insert, then wipe by a prefix of the name
-    Turn {
-        steps: &[
-            Step::Insert(("t", r#"{"name":"a"}"#, "inserted")),
-            Step::Wipe((Ask::Get, "t", "id_prefix", r#"["a"]"#), 2),
-        ],
-        changes: "{\"name\":\"ab\"} none\n",
-    },
-    // only the other table
-    Turn {
-        steps: &[
-            Step::Insert(("u", r#"{"name":"b"}"#, "inserted")),
-            Step::Delete(("t", r#"{"name":"x"}"#, "not-found")),
-        ],
-        changes: "",
-    },
-    // both tables
-    Turn {
-        steps: &[
-            Step::Wipe((Ask::Get, "u", "id", "[]"), 1),
-            Step::Insert(("u", r#"{"name":"c"}"#, "inserted")),
-            Step::Insert(("t", r#"{"name":"c"}"#, "inserted")),
-        ],
-        changes: "none {\"name\":\"c\"}\n",
-    },
-    // all goes
-    Turn {
-        steps: &[
-            Step::Wipe((Ask::Get, "t", "id", "[]"), 2),
-            Step::Wipe((Ask::Get, "u", "id", "[]"), 1),
-        ],
-        changes: "{\"n\":2,\"name\":\"b\"} none\n{\"name\":\"c\"} none\n",
-    },
-];
-
-/// Whether a transaction's commit tells these changes.
-fn is_turned<R: Wait>(rt: &R, alloc: Global, db: &Db, pass: Pass, turn: &Turn) -> (Pass, Told)
-    requires own { IsCaller db.now 1 pass }
-    ensures { IsCaller db.now 1 result.0 }
-{
-    let (pass, done) = transact(rt, alloc, db, pass, &mut Steps(turn.steps));
-    (pass, is_changed(alloc, done, 0, turn.changes))
-}
-
-/// Whether the commits of transactions do, one after the other.
-fn are_turned<R: Wait>(rt: &R, alloc: Global, db: &Db, pass: Pass, turns: &[Turn]) -> (Pass, Told)
-    requires own { IsCaller db.now 1 pass }
-    ensures { IsCaller db.now 1 result.0 }
-{
-    let mut pass = pass;
-    for turn in turns {
-        let (next, told) = is_turned(rt, alloc, db, pass, turn);
-        pass = next;
-        match told {
-            Ok(true) => {}
-            told => return (pass, told),
-        }
-    }
-    (pass, Ok(true))
-}
-
-/// The same in a new database.
-fn are_turned_anew<R: Wait>(rt: &R, alloc: Global, turns: &[Turn]) -> Told {
-    let (db, passes, one, two) = pair_of(alloc, TRACKED)?;
-    let (one, told) = are_turned(rt, alloc, &db, one, turns);
-    drop(closed(rt, db, passes, one, two));
-    told
-}
-
-#[test]
-fn a_commit_tells_what_became_of_rows(rt: HostRuntime) -> Result<(), Fail> {
-    assert!(rt; are_turned_anew(&rt, rt.alloc(), &WORKED)?);
-    Ok(())
-}
-
-#[test]
-fn each_way_in_which_a_row_comes_and_goes_is_told_by_its_ends(rt: HostRuntime) -> Result<(), Fail> {
-    assert!(rt; are_turned_anew(&rt, rt.alloc(), &WAYS)?);
-    Ok(())
-}
-
-// ---- many rows
-
-/// How many rows are put and wiped.
-const MANY: u64 = 10_000;
-
-/// The wipe of as many.
-static WIPE: [Step; 1] = [Step::Wipe((Ask::Get, "t", "id", "[]"), 10_000)];
-
-/// The text of a row named by five digits.
-fn numbered(alloc: Global, number: u64) -> Result<String, AllocError> {
-    let name = 10_000 + number % 90_000;
-    format!(in alloc; "{{\"name\":\"{name}\"}}")
-}
-
-/// Puts a new row with a number.
-fn put_numbered(alloc: Global, txn: &mut Txn, number: u64) -> Result<(), AllocError>
-    ensures { (txn_of txn.new).caller ≡ (txn_of txn.old).caller }
-{
-    let row = row_of(alloc, &numbered(alloc, number)?)?;
-    match txn.insert("t", &row) {
-        Ok(false) => Ok(()),
-        _ => Err(AllocError),
-    }
-}
-
-/// The insert of many rows, the last first.
-#[derive(Drop)]
-struct Fill;
-
-impl Work for Fill {
-    /// Puts the rows in.
-    fn run(&mut self, alloc: Global, txn: &mut Txn) -> Told {
-        for number in 0..MANY {
-            put_numbered(alloc, txn, MANY - 1 - number)?;
-        }
-        Ok(true)
-    }
-}
-
-/// Whether a row is there with a number, and no other row.
-fn is_alone(alloc: Global, row: Option<&Row>, other: Option<&Row>, number: u64) -> Told {
-    match row {
-        Some(row) => Ok(other.is_none() && is_row(row, &numbered(alloc, number)?)?),
-        None => Ok(false),
-    }
-}
-
-/// Whether a change is that a row with a number has gone, or has come.
-fn is_numbered(alloc: Global, change: &Change, number: u64, gone: bool) -> Told {
-    if gone {
-        is_alone(alloc, change.before(), change.after(), number)
-    } else {
-        is_alone(alloc, change.after(), change.before(), number)
-    }
-}
-
-/// Whether the changes are that many rows have gone, or have come, rising by name.
-fn are_numbered(alloc: Global, changes: &ChangeList, gone: bool) -> Told {
-    for number in 0..MANY {
-        let Some(change) = changes.get(number as usize) else {
-            return Ok(false);
-        };
-        if !is_numbered(alloc, change, number, gone)? {
-            return Ok(false);
-        }
-    }
-    Ok(changes.len() == MANY as usize)
-}
-
-/// Whether a commit tells so.
-fn has_numbered(alloc: Global, done: Done, gone: bool) -> Told {
-    match done? {
-        Some(receipt) => are_numbered(alloc, &receipt.changes, gone),
-        None => Ok(false),
-    }
-}
-
-/// Puts many rows, and wipes them in a second transaction.
-fn put_and_wipe<R: Wait>(rt: &R, alloc: Global, db: &Db, pass: Pass) -> (Pass, Told)
-    requires own { IsCaller db.now 1 pass }
-    ensures { IsCaller db.now 1 result.0 }
-{
-    let (pass, done) = transact(rt, alloc, db, pass, &mut Fill);
-    let first = has_numbered(alloc, done, false);
-    if first != Ok(true) {
-        return (pass, first);
-    }
-    let (pass, done) = transact(rt, alloc, db, pass, &mut Steps(&WIPE));
-    (pass, has_numbered(alloc, done, true))
-}
-
-/// The same in a new database.
-fn put_and_wipe_anew<R: Wait>(rt: &R, alloc: Global) -> Told {
-    let (db, passes, one, two) = pair_of(alloc, TRACKED)?;
-    let (one, told) = put_and_wipe(rt, alloc, &db, one);
-    drop(closed(rt, db, passes, one, two));
-    told
-}
-
-#[test]
-fn ten_thousand_rows_come_and_are_wiped(rt: HostRuntime) -> Result<(), Fail> {
-    assert!(rt; put_and_wipe_anew(&rt, rt.alloc())?);
-    Ok(())
-}
-
-// ---- drawn writes
 
 /// The text of a row, or `none`.
 fn text_or_none(row: Option<usize>) -> &'static str {
@@ -388,81 +62,113 @@ fn text_or_none(row: Option<usize>) -> &'static str {
     }
 }
 
-/// Adds the line of what became of a row, if it differs.
-fn add_difference(
-    lines: &mut String,
-    before: Option<usize>,
-    after: Option<usize>,
-) -> Result<(), AllocError> {
-    if before == after {
-        return Ok(());
-    }
-    lines.push_str(text_or_none(before))?;
-    lines.push(' ')?;
-    lines.push_str(text_or_none(after))?;
-    lines.push('\n')
-}
-
-/// The lines of what became of the users.
-fn difference(alloc: Global, before: &Plain, after: &Plain) -> Result<String, AllocError> {
-    let mut lines = String::new(alloc);
-    for place in 0..6 {
-        add_difference(&mut lines, before[place], after[place])?;
-    }
-    Ok(lines)
-}
-
 /// Whether the changes are the difference of the users.
-pub fn are_different(alloc: Global, changes: &ChangeList, before: &Plain, after: &Plain) -> Told {
-    are_lines(alloc, changes, 1, &difference(alloc, before, after)?)
-}
-
-/// Whether a transaction's commit tells the difference, if there was one.
-fn is_different(alloc: Global, done: Done, before: &Plain, after: &Plain) -> Told {
-    match done? {
-        Some(receipt) => are_different(alloc, &receipt.changes, before, after),
-        None => Ok(true),
-    }
-}
-
-/// Whether a drawn transaction tells the difference of the plain lists.
-fn draw_one<R: Wait>(rt: &R, alloc: Global, db: &Db, pass: Pass, drawn: &mut Drawn) -> (Pass, Told)
-    requires own { IsCaller db.now 1 pass }
-    ensures { IsCaller db.now 1 result.0 }
-{
-    let before = drawn.plain;
-    let (pass, done) = transact(rt, alloc, db, pass, drawn);
-    (pass, is_different(alloc, done, &before, &drawn.plain))
-}
-
-/// Whether drawn transactions do, of which three in four are committed.
-fn draw_often<R: Wait>(rt: &R, alloc: Global, db: &Db, pass: Pass) -> (Pass, Told)
-    requires own { IsCaller db.now 1 pass }
-    ensures { IsCaller db.now 1 result.0 }
-{
-    let mut drawn = Drawn::from(0x853c_49e6_748f_ea9b);
-    let mut pass = pass;
-    for _ in 0..2_800 {
-        let (next, told) = draw_one(rt, alloc, db, pass, &mut drawn);
-        pass = next;
-        match told {
-            Ok(true) => {}
-            told => return (pass, told),
+pub fn are_different(changes: &ChangeList, before: &Plain, after: &Plain) -> Told {
+    let mut at = 0usize;
+    for place in 0..6 {
+        let rows = (text_or_none(before[place]), text_or_none(after[place]));
+        if before[place] != after[place] {
+            if !is_change(changes, at, 1, rows)? {
+                return Ok(false);
+            }
+            at = at.saturating_add(1);
         }
     }
-    (pass, Ok(true))
+    Ok(changes.len() == at)
 }
 
-/// Whether they do in a new database, and at least 2,000 of them are commits.
-fn draw_anew<R: Wait>(rt: &R, alloc: Global) -> Told {
-    let (db, passes, one, two) = pair_of(alloc, TRACKED_USERS)?;
-    let (one, told) = draw_often(rt, alloc, &db, one);
-    let last = closed(rt, db, passes, one, two);
-    Ok(told? && last.number() >= 2_000)
+// ---- many rows
+
+/// How many rows are put and wiped.
+const MANY: u64 = 10_000;
+
+/// The question of all rows.
+const ALL: Question = (Ask::Get, "t", "id", "[]");
+
+/// The text of a row named by five digits.
+fn numbered(alloc: Global, number: u64) -> Result<String, AllocError> {
+    let name = 10_000 + number % 90_000;
+    format!(in alloc; "{{\"name\":\"{name}\"}}")
+}
+
+/// Whether a row with a number is put, and is new.
+fn is_new(alloc: Global, txn: &mut Txn, number: u64) -> Told
+    ensures { (txn_of txn.new).caller ≡ (txn_of txn.old).caller }
+{
+    match numbered(alloc, number) {
+        Ok(text) => is_put(alloc, txn, &("t", &text, "inserted")),
+        Err(AllocError) => Err(AllocError),
+    }
+}
+
+/// Puts many rows in, the last first.
+fn put_all(alloc: Global, txn: &mut Txn) -> Told
+    ensures { (txn_of txn.new).caller ≡ (txn_of txn.old).caller }
+{
+    for number in 0..MANY {
+        match is_new(alloc, txn, MANY - 1 - number) {
+            Ok(true) => {}
+            told => return told,
+        }
+    }
+    Ok(true)
+}
+
+/// Whether the change with a number is that its row has gone, or has come.
+fn is_numbered(alloc: Global, changes: &ChangeList, number: u64, gone: bool) -> Told {
+    let text = numbered(alloc, number)?;
+    if gone {
+        is_change(changes, number as usize, 0, (&text, "none"))
+    } else {
+        is_change(changes, number as usize, 0, ("none", &text))
+    }
+}
+
+/// Whether the changes are that many rows have gone, or have come, rising by name.
+fn are_numbered(alloc: Global, changes: &ChangeList, gone: bool) -> Told {
+    for number in 0..MANY {
+        if !is_numbered(alloc, changes, number, gone)? {
+            return Ok(false);
+        }
+    }
+    Ok(changes.len() == MANY as usize)
+}
+
+/// The insert of many rows, and then the wipe of all.
+#[derive(Drop)]
+struct Fill {
+    wipes: bool,
+}
+
+impl Work for Fill {
+    /// Puts the rows in, or wipes them.
+    fn run(&mut self, alloc: Global, txn: &mut Txn) -> Told {
+        if self.wipes {
+            is_wiped(alloc, txn, &ALL, MANY)
+        } else {
+            put_all(alloc, txn)
+        }
+    }
+}
+
+impl Rounds for Fill {
+    /// Whether a commit tells of each row.
+    fn is_ended(&mut self, alloc: Global, receipt: Option<Receipt<String>>) -> Told {
+        match receipt {
+            Some(receipt) => are_numbered(alloc, &receipt.changes, self.wipes),
+            None => Ok(false),
+        }
+    }
+
+    /// Wipes next.
+    fn is_left(&mut self, _alloc: Global, _read: &ReadTxn, _log: &Front) -> Told {
+        self.wipes = true;
+        Ok(true)
+    }
 }
 
 #[test]
-fn drawn_commits_tell_the_difference_of_plain_lists(rt: HostRuntime) -> Result<(), Fail> {
-    assert!(rt; draw_anew(&rt, rt.alloc())?);
-    Ok(())
+fn ten_thousand_rows_come_and_are_wiped(rt: HostRuntime) -> Result<(), Fail> {
+    let mut fill = Fill { wipes: false };
+    holds(plays(&rt, rt.alloc(), TRACKED, &mut fill, 2))
 }

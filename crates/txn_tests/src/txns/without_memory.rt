@@ -4,11 +4,10 @@ ghost use Rattle.std.specs.Prelude.{◌≡◌};
 ghost use Rattle.mem_txn.specs.CallerOf.{IsCaller};
 ghost use Rattle.mem_txn.specs.Transactions.{txn_of};
 
-use super::callers::are_both;
 use super::drawn::{Drawn, Plain, table_of, text_of};
 use super::long_run::are_read;
 use super::tracked::{TRACKED_USERS, are_different};
-use super::{Told, Txn, closed, pair_of, row_of};
+use super::{Told, Txn, are_both, closed, holds, pair, row_of};
 use mem_txn::{
     BeginError, BeginRefused, CommitError, CommitRefused, Committed, Db, Pass, SnapError,
 };
@@ -56,7 +55,7 @@ fn end<R: Wait>(
 {
     match txn.commit(rt, db) {
         Ok(Committed { pass, receipt }) => {
-            let told = are_different(alloc, &receipt.changes, &before, plain);
+            let told = are_different(&receipt.changes, &before, plain);
             (pass, are_both(told, Ok(shown && !spoiled)))
         }
         Err(CommitRefused { pass, cause }) => {
@@ -155,7 +154,7 @@ fn are_tried<R: Wait>(rt: &R, alloc: Global, db: &Db, pass: Pass, other: &mut Pa
 
 /// Whether they are in a new database.
 fn are_tried_anew<R: Wait>(rt: &R, alloc: Global) -> Told {
-    let (db, passes, one, mut two) = pair_of(alloc, TRACKED_USERS)?;
+    let (db, passes, one, mut two) = pair(alloc, TRACKED_USERS)?;
     let (one, told) = are_tried(rt, alloc, &db, one, &mut two);
     drop(closed(rt, db, passes, one, two));
     told
@@ -164,6 +163,5 @@ fn are_tried_anew<R: Wait>(rt: &R, alloc: Global) -> Told {
 // It passes whichever allocation fails, or ends in an error.
 #[test]
 fn a_refusal_leaves_the_database(rt: HostRuntime) -> Result<(), Fail> {
-    assert!(rt; are_tried_anew(&rt, rt.alloc())?);
-    Ok(())
+    holds(are_tried_anew(&rt, rt.alloc()))
 }

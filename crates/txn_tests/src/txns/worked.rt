@@ -1,310 +1,85 @@
-//! Worked examples: transactions on a database, each write and question with its answer.
+//! Worked examples: transactions on a database, each write and question with its answer, and what
+//! each commit gives and leaves.
 ghost use Rattle.std.specs.Prelude.{◌≡◌};
-ghost use Rattle.mem_txn.specs.CallerOf.{IsCaller};
-ghost use Rattle.mem_txn.specs.Checked.{IsBeginning};
-ghost use Rattle.mem_txn.specs.Database.{IsOf};
 ghost use Rattle.mem_txn.specs.Transactions.{txn_of};
 
-use super::{
-    Question, Told, Txn, Work, closed, is_made, is_told, pair, query_of, row_of, transact,
-};
-use mdb_datum::Row;
-use mdb_schema::{Answer, Ask, AskError, Query, Rows, WriteError};
-use mem_txn::{
-    Db, DeferredList, Pass, ReadTxn, Receipt, Snapshot, TxnAskError, TxnWipeError, TxnWriteError,
-};
-use radix_iter::Walk;
+use super::steps::{Asked, Kept, Step, are_done, is_kept, is_read, is_walked};
+use super::tracked::{TRACKED, are_changes};
+use super::{Rounds, SCHEMA, Told, Txn, Work, are_both, plays};
+use mdb_schema::Ask;
+use mem_txn::{DeferredList, ReadTxn, Receipt};
 use std::alloc::{AllocError, Global};
 use std::sync::Wait;
 use std::test::Fail;
+use watch_word::Front;
 
-/// A question and its answer.
-pub type Asked = (Question, &'static str);
-
-/// A write: its table, its row and its answer. That of a delete is the row taken out.
-pub type Line = (&'static str, &'static str, &'static str);
-
-/// A step of a transaction.
-pub enum Step {
-    Insert(Line),
-    Delete(Line),
-    /// The rows that a question lists are taken out, and so many are there.
-    Wipe(Question, u64),
-    Tell(Asked),
-    Defer(&'static str),
-}
-
-/// The word of a refused write, with the name of its index.
-fn write_word(error: TxnWriteError) -> &'static str {
-    match error {
-        TxnWriteError::UnknownTable => "unknown-table",
-        TxnWriteError::Refused(WriteError::NoId) => "no-id",
-        TxnWriteError::Refused(WriteError::NotFound) => "not-found",
-        TxnWriteError::Refused(WriteError::Missing { index: 0 }) => "missing age",
-        TxnWriteError::Refused(WriteError::OutOfRange { index: 0 }) => "out-of-range age",
-        TxnWriteError::Refused(WriteError::WrongKind { index: 1 }) => "wrong-kind id",
-        TxnWriteError::Refused(WriteError::KeyTaken { index: 2 }) => "key-taken mail",
-        TxnWriteError::Refused(WriteError::WrongKind { index: 3 }) => "wrong-kind tags",
-        _ => "memory",
-    }
-}
-
-/// The word of a refused question.
-fn ask_word(error: AskError) -> &'static str {
-    match error {
-        AskError::UnknownTable => "unknown-table",
-        AskError::UnknownIndex => "unknown-index",
-        AskError::NoPrefixForm => "no-prefix-form",
-        AskError::ArgKind => "arg-kind",
-        AskError::ArgCount => "arg-count",
-        AskError::OutOfRange => "out-of-range",
-        AskError::NoPrefixName => "no-prefix-name",
-        AskError::NotUnique => "not-unique",
-        _ => "memory",
-    }
-}
-
-/// Whether a refusal is told by this word. Want of memory is no answer, and ends the test.
-fn is_word(expected: &str, word: &str) -> Told {
-    if word == "memory" {
-        return Err(AllocError);
-    }
-    Ok(expected == word)
-}
-
-/// The word of an insert.
-fn put_word(replaced: bool) -> &'static str {
-    if replaced { "replaced" } else { "inserted" }
-}
-
-/// Whether a row is put so.
-pub fn is_put(alloc: Global, txn: &mut Txn, line: &Line) -> Told
-    ensures { (txn_of txn.new).caller ≡ (txn_of txn.old).caller }
-{
-    match txn.insert(line.0, &row_of(alloc, line.1)?) {
-        Ok(replaced) => is_word(line.2, put_word(replaced)),
-        Err(error) => is_word(line.2, write_word(error)),
-    }
-}
-
-/// Whether a row has this text.
-pub fn is_row(row: &Row, expected: &str) -> Told {
-    Ok(row.doc()?.as_slice() == expected.as_bytes())
-}
-
-/// Whether a row is taken out so.
-pub fn is_deleted(alloc: Global, txn: &mut Txn, line: &Line) -> Told
-    ensures { (txn_of txn.new).caller ≡ (txn_of txn.old).caller }
-{
-    match txn.delete(line.0, &row_of(alloc, line.1)?) {
-        Ok(old) => is_row(&old, line.2),
-        Err(error) => is_word(line.2, write_word(error)),
-    }
-}
-
-/// Takes out the rows that a question lists.
-fn wiped(txn: &mut Txn, query: &Query, by_prefix: bool) -> Result<u64, TxnWipeError>
-    ensures { (txn_of txn.new).caller ≡ (txn_of txn.old).caller }
-{
-    if by_prefix {
-        txn.delete_prefix(query)
-    } else {
-        txn.delete_all(query)
-    }
-}
-
-/// Whether so many rows are taken out that a question lists.
-pub fn is_wiped(alloc: Global, txn: &mut Txn, question: &Question, count: u64) -> Told
-    ensures { (txn_of txn.new).caller ≡ (txn_of txn.old).caller }
-{
-    let query = query_of(alloc, question)?;
-    match wiped(txn, &query, question.2.ends_with("_prefix")) {
-        Ok(gone) => Ok(gone == count),
-        Err(_) => Err(AllocError),
-    }
-}
-
-/// Whether an answer is this one, or a refusal of this word.
-fn is_answered(alloc: Global, answer: Result<Answer, AskError>, expected: &str) -> Told {
-    match answer {
-        Ok(answer) => is_told(alloc, &answer, expected),
-        Err(error) => is_word(expected, ask_word(error)),
-    }
-}
-
-/// What a transaction answers; one that is spoiled found no memory.
-fn own_answer(answer: Result<Answer, TxnAskError>) -> Result<Answer, AskError> {
-    match answer {
-        Ok(answer) => Ok(answer),
-        Err(TxnAskError::Refused(error)) => Err(error),
-        Err(TxnAskError::Spoiled) => Err(AskError::Memory),
-    }
-}
-
-/// Whether a transaction answers a question so.
-pub fn is_own(alloc: Global, txn: &mut Txn, question: &Question, expected: &str) -> Told
-    ensures { (txn_of txn.new).caller ≡ (txn_of txn.old).caller }
-{
-    let answer = txn.ask(&query_of(alloc, question)?);
-    is_answered(alloc, own_answer(answer), expected)
-}
-
-/// Whether a snapshot answers a question so.
-pub fn is_kept(alloc: Global, kept: &Snapshot, question: &Question, expected: &str) -> Told {
-    is_answered(alloc, kept.ask(&query_of(alloc, question)?), expected)
-}
-
-/// The rows of a walk, in a list.
-fn collected(alloc: Global, walk: &mut Walk<'_>) -> Result<Rows, AllocError> {
-    let mut rows = Rows::new(alloc);
-    while let Some(row) = walk.next()? {
-        rows.push(row)?;
-    }
-    Ok(rows)
-}
-
-/// The answer that the rows of a walk make: a row or none where the question's word asks for one.
-fn walked_answer(alloc: Global, ask: Ask, walk: &mut Walk<'_>) -> Result<Answer, AllocError> {
-    match ask {
-        Ask::First | Ask::Last | Ask::Longest => Ok(Answer::One(walk.next()?)),
-        _ => Ok(Answer::Many(collected(alloc, walk)?)),
-    }
-}
-
-/// What a read transaction answers a question one row at a time.
-fn walked(alloc: Global, read: &ReadTxn, query: &Query) -> Result<Answer, AskError> {
-    let mut walk = read.walk(query)?;
-    Ok(walked_answer(alloc, query.ask(), &mut walk)?)
-}
-
-/// Whether a read transaction answers a question so.
-pub fn is_read(alloc: Global, read: &ReadTxn, question: &Question, expected: &str) -> Told {
-    is_answered(alloc, read.ask(&query_of(alloc, question)?), expected)
-}
-
-/// Whether a read transaction answers a question so one row at a time.
-fn is_walked(alloc: Global, read: &ReadTxn, question: &Question, expected: &str) -> Told {
-    let query = query_of(alloc, question)?;
-    is_answered(alloc, walked(alloc, read, &query), expected)
-}
-
-/// Whether a read transaction answers a question so, at once and one row at a time.
-fn is_told_twice(alloc: Global, read: &ReadTxn, asked: &Asked) -> Told {
-    Ok(is_read(alloc, read, &asked.0, asked.1)? && is_walked(alloc, read, &asked.0, asked.1)?)
-}
-
-/// Whether an item is deferred.
-fn is_deferred(alloc: Global, txn: &mut Txn, item: &str) -> Told
-    ensures { (txn_of txn.new).caller ≡ (txn_of txn.old).caller }
-{
-    match txn.defer(String::from_str(alloc, item)?) {
-        Ok(()) => Ok(true),
-        Err(_) => Err(AllocError),
-    }
-}
-
-/// Whether a step is answered so.
-fn is_done(alloc: Global, txn: &mut Txn, step: &Step) -> Told
-    ensures { (txn_of txn.new).caller ≡ (txn_of txn.old).caller }
-{
-    match step {
-        Step::Insert(line) => is_put(alloc, txn, line),
-        Step::Delete(line) => is_deleted(alloc, txn, line),
-        Step::Wipe(question, count) => is_wiped(alloc, txn, question, *count),
-        Step::Tell(asked) => is_own(alloc, txn, &asked.0, asked.1),
-        Step::Defer(item) => is_deferred(alloc, txn, item),
-    }
-}
-
-/// Whether each step is answered so.
-fn are_done(alloc: Global, txn: &mut Txn, steps: &[Step]) -> Told
-    ensures { (txn_of txn.new).caller ≡ (txn_of txn.old).caller }
-{
-    for step in steps {
-        if !is_done(alloc, txn, step)? {
-            return Ok(false);
-        }
-    }
-    Ok(true)
-}
-
-/// Steps that are committed where each is answered so, and else aborted.
-#[derive(Drop)]
-pub struct Steps(pub &'static [Step]);
-
-impl Work for Steps {
-    /// Takes the steps.
-    fn run(&mut self, alloc: Global, txn: &mut Txn) -> Told {
-        are_done(alloc, txn, self.0)
-    }
-}
-
-/// Whether steps are answered so, and committed.
-pub fn committed_steps<R: Wait>(
-    rt: &R,
-    alloc: Global,
-    db: &Db,
-    pass: Pass,
-    steps: &'static [Step],
-) -> (Pass, Told)
-    requires own { IsOf db.now pass }
-    ensures own { IsCaller db.now pass.number result.0 }
-    ensures more { IsBeginning pass result.0 }
-{
-    let (pass, done) = transact(rt, alloc, db, pass, &mut Steps(steps));
-    (pass, is_made(done))
-}
-
-/// A transaction: its steps up to a snapshot, a question of that when all is over, the steps after
-/// it, whether they are committed, the items that the commit hands out, in the order in which they
-/// were deferred, the number of the last commit then, and questions of what is read.
+/// A transaction: its steps, whether they are committed, the items that the commit hands out, in the
+/// order in which they were deferred, the rows before and after of each change that it tells of the first
+/// table, the number of the last commit then, and questions of what is read.
 struct Turn {
-    first: &'static [Step],
-    kept: Asked,
-    next: &'static [Step],
+    steps: &'static [Step],
     commits: bool,
     items: &'static [&'static str],
+    changes: &'static [(&'static str, &'static str)],
     number: u64,
     questions: &'static [Asked],
 }
 
-/// A transaction that is played, and its snapshot.
+/// Transactions that are played, the place of the next one, and the last snapshot in them.
 #[derive(Drop)]
-struct Play {
-    turn: &'static Turn,
-    kept: Option<Snapshot>,
+struct Script {
+    turns: &'static [Turn],
+    at: usize,
+    kept: Kept,
 }
 
-/// The snapshot after some steps of a transaction.
-fn snapshot_after(alloc: Global, txn: &mut Txn, steps: &[Step]) -> Result<Snapshot, AllocError>
-    ensures { (txn_of txn.new).caller ≡ (txn_of txn.old).caller }
-{
-    if !are_done(alloc, txn, steps)? {
-        return Err(AllocError);
-    }
-    match txn.snapshot() {
-        Ok(snapshot) => Ok(snapshot),
-        Err(_) => Err(AllocError),
+impl Script {
+    /// The transaction that is played. That there is none counts as want of memory.
+    fn turn(&self) -> Result<&'static Turn, AllocError> {
+        match self.turns.get(self.at) {
+            Some(turn) => Ok(turn),
+            None => Err(AllocError),
+        }
     }
 }
 
-/// The snapshot between the steps of a transaction.
-fn between(alloc: Global, txn: &mut Txn, turn: &Turn) -> Result<Snapshot, AllocError>
-    ensures { (txn_of txn.new).caller ≡ (txn_of txn.old).caller }
-{
-    let snapshot = snapshot_after(alloc, txn, turn.first)?;
-    if are_done(alloc, txn, turn.next)? {
-        Ok(snapshot)
-    } else {
-        Err(AllocError)
-    }
-}
-
-impl Work for Play {
-    /// Takes the steps, and keeps the snapshot between them.
+impl Work for Script {
+    /// Takes the steps. A wrong answer counts as want of memory.
     fn run(&mut self, alloc: Global, txn: &mut Txn) -> Told {
-        self.kept = Some(between(alloc, txn, self.turn)?);
-        Ok(self.turn.commits)
+        let turn = self.turn()?;
+        match are_done(alloc, txn, turn.steps, &mut self.kept) {
+            Ok(true) => Ok(turn.commits),
+            _ => Err(AllocError),
+        }
+    }
+}
+
+impl Rounds for Script {
+    /// Whether a commit gives what it should, or an abort nothing.
+    fn is_ended(&mut self, _alloc: Global, receipt: Option<Receipt<String>>) -> Told {
+        let turn = self.turn()?;
+        match receipt {
+            Some(receipt) => is_received(receipt, turn),
+            None => Ok(!turn.commits),
+        }
+    }
+
+    /// Whether the snapshot and what is read answer so.
+    fn is_left(&mut self, alloc: Global, read: &ReadTxn, _log: &Front) -> Told {
+        let turn = self.turn()?;
+        self.at = self.at.saturating_add(1);
+        match is_still(alloc, &self.kept) {
+            Ok(true) => are_read(alloc, read, turn.number, turn.questions),
+            told => told,
+        }
+    }
+}
+
+/// Whether a snapshot that is kept answers so.
+fn is_still(alloc: Global, kept: &Kept) -> Told {
+    match kept {
+        Some((snapshot, asked)) => is_kept(alloc, snapshot, &asked.0, asked.1),
+        None => Ok(true),
     }
 }
 
@@ -341,105 +116,33 @@ fn are_taken(items: &mut DeferredList<String>, expected: &[&str]) -> bool {
     items.take().is_none() && items.len() == 0
 }
 
-/// Whether a transaction's end gives what it should.
-fn is_received(receipt: Option<Receipt<String>>, turn: &Turn) -> bool {
-    let Some(receipt) = receipt else {
-        return !turn.commits;
-    };
+/// Whether a commit gives what it should.
+fn is_received(receipt: Receipt<String>, turn: &Turn) -> Told {
     let mut items = receipt.items;
-    turn.commits
+    let right = turn.commits
         && receipt.number == turn.number
         && are_placed(&items, turn.items)
-        && are_taken(&mut items, turn.items)
+        && are_taken(&mut items, turn.items);
+    are_both(are_changes(&receipt.changes, turn.changes), Ok(right))
+}
+
+/// Whether a read transaction answers a question so, at once and one row at a time.
+fn is_told_twice(alloc: Global, read: &ReadTxn, asked: &Asked) -> Told {
+    are_both(
+        is_read(alloc, read, &asked.0, asked.1),
+        is_walked(alloc, read, &asked.0, asked.1),
+    )
 }
 
 /// Whether a read transaction on this commit answers each question so.
 fn are_read(alloc: Global, read: &ReadTxn, number: u64, questions: &[Asked]) -> Told {
     for asked in questions {
-        if !is_told_twice(alloc, read, asked)? {
-            return Ok(false);
+        match is_told_twice(alloc, read, asked) {
+            Ok(true) => {}
+            told => return told,
         }
     }
     Ok(read.number() == number)
-}
-
-/// Whether a snapshot and a later read transaction answer so, where the end was right.
-fn are_apart(alloc: Global, right: bool, play: &Play, read: &ReadTxn) -> Told {
-    let turn = play.turn;
-    match &play.kept {
-        Some(kept) if right => Ok(
-            is_kept(alloc, kept, &turn.kept.0, turn.kept.1)?
-                && are_read(alloc, read, turn.number, turn.questions)?,
-        ),
-        _ => Ok(false),
-    }
-}
-
-/// The same of what a caller reads now.
-fn is_left<R: Wait>(
-    rt: &R,
-    alloc: Global,
-    db: &Db,
-    pass: &mut Pass,
-    play: &Play,
-    right: bool,
-) -> Told
-    requires own { IsCaller db.now 1 pass.old }
-    ensures { IsCaller db.now 1 pass.new }
-{
-    let read = db.read(rt, pass)?;
-    are_apart(alloc, right, play, &read)
-}
-
-/// Whether a transaction is answered so, and what it leaves.
-fn is_played<R: Wait>(
-    rt: &R,
-    alloc: Global,
-    db: &Db,
-    pass: Pass,
-    turn: &'static Turn,
-) -> (Pass, Told)
-    requires own { IsCaller db.now 1 pass }
-    ensures { IsCaller db.now 1 result.0 }
-{
-    let mut play = Play { turn, kept: None };
-    let (mut pass, done) = transact(rt, alloc, db, pass, &mut play);
-    let told = match done {
-        Ok(receipt) => is_left(rt, alloc, db, &mut pass, &play, is_received(receipt, turn)),
-        Err(_) => Err(AllocError),
-    };
-    (pass, told)
-}
-
-/// Whether each transaction is answered so.
-fn are_played<R: Wait>(
-    rt: &R,
-    alloc: Global,
-    db: &Db,
-    pass: Pass,
-    script: &'static [Turn],
-) -> (Pass, Told)
-    requires own { IsCaller db.now 1 pass }
-    ensures { IsCaller db.now 1 result.0 }
-{
-    let mut pass = pass;
-    for turn in script {
-        let (next, told) = is_played(rt, alloc, db, pass, turn);
-        pass = next;
-        match told {
-            Ok(true) => {}
-            told => return (pass, told),
-        }
-    }
-    (pass, Ok(true))
-}
-
-/// The same in a new database.
-fn is_script<R: Wait>(rt: &R, alloc: Global, script: &'static [Turn]) -> Told {
-    let (db, passes, one, two) = pair(alloc)?;
-    let (one, told) = are_played(rt, alloc, &db, one, script);
-    drop(closed(rt, db, passes, one, two));
-    told
 }
 
 const NO_USERS: Asked = ((Ask::Get, "users", "id", "[]"), "");
@@ -474,16 +177,18 @@ const BOB: Asked = (
 /// Rows are put, replaced and asked for.
 static PUTS: [Turn; 2] = [
     Turn {
-        first: &[Step::Insert(("users", r#"{"name":"ann","age":3}"#, "inserted"))],
-        kept: ANN,
-        next: &[],
+        steps: &[
+            Step::Insert(("users", r#"{"name":"ann","age":3}"#, "inserted")),
+            Step::Keep(ANN),
+        ],
         commits: true,
         items: &[],
+        changes: &[],
         number: 1,
         questions: &[ANN],
     },
     Turn {
-        first: &[
+        steps: &[
             Step::Insert(("users", r#"{"name":"ann","age":4}"#, "replaced")),
             Step::Insert(("users", r#"{"name":"cy","age":1}"#, "inserted")),
             Step::Insert(("users", r#"{"name":"bob","age":2}"#, "inserted")),
@@ -492,11 +197,11 @@ static PUTS: [Turn; 2] = [
                 r#"{"age":4,"name":"ann"}"#,
             )),
             Step::Tell(THREE),
+            Step::Keep(THREE),
         ],
-        kept: THREE,
-        next: &[],
         commits: true,
         items: &[],
+        changes: &[],
         number: 2,
         questions: &[
             ((Ask::Get, "users", "age", "[3]"), ""),
@@ -512,7 +217,7 @@ static PUTS: [Turn; 2] = [
 /// A key that is taken refuses a row, and a row is taken out once.
 static MAILED: [Turn; 2] = [
     Turn {
-        first: &[
+        steps: &[
             Step::Insert(("users", r#"{"name":"ann","age":1,"mail":"m"}"#, "inserted")),
             Step::Insert((
                 "users",
@@ -521,23 +226,23 @@ static MAILED: [Turn; 2] = [
             )),
             Step::Insert(("users", r#"{"name":"bob","age":2}"#, "inserted")),
             Step::Tell(MAILS),
+            Step::Keep(MAILS),
         ],
-        kept: MAILS,
-        next: &[],
         commits: true,
         items: &[],
+        changes: &[],
         number: 1,
         questions: &[MAILS],
     },
     Turn {
-        first: &[
+        steps: &[
             Step::Delete(("users", r#"{"name":"bob"}"#, r#"{"age":2,"name":"bob"}"#)),
             Step::Delete(("users", r#"{"name":"bob"}"#, "not-found")),
+            Step::Keep(MAILS),
         ],
-        kept: MAILS,
-        next: &[],
         commits: true,
         items: &[],
+        changes: &[],
         number: 2,
         questions: &[MAILS, ((Ask::Get, "users", "age", "[2]"), "")],
     },
@@ -546,16 +251,15 @@ static MAILED: [Turn; 2] = [
 /// Writes and questions that are refused.
 static REFUSED: [Turn; 2] = [
     Turn {
-        first: &[],
-        kept: NO_USERS,
-        next: &[],
+        steps: &[Step::Keep(NO_USERS)],
         commits: true,
         items: &[],
+        changes: &[],
         number: 1,
         questions: &[NO_USERS],
     },
     Turn {
-        first: &[
+        steps: &[
             Step::Insert(("user", r#"{"name":"a","age":1}"#, "unknown-table")),
             Step::Delete(("user", r#"{"name":"a","age":1}"#, "unknown-table")),
             Step::Insert(("users", r#"{"age":1}"#, "no-id")),
@@ -569,11 +273,11 @@ static REFUSED: [Turn; 2] = [
             )),
             Step::Insert(("users", r#"{"name":"","age":1}"#, "no-id")),
             Step::Tell(NO_USERS),
+            Step::Keep(NO_USERS),
         ],
-        kept: NO_USERS,
-        next: &[],
         commits: true,
         items: &[],
+        changes: &[],
         number: 2,
         questions: &[
             ((Ask::Get, "user", "id", "[]"), "unknown-table"),
@@ -593,28 +297,28 @@ static REFUSED: [Turn; 2] = [
 /// An abort undoes a wipe.
 static WIPED: [Turn; 2] = [
     Turn {
-        first: &[
+        steps: &[
             Step::Insert(("users", r#"{"name":"ann","age":1}"#, "inserted")),
             Step::Insert(("users", r#"{"name":"bob","age":1}"#, "inserted")),
             Step::Insert(("users", r#"{"name":"anna","age":1}"#, "inserted")),
             Step::Tell(ONES),
+            Step::Keep(ONES),
         ],
-        kept: ONES,
-        next: &[],
         commits: true,
         items: &[],
+        changes: &[],
         number: 1,
         questions: &[ONES],
     },
     Turn {
-        first: &[
+        steps: &[
             Step::Wipe((Ask::Get, "users", "id_prefix", r#"["an"]"#), 2),
             Step::Tell(BOB),
+            Step::Keep(BOB),
         ],
-        kept: BOB,
-        next: &[],
         commits: false,
         items: &[],
+        changes: &[],
         number: 1,
         questions: &[ONES],
     },
@@ -622,30 +326,31 @@ static WIPED: [Turn; 2] = [
 
 /// A snapshot between two writes outlives their abort.
 static ABORTED: [Turn; 1] = [Turn {
-    first: &[Step::Insert(("users", r#"{"name":"ann","age":3}"#, "inserted"))],
-    kept: ANN,
-    next: &[
+    steps: &[
+        Step::Insert(("users", r#"{"name":"ann","age":3}"#, "inserted")),
+        Step::Keep(ANN),
         Step::Delete(("users", r#"{"name":"ann"}"#, r#"{"age":3,"name":"ann"}"#)),
         Step::Tell(NO_USERS),
     ],
     commits: false,
     items: &[],
+    changes: &[],
     number: 0,
     questions: &[NO_USERS],
 }];
 
 /// The last item deferred comes first.
 static DEFERRED: [Turn; 1] = [Turn {
-    first: &[
+    steps: &[
         Step::Defer("unlock"),
         Step::Defer(""),
         Step::Defer("notify ann"),
         Step::Defer("notify bob"),
+        Step::Keep(NO_USERS),
     ],
-    kept: NO_USERS,
-    next: &[],
     commits: true,
     items: &["unlock", "", "notify ann", "notify bob"],
+    changes: &[],
     number: 1,
     questions: &[NO_USERS],
 }];
@@ -653,15 +358,15 @@ static DEFERRED: [Turn; 1] = [Turn {
 /// Rows come in the order of their keys and against it, by prefixes and by bounds that are compared
 /// with whole keys: those of `x` and `y` are `00 ff 78 00` and `01 00 79 00`.
 static BOUNDED: [Turn; 1] = [Turn {
-    first: &[
+    steps: &[
         Step::Insert(("users", r#"{"name":"y","age":256}"#, "inserted")),
         Step::Insert(("users", r#"{"name":"xa","age":7}"#, "inserted")),
         Step::Insert(("users", r#"{"name":"x","age":255}"#, "inserted")),
+        Step::Keep(NO_MAILS),
     ],
-    kept: NO_MAILS,
-    next: &[],
     commits: true,
     items: &[],
+    changes: &[],
     number: 1,
     questions: &[
         (
@@ -691,26 +396,280 @@ static BOUNDED: [Turn; 1] = [Turn {
     ],
 }];
 
-/// The script of a number.
-fn script_of(number: u32) -> &'static [Turn] {
+/// Rows come, are replaced by others and by equal ones, come and go at once, and go.
+static TURNED: [Turn; 3] = [
+    Turn {
+        steps: &[
+            Step::Insert(("t", r#"{"name":"b","n":1}"#, "inserted")),
+            Step::Insert(("t", r#"{"name":"a"}"#, "inserted")),
+            Step::Insert(("u", r#"{"name":"z"}"#, "inserted")),
+        ],
+        commits: true,
+        items: &[],
+        changes: &[
+            ("none", r#"{"name":"a"}"#),
+            ("none", r#"{"n":1,"name":"b"}"#),
+        ],
+        number: 1,
+        questions: &[],
+    },
+    Turn {
+        steps: &[
+            Step::Insert(("t", r#"{"name":"b","n":2}"#, "replaced")),
+            Step::Insert(("t", r#"{"name":"c"}"#, "inserted")),
+            Step::Delete(("t", r#"{"name":"c"}"#, r#"{"name":"c"}"#)),
+            Step::Insert(("t", r#"{"name":"a"}"#, "replaced")),
+        ],
+        commits: true,
+        items: &[],
+        changes: &[(r#"{"n":1,"name":"b"}"#, r#"{"n":2,"name":"b"}"#)],
+        number: 2,
+        questions: &[],
+    },
+    Turn {
+        steps: &[Step::Delete(("t", r#"{"name":"a"}"#, r#"{"name":"a"}"#))],
+        commits: true,
+        items: &[],
+        changes: &[(r#"{"name":"a"}"#, "none")],
+        number: 3,
+        questions: &[],
+    },
+];
+
+/// Each way in which a row can come and go within one commit, one after the other.
+static WAYS: [Turn; 16] = [
+    // nothing is done
+    Turn {
+        steps: &[],
+        commits: true,
+        items: &[],
+        changes: &[],
+        number: 1,
+        questions: &[],
+    },
+    // insert, then delete
+    Turn {
+        steps: &[
+            Step::Insert(("t", r#"{"name":"a"}"#, "inserted")),
+            Step::Delete(("t", r#"{"name":"a"}"#, r#"{"name":"a"}"#)),
+        ],
+        commits: true,
+        items: &[],
+        changes: &[],
+        number: 2,
+        questions: &[],
+    },
+    // insert, delete, insert
+    Turn {
+        steps: &[
+            Step::Insert(("t", r#"{"name":"a"}"#, "inserted")),
+            Step::Delete(("t", r#"{"name":"a"}"#, r#"{"name":"a"}"#)),
+            Step::Insert(("t", r#"{"name":"a","n":1}"#, "inserted")),
+        ],
+        commits: true,
+        items: &[],
+        changes: &[("none", r#"{"n":1,"name":"a"}"#)],
+        number: 3,
+        questions: &[],
+    },
+    // delete, then insert the same
+    Turn {
+        steps: &[
+            Step::Delete(("t", r#"{"name":"a"}"#, r#"{"n":1,"name":"a"}"#)),
+            Step::Insert(("t", r#"{"n":1,"name":"a"}"#, "inserted")),
+        ],
+        commits: true,
+        items: &[],
+        changes: &[],
+        number: 4,
+        questions: &[],
+    },
+    // delete, then insert another of the same key
+    Turn {
+        steps: &[
+            Step::Delete(("t", r#"{"name":"a"}"#, r#"{"n":1,"name":"a"}"#)),
+            Step::Insert(("t", r#"{"n":2,"name":"a"}"#, "inserted")),
+        ],
+        commits: true,
+        items: &[],
+        changes: &[(r#"{"n":1,"name":"a"}"#, r#"{"n":2,"name":"a"}"#)],
+        number: 5,
+        questions: &[],
+    },
+    // put twice
+    Turn {
+        steps: &[
+            Step::Insert(("t", r#"{"n":3,"name":"a"}"#, "replaced")),
+            Step::Insert(("t", r#"{"n":4,"name":"a"}"#, "replaced")),
+        ],
+        commits: true,
+        items: &[],
+        changes: &[(r#"{"n":2,"name":"a"}"#, r#"{"n":4,"name":"a"}"#)],
+        number: 6,
+        questions: &[],
+    },
+    // put another, then the old one
+    Turn {
+        steps: &[
+            Step::Insert(("t", r#"{"n":5,"name":"a"}"#, "replaced")),
+            Step::Insert(("t", r#"{"n":4,"name":"a"}"#, "replaced")),
+        ],
+        commits: true,
+        items: &[],
+        changes: &[],
+        number: 7,
+        questions: &[],
+    },
+    // put the same members in another order
+    Turn {
+        steps: &[Step::Insert(("t", r#"{"name":"a","n":4}"#, "replaced"))],
+        commits: true,
+        items: &[],
+        changes: &[],
+        number: 8,
+        questions: &[],
+    },
+    // put, then delete a row that was there
+    Turn {
+        steps: &[
+            Step::Insert(("t", r#"{"n":6,"name":"a"}"#, "replaced")),
+            Step::Delete(("t", r#"{"name":"a"}"#, r#"{"n":6,"name":"a"}"#)),
+        ],
+        commits: true,
+        items: &[],
+        changes: &[(r#"{"n":4,"name":"a"}"#, "none")],
+        number: 9,
+        questions: &[],
+    },
+    // put two anew, twice
+    Turn {
+        steps: &[
+            Step::Insert(("t", r#"{"name":"b"}"#, "inserted")),
+            Step::Insert(("t", r#"{"name":"a"}"#, "inserted")),
+            Step::Insert(("t", r#"{"n":1,"name":"b"}"#, "replaced")),
+            Step::Insert(("t", r#"{"n":1,"name":"a"}"#, "replaced")),
+        ],
+        commits: true,
+        items: &[],
+        changes: &[
+            ("none", r#"{"n":1,"name":"a"}"#),
+            ("none", r#"{"n":1,"name":"b"}"#),
+        ],
+        number: 10,
+        questions: &[],
+    },
+    // wipe, then insert one of them again
+    Turn {
+        steps: &[
+            Step::Wipe((Ask::Get, "t", "id", "[]"), 2),
+            Step::Insert(("t", r#"{"n":1,"name":"b"}"#, "inserted")),
+        ],
+        commits: true,
+        items: &[],
+        changes: &[(r#"{"n":1,"name":"a"}"#, "none")],
+        number: 11,
+        questions: &[],
+    },
+    // wipe, then insert others of the same keys
+    Turn {
+        steps: &[
+            Step::Wipe((Ask::Get, "t", "id", "[]"), 1),
+            Step::Insert(("t", r#"{"n":2,"name":"b"}"#, "inserted")),
+            Step::Insert(("t", r#"{"name":"ab"}"#, "inserted")),
+        ],
+        commits: true,
+        items: &[],
+        changes: &[
+            ("none", r#"{"name":"ab"}"#),
+            (r#"{"n":1,"name":"b"}"#, r#"{"n":2,"name":"b"}"#),
+        ],
+        number: 12,
+        questions: &[],
+    },
+    // insert, then wipe by a prefix of the name
+    Turn {
+        steps: &[
+            Step::Insert(("t", r#"{"name":"a"}"#, "inserted")),
+            Step::Wipe((Ask::Get, "t", "id_prefix", r#"["a"]"#), 2),
+        ],
+        commits: true,
+        items: &[],
+        changes: &[(r#"{"name":"ab"}"#, "none")],
+        number: 13,
+        questions: &[],
+    },
+    // only the other table
+    Turn {
+        steps: &[
+            Step::Insert(("u", r#"{"name":"b"}"#, "inserted")),
+            Step::Delete(("t", r#"{"name":"x"}"#, "not-found")),
+        ],
+        commits: true,
+        items: &[],
+        changes: &[],
+        number: 14,
+        questions: &[],
+    },
+    // both tables
+    Turn {
+        steps: &[
+            Step::Wipe((Ask::Get, "u", "id", "[]"), 1),
+            Step::Insert(("u", r#"{"name":"c"}"#, "inserted")),
+            Step::Insert(("t", r#"{"name":"c"}"#, "inserted")),
+        ],
+        commits: true,
+        items: &[],
+        changes: &[("none", r#"{"name":"c"}"#)],
+        number: 15,
+        questions: &[],
+    },
+    // all goes
+    Turn {
+        steps: &[
+            Step::Wipe((Ask::Get, "t", "id", "[]"), 2),
+            Step::Wipe((Ask::Get, "u", "id", "[]"), 1),
+        ],
+        commits: true,
+        items: &[],
+        changes: &[
+            (r#"{"n":2,"name":"b"}"#, "none"),
+            (r#"{"name":"c"}"#, "none"),
+        ],
+        number: 16,
+        questions: &[],
+    },
+];
+
+/// The schema and the turns of a script.
+fn script_of(number: u32) -> (&'static str, &'static [Turn]) {
     match number {
-        0 => &PUTS,
-        1 => &MAILED,
-        2 => &REFUSED,
-        3 => &WIPED,
-        4 => &ABORTED,
-        5 => &DEFERRED,
-        _ => &BOUNDED,
+        0 => (SCHEMA, &PUTS),
+        1 => (SCHEMA, &MAILED),
+        2 => (SCHEMA, &REFUSED),
+        3 => (SCHEMA, &WIPED),
+        4 => (SCHEMA, &ABORTED),
+        5 => (SCHEMA, &DEFERRED),
+        6 => (SCHEMA, &BOUNDED),
+        7 => (TRACKED, &TURNED),
+        _ => (TRACKED, &WAYS),
     }
+}
+
+/// Whether the transactions of a script are answered so.
+fn is_script<R: Wait>(rt: &R, alloc: Global, number: u32) -> Told {
+    let (schema, turns) = script_of(number);
+    let mut script = Script {
+        turns,
+        at: 0,
+        kept: None,
+    };
+    plays(rt, alloc, schema, &mut script, turns.len())
 }
 
 #[test]
 fn transactions_are_answered(rt: HostRuntime) -> Result<(), Fail> {
-    for number in 0..7 {
-        assert!(rt;
-            is_script(&rt, rt.alloc(), script_of(number))?,
-            "script {number}"
-        );
+    for number in 0..9 {
+        assert!(rt; is_script(&rt, rt.alloc(), number)?, "script {number}");
     }
     Ok(())
 }

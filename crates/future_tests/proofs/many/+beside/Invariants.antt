@@ -2,13 +2,10 @@ use Rattle.std.proofs.Common.{◌+◌, ◌*◌}
 use Rattle.future_tests.proofs.many.+beside.Given as goal
 
 abbrev pub decreases-are_right : goal.decreases-are_right
-decreases-are_right g l = 4 * l.left + 3
-
-abbrev pub decreases-are_right_in : goal.decreases-are_right_in
-decreases-are_right_in g l = 4 * l.left + 2
+decreases-are_right g l = 3 * l.left + 2
 
 abbrev pub decreases-are_right_over : goal.decreases-are_right_over
-decreases-are_right_over g l = 4 * l.left + 1
+decreases-are_right_over g l = 3 * l.left + 1
 
 abbrev pub decreases-go_on : goal.decreases-go_on
-decreases-go_on g l = 4 * l.left
+decreases-go_on g l = 3 * l.left

@@ -1,4 +1,4 @@
--- The closure borrows five things. Each is shown by itself, and then their tuple.
+-- The closure borrows six things. Each is shown by itself, and then their tuple.
 use base.Fml.{Lft}
 use denote.Param.{param}
 use denote.Param.Send.{IsSend, arg_send, param_send, sendable}
@@ -9,9 +9,10 @@ use mathlib.Core.List.{[], ◌∷◌}
 use mir.Syntax.{Lifetime, Sym}
 use Rattle.std.specs.contracts.alloc.Global
 use Rattle.std.specs.contracts.option.Option
-use Rattle.mem_txn.proofs.Threads.{db_lent, heap_lent, pass_lent}
+use Rattle.mem_txn.proofs.Threads.{db_lent, heap_lent, pass_lent, read_lent}
 use Rattle.mem_txn.specs.contracts.db.Db
 use Rattle.mem_txn.specs.contracts.pass.Pass
+use Rattle.mem_txn.specs.contracts.read_txn.ReadTxn
 use Rattle.txn_tests.proofs.txns.four_callers.two_run.Goals as goal
 
 pub join_mut-told-requires-send-F : goal.join_mut-told-requires-send-F
@@ -21,10 +22,11 @@ join_mut-told-requires-send-F g c κs within =
     in
     let number_lent : (ℓ : Lifetime) (κ : Lft) → IsSend (ShrRef ℓ κ u32-field.row) = λ ℓ κ. search sendable in
     let all_lent :
-    (ν : Sym) (r h d p n : NamedLft)
+    (ν : Sym) (r h d k p n : NamedLft)
     → IsSend (TupleAt ν ((shr_ref_field r (param 0 g.row.R) tt).row
     ∷ (shr_ref_field h Global.the_row tt).row ∷ (shr_ref_field d Db.the_row tt).row
-    ∷ (mut_ref_field p (Option.the_row Pass.the_row) tt).row ∷ (shr_ref_field n u32-field.row tt).row ∷ [])) =
-    λ ν r h d p n. search (sendable, runtime_lent, heap_lent, db_lent, pass_lent, number_lent) depth 20
+    ∷ (shr_ref_field k ReadTxn.the_row tt).row ∷ (mut_ref_field p (Option.the_row Pass.the_row) tt).row
+    ∷ (shr_ref_field n u32-field.row tt).row ∷ [])) =
+    λ ν r h d k p n. search (sendable, runtime_lent, heap_lent, db_lent, read_lent, pass_lent, number_lent) depth 20
     in
     search (param_send, arg_send, all_lent)

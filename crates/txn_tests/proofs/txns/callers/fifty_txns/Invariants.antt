@@ -1,5 +1,0 @@
-use Rattle.mem_txn.specs.CallerOf.{IsCaller}
-use Rattle.txn_tests.proofs.txns.callers.fifty_txns.Given as goal
-
-abbrev pub invariant-loop-own : goal.invariant-loop-own
-invariant-loop-own g l = IsCaller l.db l.initial.pass.number l.pass
