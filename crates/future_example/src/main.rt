@@ -1,8 +1,9 @@
 //! A wait without a thread that waits: a future over a set of watches, and a writer on its thread.
 //!
 //! Two callers share one thread. The first watches a service, and its future is polled. The second
-//! writes that the service is down, and behind that commit the future is polled again. All texts
-//! stand here. So one that is refused counts as want of memory.
+//! writes that the service is down, and behind that commit the future is polled again. The schema
+//! and the rows are constants of this file and known to be right, so where reading one fails, the
+//! error is `AllocError`.
 #![tactic(auto)]
 
 ghost use Rattle.std.specs.Prelude.{◌≡◌, ◌<◌, [], IfErr, IfOk, None, length};
@@ -178,7 +179,7 @@ fn poll_once<'a, R: Wait>(
 }
 
 /// Polls a future once and ends it. A future that is still pending has the pass, and its end gives
-/// it back. That counts as want of memory.
+/// it back. That counts as out of memory.
 #[tactic(auto, using(watch_future::proofs::Ended::ended_gives))]
 fn poll_last<'a, R: Wait>(task: &Solo, future: WatchFuture<'a, R>) -> Given<'a>
     requires { CanBePolled future }

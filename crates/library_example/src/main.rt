@@ -1,8 +1,8 @@
 //! A database as a library: it is created, written, read, watched, waited for and closed.
 //!
 //! Two callers write at the same time, each on a thread of its own. Then one of them reads and
-//! watches, and the other writes. All texts stand here. So one that is refused counts as want of
-//! memory.
+//! watches, and the other writes. The schema and the rows are constants of this file and known to be
+//! right, so where reading one fails, the error is `AllocError`.
 #![tactic(auto)]
 
 ghost use Rattle.std.specs.Prelude.{◌≡◌, [], IfOk, Some};
