@@ -4,10 +4,12 @@ ghost use Rattle.std.specs.Prelude.{IsOk, IsSomeAnd, IfOk, OnOk, OnErr, IfSome};
 ghost use Rattle.std.specs.Io.KnownBytes.{ReadConsumes};
 ghost use Rattle.mdb_ports.specs.Streams.{GoesTo, stream};
 
+use crate::Failed;
+use crate::fault::failed;
 use crate::retry::read_retrying;
 use arrayvec::ArrayString;
 use std::fs;
-use std::io::{self, ErrorKind, Read, Seek, SeekFrom};
+use std::io::{Read, Seek, SeekFrom};
 use std::rt::Files as HostFiles;
 
 /// The room for a name, in bytes. The host opens no file by a longer one.
@@ -45,7 +47,7 @@ pub(crate) fn read_piece<R: HostFiles>(
     name: &str,
     at: u64,
     into: &mut [u8],
-) -> io::Result<usize>
+) -> Result<usize, Failed>
     ensures bound { IfOk result (λ n. n ≤ length into.old) }
     ensures kept { IfOk result (λ n. IsSomeAnd opened.new
         (λ f. (f.name.bytes ≡ name.now) × (f.place ≡ min (at + n) (2 ^ 64 - 1)))) }
@@ -67,7 +69,7 @@ fn read_kept<F: Read + Seek + Drop>(
     mut file: NamedFile<F>,
     at: u64,
     into: &mut [u8],
-) -> io::Result<usize>
+) -> Result<usize, Failed>
     requires { opened.old ≡ None }
     ensures bound { IfOk result (λ n. n ≤ length into.old) }
     ensures kept { IfOk result (λ n. IsSomeAnd opened.new
@@ -89,7 +91,7 @@ fn file_named<R: HostFiles>(
     rt: &R,
     opened: Option<NamedFile<R::File>>,
     name: &str,
-) -> io::Result<NamedFile<R::File>>
+) -> Result<NamedFile<R::File>, Failed>
     ensures same { IfSome opened (λ f. f.name.bytes ≡ name.now → result ≡ Ok f) }
     ensures named { IfOk result (λ f. f.name.bytes ≡ name.now) }
     ensures front { IfSome opened (λ f. f.name.bytes ≢ name.now → IfOk result (λ g. g.place ≡ 0)) }
@@ -102,19 +104,19 @@ fn file_named<R: HostFiles>(
 }
 
 /// Opens the file of this name.
-fn open_named<R: HostFiles>(rt: &R, name: &str) -> io::Result<NamedFile<R::File>>
+fn open_named<R: HostFiles>(rt: &R, name: &str) -> Result<NamedFile<R::File>, Failed>
     ensures { IfOk result (λ f. (f.name.bytes ≡ name.now) × (f.place ≡ 0)) }
 {
     let Ok(kept) = ArrayString::from(name) else {
-        return Err(io::Error::from(ErrorKind::InvalidFilename));
+        return Err(Failed);
     };
-    Ok(NamedFile::at_front(kept, fs::open(rt, name)?))
+    Ok(NamedFile::at_front(kept, failed(fs::open(rt, name))?))
 }
 
 impl<F: Read + Seek> NamedFile<F> {
     /// Reads bytes from an offset on into the front of a buffer, and gives how many. Where the file
     /// stands there it is only read, so a file that can't seek serves too, in order.
-    pub(crate) fn read_from(&mut self, at: u64, into: &mut [u8]) -> io::Result<usize>
+    pub(crate) fn read_from(&mut self, at: u64, into: &mut [u8]) -> Result<usize, Failed>
         ensures bound { IfOk result (λ n. n ≤ length into.old) }
         ensures place { IfOk result (λ n. self.new.place ≡ min (at + n) (2 ^ 64 - 1)) }
         ensures name { self.new.name ≡ self.old.name }
@@ -124,13 +126,13 @@ impl<F: Read + Seek> NamedFile<F> {
             × ReadConsumes (F.remaining there) (F.remaining self.new.file) result into.new) }
     {
         self.stand_at(at)?;
-        let n = read_retrying(&mut self.file, into)?;
+        let n = failed(read_retrying(&mut self.file, into))?;
         self.place = at.saturating_add(n as u64);
         Ok(n)
     }
 
     /// Goes to an offset, where the file doesn't stand there.
-    fn stand_at(&mut self, at: u64) -> io::Result<()>
+    fn stand_at(&mut self, at: u64) -> Result<(), Failed>
         ensures stands { OnOk result (self.new.place ≡ at) }
         ensures name { self.new.name ≡ self.old.name }
         ensures there { self.old.place ≡ at → IsOk result }
@@ -138,7 +140,7 @@ impl<F: Read + Seek> NamedFile<F> {
             OnOk result (GoesTo (told self.old.file) self.old.place at (told self.new.file)) }
     {
         if self.place != at {
-            self.file.seek(SeekFrom::Start(at))?;
+            failed(self.file.seek(SeekFrom::Start(at)))?;
             self.place = at;
         }
         Ok(())

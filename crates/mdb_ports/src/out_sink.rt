@@ -4,7 +4,7 @@ ghost use Rattle.std.specs.Io.KnownBytes.{Appends, Keeps};
 ghost use Rattle.mdb_ports.specs.Faults.{HasCause};
 ghost use Rattle.mdb_ports.specs.Sink.{Grows, untold};
 
-use crate::fault::counted;
+use crate::fault::{counted, failed};
 use crate::retry::write_retrying;
 use crate::{Failed, Sink};
 use std::io::{self, Printer, Write};
@@ -58,7 +58,7 @@ impl<W: Write> Sink for OutSink<W> {
             (λ n. Appends self.old.written self.new.written (take n piece.now)) }
         ensures unwritten { OnErr result (Keeps self.old.written self.new.written) }
     {
-        let outcome = write_retrying(&mut self.to, piece);
+        let outcome = failed(write_retrying(&mut self.to, piece));
         counted(outcome, &mut self.faults)
     }
 }
