@@ -13,7 +13,7 @@ ghost use Rattle.table_index.specs.declared.pieces.Part.TheVariants as part;
 use crate::net::NetList;
 use crate::pieces::{Part, Pieces};
 use mdb_datum::Row;
-use radix_node::{Leaf, Tree};
+use radix_node::{Edge, Leaf, Tree};
 use std::alloc::{AllocError, Global};
 use std::cmp::Ordering;
 
@@ -127,8 +127,7 @@ fn step_new<'a>(
     }
 }
 
-/// A step where both trees have pieces left. One that both have is passed over; else nodes are
-/// entered, until there are two leaves.
+/// A step where both trees have pieces left. One that both have is passed over.
 fn step_both<'a, 'b>(
     one: Part<'a>,
     other: Part<'b>,
@@ -147,22 +146,52 @@ fn step_both<'a, 'b>(
         new.pass();
         return Ok(true);
     }
-    match (one, other) {
-        (Part::Leaf(leaf), Part::Leaf(beside)) => step_leaves(leaf, beside, old, new, net),
-        (Part::Leaf(_), Part::Under(edge)) => {
+    match one {
+        Part::Leaf(leaf) => step_at_leaf(leaf, other, old, new, net),
+        Part::Under(edge) => step_under(edge, other, old, new, net),
+    }
+}
+
+/// A step where a leaf of the old tree comes first.
+fn step_at_leaf<'a, 'b>(
+    leaf: &'a Leaf,
+    other: Part<'b>,
+    old: &mut Pieces<'a>,
+    new: &mut Pieces<'b>,
+    net: &mut NetList,
+) -> Result<bool, AllocError>
+    requires one { old.old.front ≡ Some (part.Leaf leaf) }
+    requires other { new.old.front ≡ Some other }
+    ensures { IfOk result (λ more. AnswersStep more (pieces_at old.old) (pieces_at new.old) net.old
+        (pieces_at old.new) (pieces_at new.new) net.new) }
+{
+    match other {
+        Part::Leaf(beside) => step_leaves(leaf, beside, old, new, net),
+        Part::Under(edge) => {
             new.enter(edge)?;
             Ok(true)
         }
-        (Part::Under(edge), Part::Leaf(_)) => {
-            old.enter(edge)?;
-            Ok(true)
-        }
-        (Part::Under(edge), Part::Under(beside)) => {
-            old.enter(edge)?;
-            new.enter(beside)?;
-            Ok(true)
-        }
     }
+}
+
+/// A step where a node of the old tree comes first, which is entered, as one of the new tree is.
+fn step_under<'a, 'b>(
+    edge: &'a Edge,
+    other: Part<'b>,
+    old: &mut Pieces<'a>,
+    new: &mut Pieces<'b>,
+    net: &mut NetList,
+) -> Result<bool, AllocError>
+    requires one { old.old.front ≡ Some (part.Under edge) }
+    requires other { new.old.front ≡ Some other }
+    ensures { IfOk result (λ more. AnswersStep more (pieces_at old.old) (pieces_at new.old) net.old
+        (pieces_at old.new) (pieces_at new.new) net.new) }
+{
+    old.enter(edge)?;
+    if let Part::Under(beside) = other {
+        new.enter(beside)?;
+    }
+    Ok(true)
 }
 
 /// A step past two leaves, or past that of the lower key.

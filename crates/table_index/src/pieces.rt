@@ -1,7 +1,8 @@
 //! The pieces of a tree in turn: leaves, and nodes that are passed over or entered.
-ghost use Rattle.std.specs.Prelude.{◌≡◌, ◌++◌, ◌∷◌, [], IfNone, IfOk, OnOk, Some};
+ghost use Rattle.std.specs.Prelude.{◌≡◌, ◌++◌, ◌∷◌, [], IfNone, IfOk, IfSome, OnOk, Some};
 ghost use Rattle.radix_node.specs.CellNode.{cell_node, led_node};
 ghost use Rattle.radix_node.specs.Cells.{a_node, leaf_pieces, node_pieces, piece_cell};
+ghost use Rattle.table_index.specs.inner.PiecesIn.{all_of};
 ghost use Rattle.table_index.specs.inner.PiecesLeft.{level_pieces, part_piece, part_pieces};
 ghost use Rattle.table_index.specs.inner.PiecesLeft.{pieces_at, pieces_left};
 ghost use Rattle.table_index.specs.declared.pieces.Part.TheVariants as part;
@@ -35,14 +36,29 @@ pub(crate) struct Level<'a> {
     edges: &'a [Edge],
 }
 
-/// All of a node but itself.
-fn level_of(node: &Node) -> Level<'_>
-    ensures { let n = cell_node node.now in
-        level_pieces result ≡ leaf_pieces n.leaf ++ node_pieces n.under }
-{
-    Level {
-        own: node.leaf(),
-        edges: node.edges().iter().as_slice(),
+impl<'a> Level<'a> {
+    /// All of a node but itself.
+    fn of(node: &'a Node) -> Level<'a>
+        ensures { let n = cell_node node.now in
+            level_pieces result ≡ leaf_pieces n.leaf ++ node_pieces n.under }
+    {
+        Level {
+            own: node.leaf(),
+            edges: node.edges().iter().as_slice(),
+        }
+    }
+
+    /// The first piece, if one is left, and what comes after it.
+    fn split_first(self) -> Option<(Part<'a>, Level<'a>)>
+        ensures first { IfSome result
+            (λ split. level_pieces self.entry ≡ all_of (part_piece split.0) ++ level_pieces split.1) }
+        ensures end { IfNone result (level_pieces self.entry ≡ []) }
+    {
+        if let Some(leaf) = self.own {
+            return Some((Part::Leaf(leaf), Level { own: None, ..self }));
+        }
+        let (edge, edges) = self.edges.split_first()?;
+        Some((Part::Under(edge), Level { own: None, edges }))
     }
 }
 
@@ -60,7 +76,7 @@ impl<'a> Pieces<'a> {
             IfOk result (λ p. pieces_at p ≡ leaf_pieces n.leaf ++ node_pieces n.under) }
     {
         let mut levels = Vec::new(alloc);
-        levels.push(level_of(root))?;
+        levels.push(Level::of(root))?;
         Ok(Pieces {
             front: None,
             levels,
@@ -91,7 +107,7 @@ impl<'a> Pieces<'a> {
         requires { self.old.front ≡ Some (part.Under edge) }
         ensures { OnOk result (pieces_at self.old ≡ a_node (led_node edge.now) ∷ pieces_at self.new) }
     {
-        self.levels.push(level_of(edge.node()))?;
+        self.levels.push(Level::of(edge.node()))?;
         self.front = None;
         Ok(())
     }
@@ -105,25 +121,15 @@ fn next_part<'a>(levels: &mut Vec<Level<'a>>) -> Option<Part<'a>>
     ensures end { IfNone result (pieces_left levels.new.items ≡ []) }
 {
     while let Some(level) = levels.last() {
-        let Level { own, edges } = *level;
-        let at = levels.len() - 1;
-        match own {
-            Some(leaf) => {
-                levels[at] = Level { own: None, edges };
-                return Some(Part::Leaf(leaf));
+        match level.split_first() {
+            Some((part, rest)) => {
+                let at = levels.len() - 1;
+                levels[at] = rest;
+                return Some(part);
             }
-            None => match edges.split_first() {
-                Some((edge, rest)) => {
-                    levels[at] = Level {
-                        own: None,
-                        edges: rest,
-                    };
-                    return Some(Part::Under(edge));
-                }
-                None => {
-                    levels.pop();
-                }
-            },
+            None => {
+                levels.pop();
+            }
         }
     }
     None

@@ -11,5 +11,5 @@ returns c =
     let items = c.args.self.now.levels.items in
     let n = led_node c.args.edge.now in
     ap (λ (p : Option Part). part_pieces p ++ pieces_left items) c.requires
-    ∙ ap (λ (ps : List Piece). a_node n ∷ (ps ++ pieces_left items)) (sym {A = List Piece} (c.level_of.ensures ∙ ap (λ (m : CellNode). leaf_pieces m.leaf ++ node_pieces m.under) c.node.ensures.cells))
-    ∙ ap (λ (ps : List Piece). a_node n ∷ ps) (sym (left_snoc items c.level_of.result) ∙ ap pieces_left (sym c.in_ok-push.ensures.items))
+    ∙ ap (λ (ps : List Piece). a_node n ∷ (ps ++ pieces_left items)) (sym {A = List Piece} (c.of.ensures ∙ ap (λ (m : CellNode). leaf_pieces m.leaf ++ node_pieces m.under) c.node.ensures.cells))
+    ∙ ap (λ (ps : List Piece). a_node n ∷ ps) (sym (left_snoc items c.of.result) ∙ ap pieces_left (sym c.in_ok-push.ensures.items))
