@@ -1,4 +1,4 @@
-use Rattle.std.proofs.Common.{◌≡◌, ◌<◌, ◌∙◌, ℕ, None, get_or, length, map, arith, subst, refl}
+use Rattle.std.proofs.Common.{rules, ◌≡◌, ◌<◌, ◌∙◌, ℕ, None, get_or, length, map, arith, subst, refl}
 use Rattle.std.proofs.lemmas.List.{length-map}
 use Rattle.std.proofs.lemmas.Option.{slice_get-get_or}
 use Rattle.run_check.specs.declared.commits.Committed as commits
@@ -42,3 +42,23 @@ returns c =
     let commits = c.args.commits.now in
     let done : c.loop-at.at ≡ length c.args.order.now = omega (arith, c.loop-at-test.false, c.loop-at.auto.at-end) in
     subst (λ (n : ℕ). HasMade c.args.schema.now (map (committed_of c.args.scripts.now) commits) n c.loop-at.store) (done ∙ c.requires.whole ∙ length-map commits (committed_of c.args.scripts.now)) c.loop-at.invariant
+
+pub bounds-commits-place : goal.bounds-commits-place
+bounds-commits-place c =
+    let cs = c.args.commits.now in
+    let order = c.args.order.now in
+    let at = c.loop-at.at in
+    let within : at < length order = omega (arith, c.loop-at-test.true) in
+    let there = slice_get-get_or order at 0 within in
+    let low : get_or order at 0 < length cs = subst (λ (n : ℕ). get_or order at 0 < n) (length-map cs (committed_of c.args.scripts.now)) (c.requires.within at (get_or order at 0) there) in
+    omega (arith, low)
+
+pub offset_bounds-commits-place : goal.offset_bounds-commits-place
+offset_bounds-commits-place c =
+    let cs = c.args.commits.now in
+    let order = c.args.order.now in
+    let at = c.loop-at.at in
+    let within : at < length order = omega (arith, c.loop-at-test.true) in
+    let there = slice_get-get_or order at 0 within in
+    let low : get_or order at 0 < length cs = subst (λ (n : ℕ). get_or order at 0 < n) (length-map cs (committed_of c.args.scripts.now)) (c.requires.within at (get_or order at 0) there) in
+    search rules

@@ -51,3 +51,10 @@ returns-in-Defer c = record {
       (turn_told_or_refused schema H txns (defer_turn (known txns c.args.knows.now) c.in-Defer.text) (known txns c.args.knows.now) c.args.self.now.text.items c.defer.new.self c.defer.new.knows c.defer.result (c.defer.ensures.told schema txns)
       (c.defer.ensures.keeps schema H txns knows) (c.defer.ensures.refuses schema H txns knows));
 }
+
+pub returns-in-Watches : goal.returns-in-Watches
+returns-in-Watches c = record {
+  told = λ schema H txns knows due empty.
+      subst (λ (x : Command). TellsLine schema H (c.args.client + 1) x c.args.text.now (known txns c.args.knows.now) c.watches.new.self c.watches.new.knows c.watches.result) (sym c.in-Watches.is)
+      (c.watches.ensures.told schema H txns knows due empty);
+}

@@ -88,3 +88,10 @@ returns-in_ok-both-in-WaitUntil c = record {
       subst (λ (l : WatchesCommand). TellsLine schema H client (commands.Watches l) text before c.wait-in-WaitUntil.new.self c.wait-in-WaitUntil.new.knows c.wait-in-WaitUntil.result) (sym c.in-WaitUntil.is)
       (c.wait-in-WaitUntil.ensures.told schema H txns (watches_lines.WaitUntil set until) found.0 (Some found.1) knows due empty judged there.0 there.1);
 }
+
+pub returns-in-Check : goal.returns-in-Check
+returns-in-Check c = record {
+  told = λ schema H txns knows due empty.
+      subst (λ (l : WatchesCommand). TellsLine schema H (c.args.client + 1) (commands.Watches l) c.args.text.now (known txns c.args.knows.now) c.check.new.self c.check.new.knows c.check.result) (sym c.in-Check.is)
+      (c.check.ensures.told schema H txns knows due empty);
+}
