@@ -4,6 +4,8 @@
 ghost use Rattle.std.specs.Prelude.{◌<◌};
 
 use super::Done;
+use rand_core::{Rng, SeedableRng};
+use rand_xoshiro::Xoshiro256PlusPlus;
 use std::alloc::{AllocError, Global};
 
 pub static SCHEMA: &str = r#"{"memdb":1,"tables":{"t":{"indexes":{
@@ -113,22 +115,22 @@ static ASKS: [&str; 7] = [
     "longest",
 ];
 
-/// Numbers by Marsaglia's shifts, the same in each run.
+/// Drawn numbers, the same in each run.
 #[derive(Drop)]
-pub struct Random(pub u64);
+pub struct Random(Xoshiro256PlusPlus);
 
 impl Random {
+    /// The numbers of a seed.
+    pub fn from(seed: u64) -> Random {
+        Random(Xoshiro256PlusPlus::seed_from_u64(seed))
+    }
+
     /// A number below a bound.
     fn below(&mut self, bound: u64) -> u64
         requires { 0 < bound }
         ensures { result < bound }
     {
-        let mut x = self.0;
-        x ^= x << 13;
-        x ^= x >> 7;
-        x ^= x << 17;
-        self.0 = x;
-        x % bound
+        self.0.next_u64() % bound
     }
 
     /// One of some texts.

@@ -8,6 +8,8 @@ use super::both::{Both, Ended, Told};
 use crate::ending::holds;
 use crate::walks::{are_asked, are_asked_around};
 use radix_node::{Left, Tree};
+use rand_core::{Rng, SeedableRng};
+use rand_xoshiro::Xoshiro256PlusPlus;
 use std::alloc::{AllocError, Global};
 use std::collections::BTreeSet;
 use std::sync::Arc;
@@ -51,9 +53,9 @@ struct Run {
     around: bool,
 }
 
-/// Numbers by Marsaglia's shifts, the same in each run.
+/// Drawn numbers, the same in each run.
 #[derive(Drop)]
-struct Random(u64);
+struct Random(Xoshiro256PlusPlus);
 
 impl Random {
     /// A number below a bound.
@@ -61,12 +63,7 @@ impl Random {
         requires { 0 < bound }
         ensures { result < bound }
     {
-        let mut x = self.0;
-        x ^= x << 13;
-        x ^= x >> 7;
-        x ^= x << 17;
-        self.0 = x;
-        x % bound
+        self.0.next_u64() % bound
     }
 
     /// A key of up to so many letters, six at most, or a word.
@@ -213,7 +210,7 @@ fn transaction(random: &mut Random, both: &mut Both, run: &Run) -> Told {
 
 /// The same of all transactions of a run.
 fn is_right(alloc: Global, run: &Run) -> Told {
-    let mut random = Random(0x9e37_79b9_7f4a_7c15);
+    let mut random = Random(Xoshiro256PlusPlus::seed_from_u64(1));
     let mut both = Both::new(alloc)?;
     for _ in 0..run.transactions {
         if !transaction(&mut random, &mut both, run)? {

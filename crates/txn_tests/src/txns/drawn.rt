@@ -3,6 +3,8 @@ ghost use Rattle.std.specs.Prelude.{◌<◌};
 
 use super::steps::{Asked, Line};
 use mdb_schema::Ask;
+use rand_core::{Rng, SeedableRng};
+use rand_xoshiro::Xoshiro256PlusPlus;
 use std::alloc::{AllocError, Global};
 
 /// Six names, each at three ages.
@@ -41,7 +43,7 @@ impl Drawn {
     /// No rows, before a sequence.
     pub fn from(seed: u64) -> Drawn {
         Drawn {
-            random: Random(seed),
+            random: Random(Xoshiro256PlusPlus::seed_from_u64(seed)),
             plain: [None; 12],
         }
     }
@@ -75,9 +77,9 @@ pub static QUESTIONS: [Asked; 5] = [
     ((Ask::Get, "notes", "id", "[]"), "{"),
 ];
 
-/// Numbers by Marsaglia's shifts, the same in each run.
+/// Drawn numbers, the same in each run.
 #[derive(Drop)]
-pub struct Random(pub u64);
+pub struct Random(Xoshiro256PlusPlus);
 
 impl Random {
     /// A number below a bound.
@@ -85,12 +87,7 @@ impl Random {
         requires { 0 < bound }
         ensures { result < bound }
     {
-        let mut x = self.0;
-        x ^= x << 13;
-        x ^= x >> 7;
-        x ^= x << 17;
-        self.0 = x;
-        x % bound
+        self.0.next_u64() % bound
     }
 
     /// A question.

@@ -311,13 +311,8 @@ impl Rounds for Long {
 /// Whether so many transactions are right in a database of this schema, and three in four of them
 /// or so are commits.
 fn is_long<R: Wait>(rt: &R, alloc: Global, schema: &str, tracked: bool, count: usize) -> Told {
-    let seed = if tracked {
-        0x853c_49e6_748f_ea9b
-    } else {
-        0x9e37_79b9_7f4a_7c15
-    };
     let mut long = Long {
-        drawn: Drawn::from(seed),
+        drawn: Drawn::from(u64::from(tracked)),
         before: [None; 12],
         tracked,
         turns: 0,

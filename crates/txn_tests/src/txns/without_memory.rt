@@ -139,7 +139,7 @@ fn are_tried<R: Wait>(rt: &R, alloc: Global, db: &Db, pass: Pass, other: &mut Pa
     ensures own { IsCaller db.now 1 result.0 }
     ensures other { IsCaller db.now 2 other.new }
 {
-    let mut drawn = Drawn::from(0x2545_f491_4f6c_dd1d);
+    let mut drawn = Drawn::from(3);
     let mut pass = pass;
     for _ in 0..12 {
         let (next, told) = try_read(rt, alloc, db, pass, other, &mut drawn);
