@@ -1,8 +1,9 @@
 -- The command line as `clap` is told it, and what it gives of it.
-use Rattle.std.specs.Prelude.{◌≡◌, ◌≤◌, ℕ, false, true, List, [], ◌∷◌, length, if◌then◌else◌, Option, Some, None, codes, option_map, option_and_then, ⊤}
+use Rattle.std.specs.Prelude.{◌≡◌, ◌≤◌, ℕ, Ok, Result, false, true, List, [], ◌∷◌, length, if◌then◌else◌, Option, Some, None, codes, option_map, option_and_then, ⊤}
 use Rattle.std.specs.List.{list_all}
 use Rattle.std.specs.Str.{bytes_eq}
-use Rattle.clap.specs.Words.{App, Row, Rule, Text, all_of, first_of, new_app, new_rule, subcommand_rows_of, with_rule, with_subcommand}
+use Rattle.std.specs.declared.alloc.AllocError.{AllocError}
+use Rattle.clap.specs.Words.{App, Row, Rule, Text, all_of, app_of, first_of, new_app, new_rule, subcommand_rows_of, with_rule, with_subcommand}
 use Rattle.clap.specs.Simple.{on_top}
 use Rattle.clap.specs.declared.builder.command.Command.{Command}
 use Rattle.clap.specs.declared.builder.command.Command.TheViews.{out-Command}
@@ -37,6 +38,12 @@ check_app = with_rule (new_app (codes "check")) files_rule
 -- no word of a command goes to its subcommands as well
 abbrev pub IsLocal : Command → Type 0
 IsLocal c = (out-Command c).has_globals ≡ false
+
+-- a program has, beside what it had, a command that was made
+pub record HasAlso (before : App) (made : Result Command AllocError) (after : App) : Type 0 where
+  pub command : Command
+  pub is : made ≡ Ok command
+  pub added : after ≡ with_subcommand before (app_of command).top
 
 abbrev pub bare : App
 bare = on_top (λ s. record s { no_binary_name = true; disable_help_flag = true; disable_help_subcommand = true; subcommand_required = true }) (new_app (codes "memdb"))

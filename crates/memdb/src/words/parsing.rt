@@ -2,9 +2,9 @@
 ghost use Rattle.std.specs.Prelude.{◌≡◌, ◌++◌, ◌∷◌, [], ◌≤◌, IfOk, OnOk, false, length, map};
 ghost use Rattle.std.specs.Prelude.{option_and_then, option_map, true};
 ghost use Rattle.std.specs.List.{list_all};
-ghost use Rattle.clap.specs.Words.{app_of, found_of, rows_of, rule_of, with_subcommand};
+ghost use Rattle.clap.specs.Words.{app_of, found_of, rows_of, rule_of, with_rule};
 ghost use Rattle.memdb.specs.Words.{check_behind};
-ghost use Rattle.memdb.specs.inner.CommandLine.{AreRead, HasClients, IsLocal, asked_by};
+ghost use Rattle.memdb.specs.inner.CommandLine.{AreRead, HasAlso, HasClients, IsLocal, asked_by};
 ghost use Rattle.memdb.specs.inner.CommandLine.{asked_of_matches, bare, check_app, check_in};
 ghost use Rattle.memdb.specs.inner.CommandLine.{clients_rule, files, files_in, files_rule, make_app};
 ghost use Rattle.memdb.specs.inner.CommandLine.{number_at, numbers_in, program, run_app, to_check};
@@ -46,35 +46,20 @@ fn read_texts<'a>(alloc: Global, words: &'a [&'a str]) -> Result<Option<Command>
 fn program<'a>(alloc: Global) -> Result<clap::Command<'a>, AllocError>
     ensures { IfOk result (λ c. app_of c ≡ program) }
 {
-    let program = with_make(alloc, with_run(alloc)?)?;
-    with_check(alloc, program)
+    let program = with_command(bare(alloc), run_command(alloc))?;
+    let program = with_command(program, make_command(alloc))?;
+    with_command(program, check_command(alloc))
 }
 
-/// The program with the command `run` alone.
-fn with_run<'a>(alloc: Global) -> Result<clap::Command<'a>, AllocError>
-    ensures { IfOk result (λ c. app_of c ≡ with_subcommand bare run_app.top) }
-{
-    let run = run_command(alloc)?;
-    Ok(bare(alloc).subcommand(run)?)
-}
-
-/// A program with the command `make` too.
-fn with_make<'a>(alloc: Global, program: clap::Command<'a>) -> Result<clap::Command<'a>, AllocError>
-    ensures { IfOk result (λ c. app_of c ≡ with_subcommand (app_of program.entry) make_app.top) }
-{
-    let make = make_command(alloc)?;
-    program.subcommand(make)
-}
-
-/// A program with the command `check` too.
-fn with_check<'a>(
-    alloc: Global,
+/// A program with one command more, if there was memory to make that.
+fn with_command<'a>(
     program: clap::Command<'a>,
+    command: Result<clap::Command<'a>, AllocError>,
 ) -> Result<clap::Command<'a>, AllocError>
-    ensures { IfOk result (λ c. app_of c ≡ with_subcommand (app_of program.entry) check_app.top) }
+    requires local { IfOk command (λ c. IsLocal c) }
+    ensures { IfOk result (λ c. HasAlso (app_of program.entry) command.entry (app_of c)) }
 {
-    let check = check_command(alloc)?;
-    program.subcommand(check)
+    program.subcommand(command?)
 }
 
 /// The program with no command.
@@ -93,11 +78,8 @@ fn run_command<'a>(alloc: Global) -> Result<clap::Command<'a>, AllocError>
     ensures app { IfOk result (λ c. app_of c ≡ run_app) }
     ensures local { IfOk result (λ c. IsLocal c) }
 {
-    Ok(
-        clap::Command::new(alloc, "run")
-            .arg(word(alloc, "schema"))?
-            .arg(client_words(alloc))?,
-    )
+    let run = with_word(alloc, clap::Command::new(alloc, "run"), "schema")?;
+    run.arg(client_words(alloc))
 }
 
 /// The command `make`, with its words.
@@ -105,12 +87,9 @@ fn make_command<'a>(alloc: Global) -> Result<clap::Command<'a>, AllocError>
     ensures app { IfOk result (λ c. app_of c ≡ make_app) }
     ensures local { IfOk result (λ c. IsLocal c) }
 {
-    Ok(
-        clap::Command::new(alloc, "make")
-            .arg(word(alloc, "number"))?
-            .arg(word(alloc, "clients"))?
-            .arg(word(alloc, "count"))?,
-    )
+    let make = with_word(alloc, clap::Command::new(alloc, "make"), "number")?;
+    let make = with_word(alloc, make, "clients")?;
+    with_word(alloc, make, "count")
 }
 
 /// The command `check`, with its words.
@@ -118,7 +97,21 @@ fn check_command<'a>(alloc: Global) -> Result<clap::Command<'a>, AllocError>
     ensures app { IfOk result (λ c. app_of c ≡ check_app) }
     ensures local { IfOk result (λ c. IsLocal c) }
 {
-    Ok(clap::Command::new(alloc, "check").arg(file_words(alloc))?)
+    clap::Command::new(alloc, "check").arg(file_words(alloc))
+}
+
+/// A command with one word more, which has to be there.
+fn with_word<'a>(
+    alloc: Global,
+    command: clap::Command<'a>,
+    id: &'a str,
+) -> Result<clap::Command<'a>, AllocError>
+    requires local { IsLocal command }
+    ensures app { IfOk result
+        (λ c. app_of c ≡ with_rule (app_of command.entry) (word_rule id.entry.now)) }
+    ensures local { IfOk result (λ c. IsLocal c) }
+{
+    command.arg(word(alloc, id))
 }
 
 /// A word that has to be there.
