@@ -1,6 +1,6 @@
 //! The answer to a question, as it is written.
 ghost use Rattle.std.specs.Prelude.{◌≡◌, ◌<◌, ◌++◌, IfOk, OnOk, Some, length, map, option_copied};
-ghost use Rattle.std.specs.Prelude.{if◌then◌else◌, reverse, slice_get};
+ghost use Rattle.std.specs.Prelude.{false, if◌then◌else◌, reverse, slice_get};
 ghost use Rattle.mdb_datum.specs.Written.{row_text};
 ghost use Rattle.mdb_schema.specs.Answer.{picked};
 ghost use Rattle.mdb_schema.specs.declared.answer.Answer.TheVariants.{Many, One};
@@ -158,6 +158,42 @@ fn write_rows(rows: &[&Row], is_reverse: bool, out: &mut Vec<u8>) -> Result<(), 
     }
 }
 
+/// Adds the answer to a question for one row, and tells whether there is one.
+fn write_one(
+    alloc: Global,
+    index: &Index,
+    ask: Ask,
+    at: &Lookup,
+    sight: Sight,
+    out: &mut Vec<u8>,
+) -> Result<bool, AllocError>
+    requires { IsForOne ask }
+    ensures { KeysRise (seen_of sight index.now) → IfOk result (λ found.
+        let told = answer_at ask at.now (seen_of sight index.now) in
+        (out.new.items ≡ out.old.items ++ answer_text told) × (found ≡ has_row told)) }
+{
+    let row = one_row(alloc, index, ask, at, sight)?;
+    write_row(row, out)?;
+    Ok(row.is_some())
+}
+
+/// Adds the answer to a question for rows.
+fn write_many(
+    alloc: Global,
+    index: &Index,
+    ask: Ask,
+    at: &Lookup,
+    sight: Sight,
+    out: &mut Vec<u8>,
+) -> Result<(), AllocError>
+    requires { IsForMany ask }
+    ensures { OnOk result (let told = answer_at ask at.now (seen_of sight index.now) in
+        (out.new.items ≡ out.old.items ++ answer_text told) × (has_row told ≡ false)) }
+{
+    let rows = rows_meant(alloc, index, ask, at, sight)?;
+    write_rows(&rows, is_reverse(ask), out)
+}
+
 /// Adds the answer to a question, and tells whether it has a row, where it is for one.
 pub(crate) fn write_answer(
     alloc: Global,
@@ -174,14 +210,9 @@ pub(crate) fn write_answer(
 {
     let index = &indexes[at.index];
     match ask {
-        Ask::First | Ask::Last | Ask::Longest => {
-            let row = one_row(alloc, index, ask, at, sight)?;
-            write_row(row, out)?;
-            Ok(row.is_some())
-        }
+        Ask::First | Ask::Last | Ask::Longest => write_one(alloc, index, ask, at, sight, out),
         Ask::Get | Ask::GetReverse | Ask::Lower | Ask::ReverseLower => {
-            let rows = rows_meant(alloc, index, ask, at, sight)?;
-            write_rows(&rows, is_reverse(ask), out)?;
+            write_many(alloc, index, ask, at, sight, out)?;
             Ok(false)
         }
     }

@@ -1,10 +1,13 @@
 //! The check of an output.
-ghost use Rattle.std.specs.Prelude.{IfOk, List};
+ghost use Rattle.std.specs.Prelude.{[], IfOk, List};
 ghost use Rattle.mdb_datum.specs.Bytes.{Bytes};
 ghost use Rattle.mdb_schema.specs.LawfulSchema.{IsLawfulSchema};
+ghost use Rattle.mdb_schema.specs.Schema.{DbSchema};
 ghost use Rattle.run_check.specs.Checked.{IsChecked};
+ghost use Rattle.run_check.specs.FirstBad.{found_by};
+ghost use Rattle.run_check.specs.OutputView.{output_of};
 ghost use Rattle.run_check.specs.Verdicts.{IsVerdict};
-ghost use Rattle.run_check.specs.inner.CheckView.{IsOutputOf, Judges, WasRead};
+ghost use Rattle.run_check.specs.inner.CheckView.{IsOutputOf, IsReady, Judges, WasRead};
 
 use crate::history::history_of;
 use crate::output::{Output, read_output};
@@ -67,15 +70,33 @@ fn check_sessions(
     ensures { (names : List Bytes) (out : Bytes) → IsOutputOf names scripts.now out output.now
         → Judges schema.now names scripts.now out result }
 {
+    let store = history_of(alloc, schema, scripts, &output.commits, &output.order)?;
     let mut sessions = Sessions {
         alloc,
         schema,
-        store: history_of(alloc, schema, scripts, &output.commits, &output.order)?,
+        store,
         commits: &output.commits,
         order: &output.order,
         begun: 0,
         text: Vec::new(alloc),
     };
+    check_clients(&mut sessions, scripts, output)
+}
+
+/// The same, in a check that no client was heard by yet.
+fn check_clients<'a>(
+    sessions: &mut Sessions<'a>,
+    scripts: &'a Scripts,
+    output: &Output<'_>,
+) -> Result<(), Stop>
+    requires ready { (schema : DbSchema) × (names : List Bytes) × (out : Bytes) × IsLawfulSchema schema
+        × IsOutputOf names scripts.now out output.now
+        × IsReady schema (found_by schema (output_of scripts.now output.now)).history [] sessions.old }
+    ensures { (schema : DbSchema) (names : List Bytes) (out : Bytes) → IsLawfulSchema schema
+        → IsOutputOf names scripts.now out output.now
+        → IsReady schema (found_by schema (output_of scripts.now output.now)).history [] sessions.old
+        → Judges schema names scripts.now out result }
+{
     for (client, replies) in output.clients.iter().enumerate() {
         let Some(script) = scripts.get(client) else {
             return Ok(());
