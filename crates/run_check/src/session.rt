@@ -204,10 +204,9 @@ impl<'a> Sessions<'a> {
         knows: &mut Client<'a>,
         word: &[u8],
         text: &[u8],
-    ) -> Result<Option<u64>, Refused>
+    ) -> Result<Option<u64>, AllocError>
         ensures said { IfOk result (λ told. SaysNumber word.now text.now knows.old.last
             (length self.old.order.now) self.old.text.items self.new.text.items told) }
-        ensures short { IfErr result (λ e. e ≡ refusals.Memory) }
         ensures knows { IfOk result (λ told.
             knows.new ≡ record knows.old { last = unwrap_or told knows.old.last }) }
         ensures kept { self.new ≡ record self.old { text = self.new.text } }

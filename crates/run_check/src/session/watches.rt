@@ -1,15 +1,18 @@
 //! Lines of watches.
-ghost use Rattle.std.specs.Prelude.{◌≡◌, ◌≤◌, ◌+◌, [], Decides, IfOk, List, OnOk, Some};
+ghost use Rattle.std.specs.Prelude.{◌≡◌, ◌≤◌, ◌+◌, [], Decides, IfOk, List, Ok, OnOk, Some};
 ghost use Rattle.std.specs.Prelude.{if◌then◌else◌, length, slice_get};
+ghost use Rattle.mdb_datum.specs.Bytes.{Bytes};
 ghost use Rattle.mdb_schema.specs.Guarded.{IsUnchanged};
 ghost use Rattle.mdb_schema.specs.History.{History, IsMadeBy};
 ghost use Rattle.mdb_schema.specs.Schema.{DbSchema};
 ghost use Rattle.client_script.specs.Client as plain;
+ghost use Rattle.client_script.specs.Watching.{check_judged};
 ghost use Rattle.client_script.specs.declared.command.Command.TheVariants as commands;
 ghost use Rattle.client_script.specs.declared.command.WatchesCommand.TheVariants as watches_lines;
 ghost use Rattle.run_check.specs.declared.client.Client.{Client};
 ghost use Rattle.run_check.specs.inner.ClientView.{known, watches_known};
-ghost use Rattle.run_check.specs.inner.SessionView.{AreKnown, IsDue, IsKnown, TellsLine, TellsSize};
+ghost use Rattle.run_check.specs.inner.SessionView.{AreKnown, IsDue, IsKnown, TellsLine, TellsMade};
+ghost use Rattle.run_check.specs.inner.SessionView.{TellsSize};
 ghost use Rattle.run_check.specs.inner.StoreView.{Begun};
 
 use crate::called::{awaited_both, awaited_set, limited_watch, looked_watch, watch_place};
@@ -109,6 +112,27 @@ impl<'a> Sessions<'a> {
             (known txns knows.old) self.new knows.new result }
     {
         let place = looked_watch(knows, name)?;
+        self.look(client, knows, place, text)?;
+        Ok(())
+    }
+
+    /// Looks at the watch at a place.
+    fn look(
+        &mut self,
+        client: usize,
+        knows: &mut Client<'a>,
+        place: usize,
+        text: &[u8],
+    ) -> Result<(), AllocError>
+        requires known { AreKnown self.old knows.old }
+        ensures told { (schema : DbSchema) (H : History) (txns : List Begun) (name : Bytes) (w : plain.Watch)
+            → IsKnown schema H txns self.old knows.old
+            → IsDue schema H (client + 1) (known txns knows.old) text.now → self.old.text.items ≡ []
+            → check_judged (known txns knows.old) name ≡ Ok w
+            → slice_get (watches_known knows.old.watching) place ≡ Some w
+            → OnOk result (TellsMade schema H (client + 1) (commands.Watches (watches_lines.Check name))
+            text.now self.new.text.items (known txns knows.old) self.new knows.new) }
+    {
         if let Some(number) = self.say_number(knows, b"quiet @", text)? {
             let quiet = self.place_is_quiet(client, knows, place, number)?;
             self.keep_if(quiet);
