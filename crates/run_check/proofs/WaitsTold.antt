@@ -119,10 +119,6 @@ module _ (schema : DbSchema) (H : History) (small : length H ≤ 2 ^ 24) (v : pl
 
 -- ---- what stays where a number is told
 
--- the text changed, and then again
-pub then_kept : (s t u : Sessions) → t ≡ record s { text = t.text } → u ≡ record t { text = u.text } → u ≡ record s { text = u.text }
-then_kept s t u first second = second ∙ ap (λ (y : Sessions). record y { text = u.text }) first
-
 module _ (v w : Client) (n : ℕ) (client : w ≡ record v { last = n }) where
   -- the sets stay
   pub set_stays : (set : ℕ) (o : Option Set) → slice_get w.watching.sets.values.items set ≡ o → slice_get v.watching.sets.values.items set ≡ o

@@ -1,6 +1,6 @@
 //! The first test of an output, its shape: each client's replies as they stand in the text.
 ghost use Rattle.std.specs.Prelude.{◌≡◌, ◌<◌, ◌≤◌, ◌+◌, ◌-◌, ◌^◌, MatchResult};
-ghost use Rattle.std.specs.Prelude.{drop, length, option_map, take};
+ghost use Rattle.std.specs.Prelude.{[], drop, length, option_map, take};
 ghost use Rattle.std.specs.Result.{result_map_both};
 ghost use Rattle.run_check.specs.Shape.{answer_in, behind_number, is_further, is_heading, is_refusal};
 ghost use Rattle.run_check.specs.Shape.{may_answer, shape, take_client, take_replies, take_reply};
@@ -166,15 +166,16 @@ fn take_reply<'a>(mode: Mode, line: &Line, at: Place<'a>) -> Result<Taken<'a>, B
     Ok((printed, behind))
 }
 
-/// The replies to the lines of a script, and the place behind them.
-fn take_replies<'a>(
-    alloc: Global,
+/// The place behind the replies to the lines of a script, which it adds to a list that has none.
+fn add_replies<'a>(
     script: &Script,
     start: Place<'a>,
-) -> Result<(Replies<'a>, Place<'a>), Stop>
-    ensures { Reads replies_of (take_replies Idle script.now (place_of start.entry)) result }
+    replies: &mut Replies<'a>,
+) -> Result<Place<'a>, Stop>
+    requires { replies.old.items ≡ [] }
+    ensures { Reads (λ place. replies_of (replies.new, place))
+        (take_replies Idle script.now (place_of start.entry)) result }
 {
-    let mut replies = Vec::new(alloc);
     let mut place = start;
     let mut mode = Mode::Idle;
     for at in 0..script.len() {
@@ -186,7 +187,20 @@ fn take_replies<'a>(
         place = behind;
         mode = mode.after(&line.command);
     }
-    Ok((replies, place))
+    Ok(place)
+}
+
+/// The replies to the lines of a script, and the place behind them.
+fn take_replies<'a>(
+    alloc: Global,
+    script: &Script,
+    start: Place<'a>,
+) -> Result<(Replies<'a>, Place<'a>), Stop>
+    ensures { Reads replies_of (take_replies Idle script.now (place_of start.entry)) result }
+{
+    let mut replies = Vec::new(alloc);
+    let behind = add_replies(script, start, &mut replies)?;
+    Ok((replies, behind))
 }
 
 /// The replies of a client behind its heading, and the place behind them.

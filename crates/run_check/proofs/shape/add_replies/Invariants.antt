@@ -1,5 +1,5 @@
 use Rattle.run_check.proofs.RepliesTaken.{AreReplied}
-use Rattle.run_check.proofs.shape.take_replies.Given as goal
+use Rattle.run_check.proofs.shape.add_replies.Given as goal
 
 -- the replies to the lines so far stand before the place
 abbrev pub invariant-loop-at : goal.invariant-loop-at
