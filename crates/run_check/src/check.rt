@@ -83,7 +83,7 @@ fn check_sessions(
     check_clients(&mut sessions, scripts, output)
 }
 
-/// The same, in a check that no client was heard by yet.
+/// The same, where no client has been looked at yet.
 fn check_clients<'a>(
     sessions: &mut Sessions<'a>,
     scripts: &'a Scripts,
