@@ -1,7 +1,6 @@
 -- A tree, its nodes and its edges may be handed to another thread and shared with it. A type that
 -- holds itself through an `Arc` has both laws at once, by what the check knows of each layer.
 use denote.Builtin
-use denote.Param
 use denote.Param.Send.{IsSend, IsSync, sendable}
 use denote.Struct.Field
 use Rattle.std.proofs.Crossing.{crosses, Vec-send, Vec-sync, Arc-send, Arc-sync}
@@ -9,7 +8,7 @@ use Rattle.std.specs.contracts.alloc.Global
 use Rattle.std.specs.contracts.impls.GlobalAllocator.TheImpl
 use Rattle.std.specs.contracts.option.Option
 use Rattle.std.specs.contracts.sync.Arc
-use Rattle.smallvec.specs.contracts.small_vec.SmallVec
+use Rattle.std.specs.contracts.vec.Vec
 use Rattle.watch_word.specs.contracts.cell.WatchCell
 use Rattle.watch_word.proofs.cell.WatchCell.TheSendSync as of_cell
 use Rattle.mdb_datum.proofs.Threads.{row_send, row_sync}
@@ -18,10 +17,10 @@ use Rattle.radix_node.specs.contracts.leaf.Leaf
 use Rattle.radix_node.specs.contracts.node_ref.NodeRef
 use Rattle.radix_node.specs.contracts.tree.Tree
 
-prefix-send : IsSend (SmallVec.the_field Builtin.u8 (Param.number 16) Global.the_row TheImpl.ghosts).row
+prefix-send : IsSend (Vec.the_field Builtin.u8 Global.the_row TheImpl.ghosts).row
 prefix-send = search (sendable, crosses) depth 20
 
-prefix-sync : IsSync (SmallVec.the_field Builtin.u8 (Param.number 16) Global.the_row TheImpl.ghosts).row
+prefix-sync : IsSync (Vec.the_field Builtin.u8 Global.the_row TheImpl.ghosts).row
 prefix-sync = search (sendable, crosses) depth 20
 
 cell-send : IsSend (Arc.the_field WatchCell.the_row Global.the_row TheImpl.ghosts).row

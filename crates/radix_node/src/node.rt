@@ -16,18 +16,17 @@ ghost use Rattle.radix_node.specs.Edges.{EdgesRise};
 use crate::edges::Edges;
 use crate::leaf::Leaf;
 use crate::node_ref::NodeRef;
-use smallvec::SmallVec;
 use std::alloc::{AllocError, Global};
 use std::sync::Arc;
 use watch_word::WatchCell;
 
 /// A node of the tree, which never changes once it has two owners: its prefix, which are the bytes
 /// that come after the label of the edge to it, perhaps a leaf, the edges to the nodes under it, and
-/// a cell. A prefix of up to 16 bytes lies in the node itself.
+/// a cell.
 #[cycle(node)]
 #[derive(Drop)]
 pub struct Node {
-    prefix: SmallVec<u8, 16>,
+    prefix: Vec<u8>,
     leaf: Option<Arc<Leaf, Global>>,
     edges: Edges,
     cell: Arc<WatchCell>,
@@ -36,7 +35,7 @@ pub struct Node {
 #[tactic(auto, using(crate::proofs::Levels::out_prefix, crate::proofs::Levels::out_leaf, crate::proofs::Levels::out_under, crate::proofs::Levels::node_roll, crate::proofs::Levels::ref_roll))]
 impl Node {
     /// A shared node of its parts. It takes memory for the node, and for a copy of the prefix where
-    /// that has more than 16 bytes.
+    /// that isn't empty.
     #[tactic(auto, using(crate::proofs::Levels::node_roll, crate::proofs::Levels::ref_roll, crate::proofs::CellLevels::cell_node_roll, crate::proofs::CellLevels::cell_ref_roll))]
     pub fn of(
         alloc: Global,
@@ -58,7 +57,7 @@ impl Node {
         }) }
     {
         let node = Node {
-            prefix: SmallVec::from_slice(alloc, prefix)?,
+            prefix: Vec::from_slice(alloc, prefix)?,
             leaf,
             edges,
             cell,
@@ -80,7 +79,7 @@ impl Node {
     pub fn prefix(&self) -> &[u8]
         ensures { let n = plain_node self.now in result.now ≡ n.prefix }
     {
-        self.prefix.as_slice()
+        &self.prefix
     }
 
     /// The leaf, if the node's path is a key.
