@@ -1,6 +1,8 @@
-//! Tests of the trees and of what writes, walks and fires them, by their public calls alone.
+//! Tests of cells, of the trees and of what writes, walks and fires them, by public calls alone.
 #![tactic(auto)]
 
+#[cfg(test)]
+mod cells;
 #[cfg(test)]
 mod ending;
 #[cfg(test)]

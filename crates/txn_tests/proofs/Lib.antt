@@ -1,1 +1,3 @@
+pub mod StillCan
 pub mod StillHeld
+pub mod ThreeBack

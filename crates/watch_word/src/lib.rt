@@ -24,8 +24,6 @@ mod cell;
 mod event;
 mod front;
 mod rule;
-#[cfg(test)]
-mod tests;
 mod watch;
 
 pub use book::{Book, open_book};

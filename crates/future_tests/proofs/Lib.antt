@@ -1,2 +1,0 @@
-pub mod StillCan
-pub mod ThreeBack
