@@ -6,8 +6,6 @@
 #![tactic(auto)]
 
 mod task;
-#[cfg(test)]
-mod tests;
 
 ghost use Rattle.std.specs.Prelude.{◌≡◌, IfSome};
 ghost use Rattle.deep_thread.specs.Called.{IsCalled};
